@@ -1,0 +1,2 @@
+-- The reader's promise.
+pub mod Promise

@@ -1,0 +1,33 @@
+-- What the reader hands back of a book that passes, in the specification's values. Assumes nothing.
+use mathlib.Core.Path.{_≡_}
+use Prim.Native.Nat.{ℕ, _<_}
+use mathlib.Core.List.{List}
+use lib.ListN.{getD}
+use Rattle.rules.specs.declared.Verdict.{Verdict}
+use Rattle.rules.specs.declared.Verdict.the-variants.{Pass}
+use Rattle.rules.specs.Walks.{listFrom}
+use Rattle.rules.specs.Book.{Job, Flow, Book, flowCount, jobCount, flowOf}
+use Rattle.rules.specs.Reading.{flowStart, bookOf, bookFault}
+use Rattle.book.specs.declared.Index.{Index}
+use Rattle.book.specs.declared.FlowJobs.{FlowJobs}
+use Rattle.book.specs.declared.JobRecord.{JobRecord}
+
+-- the index is that of the book in these bytes, which passes
+pub record Indexed (s : List ℕ) (x : Index) : Type 0 where
+  pub passes : bookFault s ≡ Pass
+  pub processors : x .processors ≡ bookOf s .processors
+  pub flows : x .flows ≡ flowCount (bookOf s)
+  pub starts : (f : ℕ) → f < flowCount (bookOf s) → getD (x .starts) f 0 ≡ flowStart s f
+  pub deadlines : (f : ℕ) → f < flowCount (bookOf s) → getD (x .deadlines) f 0 ≡ flowOf (bookOf s) f .deadline
+  pub jobs : (f : ℕ) → f < flowCount (bookOf s) → getD (x .jobs) f 0 ≡ jobCount (flowOf (bookOf s) f)
+
+-- a job's record as the specification's job
+abbrev pub jobFrom : JobRecord → Job
+jobFrom r = record { size = r .size; cap = r .cap; predecessors = r .predecessors }
+
+-- a flow's values, read out, as the specification's flow
+unfoldable pub flowFrom : FlowJobs → Flow
+flowFrom x = record {
+  deadline = x .deadline;
+  jobs = listFrom (λ i. record { size = getD (x .size) i 0; cap = getD (x .cap) i 0; predecessors = getD (x .predecessors) i 0 }) (x .count) 0;
+}

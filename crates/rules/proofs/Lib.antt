@@ -1,0 +1,9 @@
+-- What follows from the rules.
+pub mod MarkedPlans
+
+-- laws that the proofs here and in the crates above cite
+pub mod Division
+pub mod Sums
+pub mod Walks
+pub mod Faults
+pub mod Fields

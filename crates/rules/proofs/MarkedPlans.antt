@@ -1,0 +1,167 @@
+-- The marked plans A to F of document 01, shown of the rules themselves by one theorem: whole outcomes, with output and work area.
+-- Each field is computed from the definitions. Assumes nothing.
+use mathlib.Core.Path.{_≡_, refl}
+use Prim.Native.Nat.{ℕ, zero, suc, _+_, _*_, _-_, _/_, _%_, _^_}
+use mathlib.Core.List.{List, [], _∷_, _++_}
+use lib.ListN.{replicate}
+use Rattle.rules.specs.Walks.{sumTo, maxTo, anyTo, allTo, listFrom, joinFrom}
+use Rattle.rules.specs.Fields.{field, bytesOf}
+use Rattle.rules.specs.Answers.{firstFault, planAccepted, planRefused, checkAccepted, checkRefused}
+use Rattle.rules.specs.Book.{flowOf, jobOf, hasBit}
+use Rattle.rules.specs.Reading.{
+  flowStart,
+  jobAt,
+  flowAt,
+  bookOf,
+  flowHeadFault,
+  jobFault,
+  flowFault,
+  leftoverFault,
+  bookFault,
+  readBook,
+}
+use Rattle.rules.specs.Ideal.{quotientUp, duration, lastTake, startAfter, endsBelow, startOf, endOf, path, takeOf}
+use Rattle.rules.specs.PseudoJobs.{unchanged, prepend, runs, chain, rate, work}
+use Rattle.rules.specs.Service.{servedBefore, insertFlow, orderOf, serviceOrder}
+use Rattle.rules.specs.Rows.{
+  rowFor,
+  sumWhere,
+  usedIn,
+  totalOf,
+  doneBefore,
+  finishOf,
+  isLate,
+  lateFlows,
+  workUsed,
+  workZero,
+}
+use Rattle.rules.specs.Placing.{
+  slotUnits,
+  units,
+  unitsOf,
+  share,
+  given,
+  afterSlot,
+  slotRows,
+  progress,
+  flowRows,
+  freeProcessors,
+  placeFlow,
+  placeFirst,
+  plan,
+}
+use Rattle.rules.specs.Table.{tableLength, rowBytes, rowsBytes, tableBytes, rowAt}
+use Rattle.rules.specs.Planner.{planOutcome, planReading, planCall}
+use Rattle.rules.specs.Check.{
+  tableRows,
+  tableHeadFault,
+  rowBefore,
+  rises,
+  lacksPredecessor,
+  rowFault,
+  totalFault,
+  finishFault,
+  tableFault,
+  checkOutcome,
+  checkReading,
+  checkCall,
+}
+
+-- n bytes, written as one hexadecimal number, so that a listing stands as the document has it
+abbrev hex : ℕ → ℕ → List ℕ
+hex zero x = []
+hex (suc n) x = x / 256 ^ n % 256 ∷ hex n x
+
+-- A: P 3. Flow 0: deadline 5, job 0 size 5 cap 2, job 1 size 4 cap 3 after job 0. Flow 1: deadline 3, one job, size 5 cap 2
+abbrev bookA : List ℕ
+bookA = hex 56 0x00000038_01_0003_02_0005_02_00000005_0002_0000000000000000_00000004_0003_0000000000000001_0003_01_00000005_0002_0000000000000000
+
+abbrev tableA : List ℕ
+tableA =
+    hex 12 0x00000042_01_0003_02_0006_0003
+    ++ hex 18 0x0000_01_00_0002_0001_01_00_0002_0002_01_00_0001
+    ++ hex 24 0x0000_00_00_0001_0001_00_00_0001_0002_00_00_0002_0003_00_00_0001
+    ++ hex 12 0x0004_00_01_0003_0005_00_01_0001
+
+-- B: P 3. Flow 0: deadline 3, size 3 cap 1. Flow 1: deadline 4, two free jobs, size 4 cap 2 and size 2 cap 1
+abbrev bookB : List ℕ
+bookB = hex 56 0x00000038_01_0003_02_0003_01_00000003_0001_0000000000000000_0004_02_00000004_0002_0000000000000000_00000002_0001_0000000000000000
+
+-- flow 1: slot 0 job 0 two; slots 1 and 2 one each for both jobs
+abbrev tableB : List ℕ
+tableB =
+    hex 12 0x0000003c_01_0003_02_0003_0003
+    ++ hex 18 0x0000_00_00_0001_0001_00_00_0001_0002_00_00_0001
+    ++ hex 30 0x0000_01_00_0002_0001_01_00_0001_0001_01_01_0001_0002_01_00_0001_0002_01_01_0001
+
+-- C: P 2, one job of this size, cap 1, deadline 2
+abbrev bookC : ℕ → List ℕ
+bookC size = hex 11 0x00000019_01_0002_01_0002_01 ++ hex 4 size ++ hex 10 0x0001_0000000000000000
+
+-- D: no flows
+abbrev bookD : List ℕ
+bookD = hex 8 0x00000008_01_0003_00
+
+-- E: book A with P 2
+abbrev bookE : List ℕ
+bookE = hex 56 0x00000038_01_0002_02_0005_02_00000005_0002_0000000000000000_00000004_0003_0000000000000001_0003_01_00000005_0002_0000000000000000
+
+-- F: table A with its eighth row moved to slot 3, and with these processors in it
+abbrev tableF : ℕ → List ℕ
+tableF n =
+    hex 12 0x00000042_01_0003_02_0006_0003
+    ++ hex 18 0x0000_01_00_0002_0001_01_00_0002_0002_01_00_0001
+    ++ hex 24 0x0000_00_00_0001_0001_00_00_0001_0002_00_00_0002_0003_00_00_0001
+    ++ hex 4 0x0003_00_01 ++ hex 2 n ++ hex 6 0x0005_00_01_0001
+
+-- an output of n bytes, and a work area of 16,384, filled with nines
+abbrev out : ℕ → List ℕ
+out n = replicate n 9
+
+abbrev area : List ℕ
+area = replicate 16384 9
+
+-- a work area whose first n slots hold a listing, and the others zero
+abbrev used : ℕ → ℕ → List ℕ
+used n x = hex (2 * n) x ++ replicate (16384 - 2 * n) 0
+
+pub record MarkedPlans : Type 0 where
+  pub A : planCall bookA (out 70) area
+      ≡ record { answer = planAccepted 1 66; output = tableA ++ out 4; area = used 6 0x0003_0003_0003_0001_0003_0001 }
+  pub B : planCall bookB (out 60) area ≡ record { answer = planAccepted 0 60; output = tableB; area = used 3 0x0003_0003_0003 }
+  pub C-size-2 : planCall (bookC 2) (out 22) area
+      ≡ record {
+        answer = planAccepted 0 22;
+        output = hex 22 0x00000016_01_0002_01_0002_0000_00_00_0001_0001_00_00_0001;
+        area = used 2 0x0001_0001;
+      }
+  pub C-size-4 : planCall (bookC 4) (out 40) area
+      ≡ record {
+        answer = planAccepted 1 34;
+        output = hex 34 0x00000022_01_0002_01_0004_0000_00_00_0001_0001_00_00_0001_0002_00_00_0001_0003_00_00_0001 ++ out 6;
+        area = used 4 0x0001_0001_0001_0001;
+      }
+  pub C-size-5 : planCall (bookC 5) (out 40) area ≡ record { answer = planRefused 12 0 255; output = out 40; area = used 0 0 }
+  pub D-output-8 : planCall bookD (out 8) area
+      ≡ record { answer = planAccepted 0 8; output = hex 8 0x00000008_01_0003_00; area = used 0 0 }
+  pub D-output-7 : planCall bookD (out 7) area ≡ record { answer = planRefused 13 255 255; output = out 7; area = used 0 0 }
+  pub E : planCall bookE (out 66) area ≡ record { answer = planRefused 9 0 1; output = out 66; area = area }
+  pub F-slot-3 : checkCall bookA (tableF 3) area ≡ record { answer = checkRefused 18 0 1; area = used 0 0 }
+  pub F-slot-3-take-2 : checkCall bookA (tableF 2) area ≡ record { answer = checkRefused 19 0 1; area = used 0 0 }
+  pub A-accepted : checkCall bookA tableA area ≡ record { answer = checkAccepted 1; area = used 6 0x0003_0003_0003_0001_0003_0001 }
+
+pub marked-plans : MarkedPlans
+unfolding sumTo maxTo anyTo allTo listFrom joinFrom field bytesOf firstFault flowOf jobOf hasBit flowStart jobAt flowAt bookOf flowHeadFault jobFault flowFault leftoverFault bookFault readBook quotientUp duration lastTake startAfter endsBelow startOf endOf path takeOf unchanged prepend runs chain rate work servedBefore insertFlow orderOf serviceOrder rowFor sumWhere usedIn totalOf doneBefore finishOf isLate lateFlows workUsed workZero slotUnits units unitsOf share given afterSlot slotRows progress flowRows freeProcessors placeFlow placeFirst plan tableLength rowBytes rowsBytes tableBytes rowAt planOutcome planReading planCall tableRows tableHeadFault rowBefore rises lacksPredecessor rowFault totalFault finishFault tableFault checkOutcome checkReading checkCall
+marked-plans = record {
+  A = refl;
+  B = refl;
+  C-size-2 = refl;
+  C-size-4 = refl;
+  C-size-5 = refl;
+  D-output-8 = refl;
+  D-output-7 = refl;
+  E = refl;
+  F-slot-3 = refl;
+  F-slot-3-take-2 = refl;
+  A-accepted = refl;
+}

@@ -1,0 +1,73 @@
+-- The values of an order book ("book" is document 01's word). Assumes nothing.
+use mathlib.Core.Path.{_≡_}
+use Prim.Native.Nat.{ℕ, _/_, _%_, _^_, _<_, _≤_}
+use mathlib.Core.Bool.{Bool}
+use mathlib.Core.List.{List, []}
+use lib.ListN.{length, getD}
+use lib.Dec.{eqb}
+use Rattle.rules.specs.Limits.{mostProcessors, mostFlows, mostDeadline, mostJobs, mostSize}
+
+-- "each job: size in processor-slots (4), cap (2), predecessors (8)"
+pub record Job : Type 0 where
+  pub size : ℕ
+  pub cap : ℕ
+  pub predecessors : ℕ
+
+-- "each flow: deadline in slots (2), jobs (1), and each job"
+pub record Flow : Type 0 where
+  pub deadline : ℕ
+  pub jobs : List Job
+
+-- "processors P (2), flows (1); then each flow"
+pub record Book : Type 0 where
+  pub processors : ℕ
+  pub flows : List Flow
+
+abbrev pub flowCount : Book → ℕ
+flowCount b = length (b .flows)
+
+abbrev pub jobCount : Flow → ℕ
+jobCount w = length (w .jobs)
+
+-- "Jobs and flows count from 0": flow f of a book and job i of a flow; past the last one, a flow without jobs and a job without size
+abbrev pub noFlow : Flow
+noFlow = record { deadline = 0; jobs = [] }
+
+abbrev pub noJob : Job
+noJob = record { size = 0; cap = 0; predecessors = 0 }
+
+unfoldable pub flowOf : Book → ℕ → Flow
+flowOf b f = getD (b .flows) f noFlow
+
+unfoldable pub jobOf : Flow → ℕ → Job
+jobOf w i = getD (w .jobs) i noJob
+
+-- "Bit k of the predecessor field, bit 0 the lowest, says that job k of the same flow must be complete first."
+unfoldable pub hasBit : ℕ → ℕ → Bool
+hasBit p k = eqb (p / 2 ^ k % 2) 1
+
+-- job k is a predecessor of job i
+abbrev pub precedes : Flow → ℕ → ℕ → Bool
+precedes w k i = hasBit (jobOf w i .predecessors) k
+
+-- ---- the ranges: what the tests 3, 4 and 6 to 10 leave
+pub record JobInRange (P i : ℕ) (j : Job) : Type 0 where
+  pub size-least : 1 ≤ j .size
+  pub size-most : j .size ≤ mostSize
+  pub cap-least : 1 ≤ j .cap
+  pub cap-most : j .cap ≤ P
+  -- no predecessor bit at or above the job's own number
+  pub predecessors-below : j .predecessors < 2 ^ i
+
+pub record FlowInRange (P : ℕ) (w : Flow) : Type 0 where
+  pub deadline-least : 1 ≤ w .deadline
+  pub deadline-most : w .deadline ≤ mostDeadline
+  pub jobs-least : 1 ≤ jobCount w
+  pub jobs-most : jobCount w ≤ mostJobs
+  pub each-job : (i : ℕ) → i < jobCount w → JobInRange P i (jobOf w i)
+
+pub record InRange (b : Book) : Type 0 where
+  pub processors-least : 1 ≤ b .processors
+  pub processors-most : b .processors ≤ mostProcessors
+  pub flows-most : flowCount b ≤ mostFlows
+  pub each-flow : (f : ℕ) → f < flowCount b → FlowInRange (b .processors) (flowOf b f)

@@ -1,0 +1,22 @@
+-- A book that is cut in service order ("Words of demand 3"). Assumes nothing.
+use Prim.Native.Nat.{ℕ, _+_}
+use mathlib.Core.Bool.{Bool}
+use mathlib.Core.List.{List, [], _∷_}
+use lib.ListN.{getD}
+use lib.Dec.{eqb}
+use Rattle.rules.specs.Walks.{if_then_else_, anyTo}
+use Rattle.rules.specs.Book.{Flow, Book}
+use Rattle.rules.specs.Service.{serviceOrder}
+
+-- flow f is among the first k flows in service order
+unfoldable pub amongFirst : Book → ℕ → ℕ → Bool
+amongFirst b k f = anyTo (λ n. eqb (getD (serviceOrder b) n 0) f) k
+
+-- of these flows, numbered from f on, those that pass a test
+unfoldable pub keepFlows : (ℕ → Bool) → ℕ → List Flow → List Flow
+keepFlows q f [] = []
+keepFlows q f (w ∷ ws) = if q f then w ∷ keepFlows q (f + 1) ws else keepFlows q (f + 1) ws
+
+-- "Cut after its first k flows in service order, k from 0 to all of them, it keeps those flows in book order"
+unfoldable pub cut : Book → ℕ → Book
+cut b k = record { processors = b .processors; flows = keepFlows (amongFirst b k) 0 (b .flows) }

@@ -1,0 +1,106 @@
+-- The demands as types: what is owed of the planner and of the table check, for every input. Later files prove them. Assumes nothing.
+use mathlib.Core.Path.{_≡_}
+use mathlib.Core.Logic.{_⊎_}
+use Prim.Native.Nat.{ℕ, _+_, _*_, _≤_, _<_}
+use mathlib.Core.Bool.{Bool, true, _||_}
+use mathlib.Core.List.{List, _++_}
+use lib.ListN.{length, drop}
+use lib.Dec.{eqb}
+use Rattle.rules.specs.declared.PlanAnswer.{PlanAnswer}
+use Rattle.rules.specs.declared.CheckAnswer.{CheckAnswer}
+use Rattle.rules.specs.Fields.{AllBytes}
+use Rattle.rules.specs.Answers.{none, checkAccepted}
+use Rattle.rules.specs.Limits.{slots, workBytes}
+use Rattle.rules.specs.Book.{Flow, Book, flowCount, flowOf}
+use Rattle.rules.specs.Reading.{read, readBook, bookBytes}
+use Rattle.rules.specs.Service.{servedBefore}
+use Rattle.rules.specs.Rows.{Row, lateFlows, workZero}
+use Rattle.rules.specs.Placing.{rowsOf, plan}
+use Rattle.rules.specs.Table.{tableLength, tableBytes}
+use Rattle.rules.specs.Planner.{PlanOutcome, planCall}
+use Rattle.rules.specs.Check.{CheckOutcome, checkCall}
+use Rattle.rules.specs.Schedule.{Schedule, everyFlow, Valid, EndsBy, InSlots, scheduleOf, scheduleRows, scheduleTable}
+use Rattle.rules.specs.Cut.{cut}
+
+-- ---- demand 1: "turn down a faulty one by a number from the list. A refusal gives the number and the place, leaves the output untouched
+-- and the work area as the list says." (That both calls take every sequence of bytes and end is what their contracts without a `requires`
+-- say.)
+
+-- "A fault found before or by 11 leaves the work area as it was; one found after 11 zeroes its first 16,384 bytes."
+pub record AreaAfterRefusal (number : ℕ) (before after : List ℕ) : Type 0 where
+  pub kept : number ≤ 11 → after ≡ before
+  pub zeroed : 12 ≤ number → after ≡ workZero slots before
+
+-- "The output is never touched by a refusal, and every count, length or finish returned with it is 0."
+pub record PlannerRefusal (out area : List ℕ) (o : PlanOutcome) : Type 0 where
+  pub late-zero : o .answer .late ≡ 0
+  pub length-zero : o .answer .length ≡ 0
+  pub output-kept : o .output ≡ out
+  pub area-left : AreaAfterRefusal (o .answer .number) area (o .area)
+
+pub record CheckRefusal (area : List ℕ) (o : CheckOutcome) : Type 0 where
+  pub late-zero : o .answer .late ≡ 0
+  pub area-left : AreaAfterRefusal (o .answer .number) area (o .area)
+
+pub record Demand1 : Type 0 where
+  -- the planner's numbers are 0 to 13, the check's 0 to 11 and 14 to 21
+  pub planner-number : (book out area : List ℕ) → planCall book out area .answer .number ≤ 13
+  pub planner-refusal : (book out area : List ℕ) → 0 < planCall book out area .answer .number → PlannerRefusal out area (planCall book out area)
+  pub check-number : (book table area : List ℕ) →
+      (checkCall book table area .answer .number ≤ 11) ⊎ ((14 ≤ checkCall book table area .answer .number) × (checkCall book table area .answer .number ≤ 21))
+  pub check-refusal : (book table area : List ℕ) → 0 < checkCall book table area .answer .number → CheckRefusal area (checkCall book table area)
+
+-- ---- demand 2, second half: "The table check accepts exactly the tables that are valid schedules of the book, written in the stated order
+-- under the right head and finishes."
+
+-- the table is that of a valid schedule of the book, with this number of late flows
+pub record IsScheduleTable (b : Book) (table : List ℕ) (late : ℕ) : Type 0 where
+  pub schedule : Schedule
+  pub valid : Valid b everyFlow schedule
+  pub in-slots : InSlots schedule
+  pub written : table ≡ scheduleTable b schedule
+  pub late-flows : late ≡ lateFlows b (scheduleRows b schedule)
+
+pub record AcceptsExactly : Type 0 where
+  pub only-schedules : (book table area : List ℕ) (b : Book) → readBook book ≡ read b → AllBytes table →
+      checkCall book table area .answer .number ≡ 0 → IsScheduleTable b table (checkCall book table area .answer .late)
+  pub every-schedule : (book table area : List ℕ) (b : Book) (late : ℕ) → readBook book ≡ read b → workBytes ≤ length area →
+      IsScheduleTable b table late → checkCall book table area .answer ≡ checkAccepted late
+
+-- ---- demand 3: "Whatever book passes its checks, at whatever point in the deadline order it is cut, and whatever output and work area the
+-- planner is lent, this holds."
+
+-- "their rows are a valid schedule of them, which keeps to precedence, caps and the processor count in every slot, and each ends within
+-- twice its deadline"
+pub record PlannedWell (b : Book) (rows : List Row) : Type 0 where
+  pub valid : Valid b everyFlow (scheduleOf rows)
+  pub within-twice : (f : ℕ) → f < flowCount b → EndsBy (scheduleOf rows) f (2 * flowOf b f .deadline)
+
+-- "that flow and those before it" in service order
+abbrev pub upTo : Book → ℕ → ℕ → Bool
+upTo b f g = eqb g f || servedBefore b g f
+
+-- "no whole-slot schedule of that flow and those before it, whoever made it, keeps the same rules and ends each of them by its own deadline"
+unfoldable pub NoneOnTime : Book → ℕ → Type 0
+NoneOnTime b f =
+    (σ : Schedule) → Valid b (upTo b f) σ → ((g : ℕ) → g < flowCount b → upTo b f g ≡ true → EndsBy σ g (flowOf b g .deadline)) → ⊥
+
+-- what is owed of the planner's outcome for a book and an output
+pub record PlannerOwes (b : Book) (out : List ℕ) (o : PlanOutcome) : Type 0 where
+  -- "Where the work area is long enough the answer is 0, 12 or 13."
+  pub answers : (o .answer .number ≡ 0) ⊎ ((o .answer .number ≡ 12) ⊎ (o .answer .number ≡ 13))
+  -- "Its flows are planned when the answer is 0 or 13: their rows are those that rules 1 to 5 give"
+  pub planned-0 : o .answer .number ≡ 0 → PlannedWell b (rowsOf (plan b))
+  pub planned-13 : o .answer .number ≡ 13 → PlannedWell b (rowsOf (plan b))
+  -- "with 0 they stand in the written table"
+  pub written : o .answer .number ≡ 0 → o .output ≡ tableBytes b (rowsOf (plan b)) ++ drop (tableLength b (rowsOf (plan b))) out
+  -- "with 13 nothing is written, because their table is longer than the lent output"
+  pub too-long : o .answer .number ≡ 13 → (length out < tableLength b (rowsOf (plan b))) × (o .output ≡ out)
+  -- "One is refused as infeasible when the answer is 12: it is the flow named"
+  pub infeasible-flow : o .answer .number ≡ 12 → (o .answer .flow < flowCount b) × NoneOnTime b (o .answer .flow)
+
+-- "Cut after its first k flows in service order .. it .. is a book of its own. The planner is given that book."
+unfoldable pub Demand3 : Type 0
+Demand3 =
+    (book : List ℕ) (b : Book) → readBook book ≡ read b → (k : ℕ) → k ≤ flowCount b → (out area : List ℕ) → workBytes ≤ length area →
+    PlannerOwes (cut b k) out (planCall (bookBytes (cut b k)) out area)

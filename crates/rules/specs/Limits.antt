@@ -1,0 +1,36 @@
+-- The table of ranges, and the slots of a work area. Assumes nothing.
+use Prim.Native.Nat.{ℕ, _*_}
+use mathlib.Core.Bool.{Bool, _||_}
+use lib.Dec.{ltb}
+
+-- n is below the least or above the most
+abbrev pub outside : ℕ → ℕ → ℕ → Bool
+outside least most n = ltb n least || ltb most n
+
+-- "P | 1 | 4,096"
+abbrev pub mostProcessors : ℕ
+mostProcessors = 4096
+
+-- "flows | 0 | 64"
+abbrev pub mostFlows : ℕ
+mostFlows = 64
+
+-- "deadline | 1 | 4,096"
+abbrev pub mostDeadline : ℕ
+mostDeadline = 4096
+
+-- "jobs in a flow | 1 | 64"
+abbrev pub mostJobs : ℕ
+mostJobs = 64
+
+-- "size | 1 | 1,000,000"
+abbrev pub mostSize : ℕ
+mostSize = 1000000
+
+-- "slots 0 to 8,191"
+abbrev pub slots : ℕ
+slots = 8192
+
+-- "Work area: at least 16,384 bytes, two per slot"
+abbrev pub workBytes : ℕ
+workBytes = 16384
