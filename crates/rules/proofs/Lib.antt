@@ -1,6 +1,9 @@
 -- What follows from the rules.
 pub mod MarkedPlans
 
+-- what the rules guarantee
+pub mod Greedy
+
 -- laws that the proofs here and in the crates above cite
 pub mod Division
 pub mod Sums
