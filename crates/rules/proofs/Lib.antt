@@ -3,6 +3,9 @@ pub mod MarkedPlans
 
 -- what the rules guarantee
 pub mod Greedy
+pub mod Necessity
+pub mod Refusal
+pub mod Ideal
 
 -- laws that the proofs here and in the crates above cite
 pub mod Division
