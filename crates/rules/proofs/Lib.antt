@@ -5,6 +5,8 @@ pub mod MarkedPlans
 pub mod Greedy
 pub mod Necessity
 pub mod Refusal
+pub mod RowSums
+pub mod ServiceOrder
 pub mod Ideal
 
 -- laws that the proofs here and in the crates above cite

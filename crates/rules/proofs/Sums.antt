@@ -169,3 +169,24 @@ module _ (g : ℕ → ℕ) (falls : (t : ℕ) → g (suc t) ≤ g t) where
           let b : t ≤ n = omega (arith, all-before n h, ap bit (lt-ltb 0 (g n) h)) in
           omega (arith, down t (n - t), ap g (add-sub-of-le b))
       go (inr h) ih = ih (omega (arith, ap bit (le-ltb 0 (g n) h)))
+
+-- a sum of nothing, and a sum of which one term counts
+pub sum-nothing : (f : ℕ → ℕ) (n : ℕ) → ((k : ℕ) → k < n → f k ≡ 0) → sumTo f n ≡ 0
+sum-nothing f n h = sum-ext f (λ k. 0) n h ∙ sum-zero n
+
+pub sum-one : (f : ℕ → ℕ) (n k : ℕ) → k < n → ((i : ℕ) → i < n → (i ≡ k → ⊥) → f i ≡ 0) → sumTo f n ≡ f k
+unfolding sumTo
+sum-one f zero k l h = absurd (not-suc-le-zero l)
+sum-one f (suc n) k l h = go (eq-or-lt-of-le (le-of-suc-le-suc l)) (λ q. sum-one f n k q (λ i b ne. h i (omega arith) ne))
+  where
+    go : (k ≡ n) ⊎ (k < n) → (k < n → sumTo f n ≡ f k) → sumTo f n + f n ≡ f k
+    go (inl e) ih = omega (arith, ap f e, sum-nothing f n (λ i b. h i (omega arith) (λ (q : i ≡ k). omega arith)))
+    go (inr q) ih = omega (arith, ih q, h n (omega arith) (λ (e : n ≡ k). omega arith))
+
+-- the one term that counts bounds the sum
+pub sum-le-one : (f : ℕ → ℕ) (n k x : ℕ) → ((i : ℕ) → (i ≡ k → ⊥) → f i ≡ 0) → f k ≤ x → sumTo f n ≤ x
+sum-le-one f n k x h b = go (lt-or-ge k n)
+  where
+    go : (k < n) ⊎ (n ≤ k) → sumTo f n ≤ x
+    go (inl l) = omega (arith, sum-one f n k l (λ i c ne. h i ne))
+    go (inr l) = omega (arith, sum-nothing f n (λ i c. h i (λ (e : i ≡ k). omega arith)))
