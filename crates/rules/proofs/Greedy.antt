@@ -18,21 +18,19 @@ use Rattle.rules.specs.PseudoJobs.{PseudoJob, chain, rate, work}
 use Rattle.rules.specs.Placing.{Progress, given, afterSlot, progress}
 use Rattle.rules.proofs.Division.{lt-or-ge, quotient-up-pos, quotient-up-fall, quotient-up-mono, quotient-up-mul}
 use Rattle.rules.proofs.Sums.{sum-add, sum-mono, sum-scale}
+use Rattle.rules.proofs.PseudoJobs.{Every, sumOver}
 
 -- ---- pseudo-jobs in a row
 -- each has a rate and a width
 abbrev pub Live : Flow → List PseudoJob → Type 0
-Live w [] = Unit {0}
-Live w (p ∷ ps) = (0 < rate w p) × (0 < p .width) × Live w ps
+Live w ps = Every (λ p. (0 < rate w p) × (0 < p .width)) ps
 
 -- their works, and their widths, added
-unfoldable pub worksOf : Flow → List PseudoJob → ℕ
-worksOf w [] = 0
-worksOf w (p ∷ ps) = work w p + worksOf w ps
+abbrev pub worksOf : Flow → List PseudoJob → ℕ
+worksOf w ps = sumOver (work w) ps
 
-unfoldable pub widthsOf : List PseudoJob → ℕ
-widthsOf [] = 0
-widthsOf (p ∷ ps) = p .width + widthsOf ps
+abbrev pub widthsOf : List PseudoJob → ℕ
+widthsOf ps = sumOver (λ p. p .width) ps
 
 -- ---- a chain on its way: the pseudo-jobs left, and the units done of the first of them
 -- the first of them is not finished
@@ -56,7 +54,7 @@ givenTo w [] done free = 0
 givenTo w (p ∷ ps) done free = given w p done free
 
 module _ (w : Flow) where
-  given-le-rest : (p : PseudoJob) (done free : ℕ) → given w p done free ≤ work w p - done
+  pub given-le-rest : (p : PseudoJob) (done free : ℕ) → given w p done free ≤ work w p - done
   unfolding given
   given-le-rest p done free = omega arith
 
@@ -87,25 +85,25 @@ module _ (w : Flow) where
   fresh-underway : (ps : List PseudoJob) → Live w ps → Underway w ps 0
   unfolding work
   fresh-underway [] l = tt
-  fresh-underway (p ∷ ps) l = (mul-pos (l .1) (l .0), l)
+  fresh-underway (p ∷ ps) l = (mul-pos (l .0 .1) (l .0 .0), l)
 
   fresh-units : (ps : List PseudoJob) → unitsLeft w ps 0 ≡ worksOf w ps
-  unfolding unitsLeft worksOf
+  unfolding unitsLeft sumOver
   fresh-units [] = refl
   fresh-units (p ∷ ps) = omega arith
 
   -- each pseudo-job needs its width
   fresh-needed : (ps : List PseudoJob) → Live w ps → slotsNeeded w ps 0 ≡ widthsOf ps
-  unfolding slotsNeeded widthsOf work
+  unfolding slotsNeeded sumOver work
   fresh-needed [] l = refl
   fresh-needed (p ∷ ps) l =
       let z : p .width * rate w p - 0 ≡ p .width * rate w p = omega arith in
-      rw z (omega (arith, quotient-up-mul (p .width) (l .0)))
+      rw z (omega (arith, quotient-up-mul (p .width) (l .0 .0)))
 
   after-underway : (ps : List PseudoJob) (done free : ℕ) → Underway w ps done → Underway w (afterSlot w ps done free .left) (afterSlot w ps done free .done)
   after-underway [] done free u = unfold afterSlot in tt
   after-underway (p ∷ ps) done free u =
-      after-slot (Underway w) p ps done free (omega (arith, u .0)) (λ e. fresh-underway ps (u .1 .2)) (λ l. (l, u .1))
+      after-slot (Underway w) p ps done free (omega (arith, u .0)) (λ e. fresh-underway ps (u .1 .1)) (λ l. (l, u .1))
 
   -- nothing is lost
   after-units : (ps : List PseudoJob) (done free : ℕ) → Underway w ps done →
@@ -133,11 +131,11 @@ module _ (w : Flow) where
   after-needed (p ∷ ps) done free u h =
       after-slot (λ qs now. bit (ltb (givenTo w (p ∷ ps) done free) free) + slotsNeeded w qs now ≤ slotsNeeded w (p ∷ ps) done) p ps done free
       (omega (arith, u .0))
-      (λ e. unfold givenTo slotsNeeded in omega (arith, fresh-needed ps (u .1 .2), step))
+      (λ e. unfold givenTo slotsNeeded in omega (arith, fresh-needed ps (u .1 .1), step))
       (λ l. unfold givenTo slotsNeeded in omega (arith, step, ap (λ (x : ℕ). quotientUp x (rate w p)) now-left))
     where
       step : bit (ltb (given w p done free) free) + quotientUp (work w p - done - given w p done free) (rate w p) ≤ quotientUp (work w p - done) (rate w p)
-      step = unfold given in run-needs (rate w p) (work w p - done) free (u .1 .0) (omega (arith, u .0))
+      step = unfold given in run-needs (rate w p) (work w p - done) free (u .1 .0 .0) (omega (arith, u .0))
 
       now-left : work w p - done - given w p done free ≡ work w p - (done + given w p done free)
       now-left = omega arith
@@ -145,7 +143,7 @@ module _ (w : Flow) where
   needed-positive : (ps : List PseudoJob) (done : ℕ) → Underway w ps done → 0 < unitsLeft w ps done → 0 < slotsNeeded w ps done
   unfolding unitsLeft slotsNeeded
   needed-positive [] done u h = h
-  needed-positive (p ∷ ps) done u h = omega (arith, quotient-up-pos (work w p - done) (u .1 .0) (omega (arith, u .0)))
+  needed-positive (p ∷ ps) done u h = omega (arith, quotient-up-pos (work w p - done) (u .1 .0 .0) (omega (arith, u .0)))
 
 -- ---- a flow placed with free t processors free in slot t
 -- what it gets in slot t, and the units left as slot t begins

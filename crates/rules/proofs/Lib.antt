@@ -6,8 +6,11 @@ pub mod Greedy
 pub mod Necessity
 pub mod Refusal
 pub mod RowSums
+pub mod PlacedFlow
 pub mod ServiceOrder
 pub mod Ideal
+pub mod PseudoJobs
+pub mod Shares
 
 -- laws that the proofs here and in the crates above cite
 pub mod Division
