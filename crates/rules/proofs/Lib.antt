@@ -7,6 +7,7 @@ pub mod Necessity
 pub mod Refusal
 pub mod RowSums
 pub mod PlacedFlow
+pub mod PlannedRows
 pub mod ServiceOrder
 pub mod Ideal
 pub mod PseudoJobs
