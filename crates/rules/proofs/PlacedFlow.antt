@@ -14,7 +14,7 @@ use Rattle.rules.specs.PseudoJobs.{PseudoJob, chain, rate, work}
 use Rattle.rules.specs.Placing.{Progress, share, given, afterSlot, progress}
 use Rattle.rules.proofs.Sums.{sum-zero, le-sum}
 use Rattle.rules.proofs.Ideal.{Sized, predecessor-ends-by-start, take-within-cap, take-only-from-start, take-from-end}
-use Rattle.rules.proofs.PseudoJobs.{Every, sumOver, Consecutive}
+use Rattle.rules.proofs.PseudoJobs.{Every, sumOver, Consecutive, chain-consecutive, chain-live, chain-size}
 use Rattle.rules.proofs.Shares.{shareUpTo, share-up-to-nothing, share-whole, share-monotone, share-law, share-within-take, shares-sum}
 use Rattle.rules.proofs.Greedy.{Live, Underway, givenTo, givenIn, given-le-rest, given-le-rate, given-le-free, after-slot, underway}
 use Rattle.rules.proofs.Necessity.{Keeps}
@@ -101,26 +101,28 @@ module _ (w : Flow) where
 abbrev pub shareIn : Flow → (ℕ → ℕ) → ℕ → ℕ → ℕ
 shareIn w free i t = shareTo w i (progress w free t .left) (progress w free t .done) (free t)
 
-module _ (w : Flow) (free : ℕ → ℕ) (sized : Sized w) (live : Live w (chain w)) (standing : Consecutive 0 (chain w))
-    (whole : (i : ℕ) → i < jobCount w → jobUnits w i (chain w) ≡ jobOf w i .size) where
+module _ (w : Flow) (free : ℕ → ℕ) (sized : Sized w) where
+  on-its-way : (t : ℕ) → Underway w (progress w free t .left) (progress w free t .done)
+  on-its-way t = underway w free (chain-live w sized) t
+
   abbrev here : ℕ → ℕ
   here t = front (progress w free t .left)
 
   stands : (t : ℕ) → Consecutive (here t) (progress w free t .left)
   unfolding progress
-  stands zero = front-consecutive 0 (chain w) standing
-  stands (suc t) = after-consecutive w (progress w free t .left) (progress w free t .done) (free t) (underway w free live t) (stands t)
+  stands zero = front-consecutive 0 (chain w) (chain-consecutive w)
+  stands (suc t) = after-consecutive w (progress w free t .left) (progress w free t .done) (free t) (on-its-way t) (stands t)
 
   -- what a job has had and has to come is its size
   pub had-and-to-come : (i : ℕ) → i < jobCount w → (t : ℕ) →
       sumTo (shareIn w free i) t + toCome w i (progress w free t .left) (progress w free t .done) ≡ jobOf w i .size
   unfolding sumTo progress
-  had-and-to-come i b zero = omega (arith, fresh-to-come w i (chain w) live, whole i b)
+  had-and-to-come i b zero = omega (arith, fresh-to-come w i (chain w) (chain-live w sized), chain-size w sized i b)
   had-and-to-come i b (suc t) =
       omega (
         arith,
         had-and-to-come i b t,
-        after-to-come w i b (progress w free t .left) (progress w free t .done) (free t) (underway w free live t),
+        after-to-come w i b (progress w free t .left) (progress w free t .done) (free t) (on-its-way t),
       )
 
   -- no job gets more than its size, and each has it when no pseudo-job is left
@@ -134,11 +136,11 @@ module _ (w : Flow) (free : ℕ → ℕ) (sized : Sized w) (live : Live w (chain
 
   -- the jobs of the flow use together what the flow is given
   pub placed-together : (t : ℕ) → sumTo (λ i. shareIn w free i t) (jobCount w) ≡ givenIn w free t
-  placed-together t = shares-given w (progress w free t .left) (progress w free t .done) (free t) (underway w free live t)
+  placed-together t = shares-given w (progress w free t .left) (progress w free t .done) (free t) (on-its-way t)
 
   pub placed-within-cap : (i t : ℕ) → i < jobCount w → shareIn w free i t ≤ jobOf w i .cap
   placed-within-cap i t b =
-      le-trans (share-within-front w i b (progress w free t .left) (progress w free t .done) (free t) (underway w free live t))
+      le-trans (share-within-front w i b (progress w free t .left) (progress w free t .done) (free t) (on-its-way t))
       (take-within-cap w i (sized .cap-positive i b) (here t))
 
   -- a job that runs has each predecessor complete
@@ -146,7 +148,7 @@ module _ (w : Flow) (free : ℕ → ℕ) (sized : Sized w) (live : Live w (chain
   placed-in-order i k t b l e h =
       let started : startOf w i ≤ here t =
       take-only-from-start w i (here t)
-      (le-trans h (share-within-front w i b (progress w free t .left) (progress w free t .done) (free t) (underway w free live t))) in
+      (le-trans h (share-within-front w i b (progress w free t .left) (progress w free t .done) (free t) (on-its-way t))) in
       let over : toCome w k (progress w free t .left) (progress w free t .done) ≡ 0 =
       nothing-to-come w k (here t) (progress w free t .left) (progress w free t .done) (stands t)
       (λ v g. take-from-end w k v (omega (arith, predecessor-ends-by-start w k i l e))) in

@@ -9,34 +9,39 @@ use native.Mathlib.Omega.{arith}
 use Rattle.rules.specs.Walks.{sumTo, countTo}
 use Rattle.rules.specs.Book.{Flow}
 use Rattle.rules.specs.Ideal.{path}
-use Rattle.rules.specs.PseudoJobs.{chain}
 use Rattle.rules.proofs.Walks.{last-or}
 use Rattle.rules.proofs.Ideal.{Sized}
-use Rattle.rules.proofs.Greedy.{Live, widthsOf, worksOf, unitsLeftAt, placing-bound, divided-bound}
+use Rattle.rules.proofs.Greedy.{unitsLeftAt, placing-bound, divided-bound}
+use Rattle.rules.proofs.PseudoJobs.{chain-live, chain-widths, chain-works}
 use Rattle.rules.proofs.Necessity.{flowWork, worksUpTo, OnTime, path-necessary, area-necessary}
 
 -- flow k of a sequence, placed with free t processors free in slot t: in its usable slots, all that the flows before it, busy t in slot t, leave
-module _ (P k : ℕ) (φ : ℕ → Flow) (usable : ℕ → ℕ → Bool) (free busy : ℕ → ℕ) (live : Live (φ k) (chain (φ k)))
-    (wide : widthsOf (chain (φ k)) ≡ path (φ k)) (heavy : worksOf (φ k) (chain (φ k)) ≡ flowWork (φ k))
+module _ (P k : ℕ) (φ : ℕ → Flow) (usable : ℕ → ℕ → Bool) (free busy : ℕ → ℕ) (sized : Sized (φ k))
     (rest-free : (t : ℕ) → usable k t ≡ true → P ≤ busy t + free t) (before : (t : ℕ) → sumTo busy t ≤ worksUpTo φ k) where
   -- while work is left: path and area bound the usable slots that have passed
   pub area-bound : (t : ℕ) → 0 < unitsLeftAt (φ k) free t → P * suc (countTo (usable k) t) < P * path (φ k) + worksUpTo φ (suc k)
-  unfolding sumTo
+  unfolding sumTo flowWork
   area-bound t h =
-      omega (arith, placing-bound (φ k) free live P (usable k) busy rest-free t h, before t, ap (λ (x : ℕ). P * x) wide)
+      omega (
+        arith,
+        placing-bound (φ k) free (chain-live (φ k) sized) P (usable k) busy rest-free t h,
+        before t,
+        ap (λ (x : ℕ). P * x) (chain-widths (φ k)),
+        chain-works (φ k) sized,
+      )
 
   -- the same as a quote: the flow ends within its path and the area of the flows up to it, in usable slots
   pub quote-bound : 0 < P → (t : ℕ) → 0 < unitsLeftAt (φ k) free t → countTo (usable k) t < path (φ k) + worksUpTo φ (suc k) / P
   quote-bound pos t h = divided-bound P (countTo (usable k) t) (path (φ k)) (worksUpTo φ (suc k)) pos (area-bound t h)
 
   -- T comes when as many usable slots have passed as the flow has before its deadline and as are open before it, together
-  pub refusal : Sized (φ k) → (T : ℕ) (opened : ℕ → Bool) (deadline : ℕ → ℕ) →
+  pub refusal : (T : ℕ) (opened : ℕ → Bool) (deadline : ℕ → ℕ) →
       ((n t : ℕ) → n < suc k → usable n t ≡ true → opened t ≡ true) →
       ((n : ℕ) → n < k → deadline n ≤ deadline k) →
       countTo opened (deadline k) + countTo (usable k) (deadline k) ≤ countTo (usable k) T →
       0 < unitsLeftAt (φ k) free T →
       (σ : ℕ → ℕ → ℕ → ℕ) → OnTime P (suc k) φ usable deadline σ → ⊥
-  refusal sized T opened deadline inside order twice left σ on =
+  refusal T opened deadline inside order twice left σ on =
       let p : path (φ k) ≤ countTo (usable k) (deadline k) =
       path-necessary (φ k) sized (usable k) (σ k) (on .keeps k (lt-suc-self k)) (deadline k) (on .complete k (lt-suc-self k)) in
       let a : worksUpTo φ (suc k) ≤ P * countTo opened (deadline k) =
