@@ -8,6 +8,7 @@ pub mod Refusal
 pub mod RowSums
 pub mod PlacedFlow
 pub mod PlannedRows
+pub mod PlannedValid
 pub mod ServiceOrder
 pub mod Ideal
 pub mod PseudoJobs
