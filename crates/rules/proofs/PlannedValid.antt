@@ -58,6 +58,32 @@ predecessor-below {P} {i} {j} r k e = go (lt-or-ge k i)
         let none : j .predecessors / 2 ^ k % 2 ≡ 0 = rw (div-eq-of-lt small, zero-mod) refl in
         absurd (omega (arith, eqb-true (j .predecessors / 2 ^ k % 2) 1 e))
 
+-- a row of a plan: a job of the book, at least one processor and at most the cap, before twice the deadline
+pub record RowFits (b : Book) (r : Row) : Type 0 where
+  pub flow-in : r .flow < flowCount b
+  pub job-in : r .job < jobCount (flowOf b (r .flow))
+  pub processors-least : 1 ≤ r .processors
+  pub processors-most : r .processors ≤ jobOf (flowOf b (r .flow)) (r .job) .cap
+  pub slot-in : r .slot < slotsFor (flowOf b (r .flow))
+
+-- the same schedule, for a test that picks the same flows of the book
+pub valid-among : (b : Book) (p q : ℕ → Bool) (σ : Schedule) → ((f : ℕ) → f < flowCount b → p f ≡ q f) → Valid b p σ → Valid b q σ
+valid-among b p q σ same v = record {
+  no-others = λ f i t ne. v .no-others f i t (λ j. ne (over p q same f i j));
+  caps = λ f i t j. v .caps f i t (back f i j);
+  together = v .together;
+  horizon = v .horizon;
+  nothing-after = v .nothing-after;
+  sizes = λ f i j. v .sizes f i (back f i j);
+  precedence = λ f i k t j. v .precedence f i k t (back f i j);
+}
+  where
+    over : (p q : ℕ → Bool) → ((f : ℕ) → f < flowCount b → p f ≡ q f) → (f i : ℕ) → IsJob b p f i → IsJob b q f i
+    over p q same f i j = record { flow-among = sym (same f (j .flow-in)) ∙ j .flow-among; flow-in = j .flow-in; job-in = j .job-in }
+
+    back : (f i : ℕ) → IsJob b q f i → IsJob b p f i
+    back f i j = over q p (λ g l. sym (same g l)) f i j
+
 module _ (b : Book) (range : InRange b) where
   pub range-at : (n : ℕ) → n < flowCount b → FlowInRange (b .processors) (flowAt b n)
   range-at n l = range .each-flow (servedAt b n) (service-below b n l)
@@ -194,6 +220,12 @@ module _ (b : Book) (range : InRange b) where
         go true q = let m = at-place f q in subst X (m .2) (own (m .0) (m .1))
         go false q = other f (λ i t. states-nothing b k rows e f i t (at-no-place f q)) q
 
+    -- its slots are those of a table
+    pub first-in-slots : InSlots (scheduleOf rows)
+    unfolding InSlots
+    first-in-slots = by-flow (λ f. (i t : ℕ) → slots ≤ t → scheduleOf rows f i t ≡ 0)
+        (λ n l i t g. flow-ends n l i t (le-trans (slots-enough n l) g)) (λ f z q i t g. z i t)
+
     -- the rows of the first k flows are a valid schedule of these
     pub first-planned-valid : Valid b (amongFirst b k) (scheduleOf rows)
     first-planned-valid = record {
@@ -205,8 +237,7 @@ module _ (b : Book) (range : InRange b) where
           (λ n l i t j. flow-caps n l i t (j .job-in)) (λ f z q i t j. omega (arith, z i t));
       together = λ t. le-trans (in-use-within-used b rows t) (used-within-processors k rows h e t);
       horizon = slots;
-      nothing-after = by-flow (λ f. (i t : ℕ) → slots ≤ t → scheduleOf rows f i t ≡ 0)
-          (λ n l i t g. flow-ends n l i t (le-trans (slots-enough n l) g)) (λ f z q i t g. z i t);
+      nothing-after = unfold InSlots in first-in-slots;
       sizes = by-flow (λ f. (i : ℕ) → IsJob b (amongFirst b k) f i → sumTo (scheduleOf rows f i) slots ≡ jobOf (flowOf b f) i .size)
           (λ n l i j. flow-sizes n l i (j .job-in)) (λ f z q i j. absurd (false≢true (sym q ∙ j .flow-among)));
       precedence = by-flow
@@ -219,3 +250,54 @@ module _ (b : Book) (range : InRange b) where
     pub first-within-twice : (f : ℕ) → EndsBy (scheduleOf rows) f (2 * flowOf b f .deadline)
     unfolding EndsBy
     first-within-twice = by-flow (λ f. (i t : ℕ) → 2 * flowOf b f .deadline ≤ t → scheduleOf rows f i t ≡ 0) flow-ends (λ f z q i t g. z i t)
+
+    pub first-rows-fit : EachRow (RowFits b) rows
+    first-rows-fit = rw (placed-rows b k rows e) (each-join (RowFits b) (plannedGrid b) k fit)
+      where
+        fit : (n : ℕ) → n < k → EachRow (RowFits b) (plannedGrid b n)
+        fit n l = unfold plannedGrid in
+            each-grid (RowFits b) (servedAt b n) (jobCount (flowAt b n)) (slotsFor (flowAt b n)) (plannedShare b n)
+            (λ i t a c g. record {
+              flow-in = service-below b n (omega arith);
+              job-in = a;
+              processors-least = g;
+              processors-most = placed-within-cap (flowAt b n) (freeFor b n) (sized-at n (omega arith)) i t a;
+              slot-in = c;
+            })
+
+    -- so does each finish
+    pub first-finish-within-twice : (f : ℕ) → finishOf rows f ≤ 2 * flowOf b f .deadline
+    first-finish-within-twice f =
+        finish-least rows f (2 * flowOf b f .deadline) (each-mono (RowFits b) (λ r. 1 ≤ r .processors) rows (λ r q. q .processors-least) first-rows-fit)
+        (first-within-twice f)
+
+  -- ---- the whole plan
+  among-all : (f : ℕ) → f < flowCount b → amongFirst b (flowCount b) f ≡ true
+  unfolding amongFirst
+  among-all f l =
+      let m = service-position b f l in
+      any-true (λ n. eqb (servedAt b n) f) (flowCount b) (m .0) (m .1) (eq-eqb (servedAt b (m .0)) f (m .2))
+
+  module _ (rows : List Row) (e : plan b ≡ planned rows) where
+    all-placed : placeFirst b (flowCount b) ≡ planned rows
+    all-placed = unfold plan in e
+
+    -- the planned rows are a valid schedule of the book's flows, each within twice its deadline
+    pub planned-well : PlannedWell b rows
+    planned-well = record {
+      valid = valid-among b (amongFirst b (flowCount b)) everyFlow (scheduleOf rows) among-all
+          (first-planned-valid (flowCount b) rows (omega arith) all-placed);
+      within-twice = λ f l. first-within-twice (flowCount b) rows (omega arith) all-placed f;
+    }
+
+    pub planned-finish-within-twice : (f : ℕ) → finishOf rows f ≤ 2 * flowOf b f .deadline
+    planned-finish-within-twice f = first-finish-within-twice (flowCount b) rows (omega arith) all-placed f
+
+    pub planned-ends-by-finish : (f : ℕ) → EndsBy (scheduleOf rows) f (finishOf rows f)
+    planned-ends-by-finish f = ends-by-finish rows f
+
+    pub planned-rows-fit : EachRow (RowFits b) rows
+    planned-rows-fit = first-rows-fit (flowCount b) rows (omega arith) all-placed
+
+    pub planned-in-slots : InSlots (scheduleOf rows)
+    planned-in-slots = first-in-slots (flowCount b) rows (omega arith) all-placed
