@@ -9,6 +9,7 @@ pub mod RowSums
 pub mod PlacedFlow
 pub mod PlannedRows
 pub mod PlannedValid
+pub mod Infeasible
 pub mod ServiceOrder
 pub mod Ideal
 pub mod PseudoJobs

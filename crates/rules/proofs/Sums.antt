@@ -4,11 +4,11 @@ use mathlib.Core.Path.{_≡_, refl, ap, sym, _∙_}
 use Prim.Native.Nat.{ℕ, zero, suc, _+_, _*_, _-_, _≤_, _<_, min}
 use native.Mathlib.Nat.{add-zero, add-suc, add-sub-of-le, sub-add-cancel, min-zero, min-eq-left, min-eq-right, le-of-lt, le-step, not-suc-le-zero, eq-or-lt-of-le, le-of-suc-le-suc}
 use mathlib.Core.Bool.{Bool, true, false, _&&_}
-use lib.Dec.{leb, ltb}
+use lib.Dec.{leb, ltb, eqb}
 use mathlib.Core.Logic.{_⊎_, inl, inr}
-use borrow.Author.Tests.{leb-true, leb-false, le-leb, lt-leb, lt-ltb, le-ltb}
+use borrow.Author.Tests.{leb-true, leb-false, le-leb, lt-leb, lt-ltb, le-ltb, eq-eqb, ne-eqb}
 use native.Mathlib.Omega.{arith}
-use Rattle.rules.specs.Walks.{sumTo, bit, countTo}
+use Rattle.rules.specs.Walks.{if_then_else_, sumTo, bit, countTo}
 use Rattle.rules.proofs.Division.{lt-or-ge}
 
 -- congruence, pointwise below n
@@ -190,3 +190,35 @@ sum-le-one f n k x h b = go (lt-or-ge k n)
     go : (k < n) ⊎ (n ≤ k) → sumTo f n ≤ x
     go (inl l) = omega (arith, sum-one f n k l (λ i c ne. h i ne))
     go (inr l) = omega (arith, sum-nothing f n (λ i c. h i (λ (e : i ≡ k). omega arith)))
+
+-- terms at places that differ are part of the whole sum
+pub sum-distinct : (f at : ℕ → ℕ) (m n : ℕ) → ((k : ℕ) → k < m → at k < n) → ((j k : ℕ) → j < m → k < m → at j ≡ at k → j ≡ k) →
+    sumTo (λ k. f (at k)) m ≤ sumTo f n
+sum-distinct f at zero n below once = unfold sumTo in omega arith
+sum-distinct f at (suc m) n below once = step (sum-distinct others at m n (λ k l. below k (omega arith)) (λ j k a b. once j k (omega arith) (omega arith)))
+  where
+    others : ℕ → ℕ
+    others g = if eqb g (at m) then 0 else f g
+
+    own : ℕ → ℕ
+    own g = if eqb g (at m) then f g else 0
+
+    split : (g : ℕ) → f g ≡ others g + own g
+    split g = go (eqb g (at m))
+      where
+        go : (c : Bool) → f g ≡ (if c then 0 else f g) + (if c then f g else 0)
+        go true = omega arith
+        go false = omega arith
+
+    elsewhere : (k : ℕ) → k < m → f (at k) ≡ others (at k)
+    elsewhere k l = rw (ne-eqb (at k) (at m) (λ q. let e : k ≡ m = once k m (omega arith) (omega arith) q in omega arith)) refl
+
+    alone : sumTo own n ≡ f (at m)
+    alone =
+        sum-one own n (at m) (below m (omega arith)) (λ g l ne. rw (ne-eqb g (at m) ne) refl) ∙
+        (rw (eq-eqb (at m) (at m) refl) refl)
+
+    step : sumTo (λ k. others (at k)) m ≤ sumTo others n → sumTo (λ k. f (at k)) (suc m) ≤ sumTo f n
+    step ih =
+        unfold sumTo in
+        omega (arith, sum-ext (λ k. f (at k)) (λ k. others (at k)) m elsewhere, sum-ext f (λ g. others g + own g) n (λ g l. split g), sum-add others own n, alone)
