@@ -10,6 +10,7 @@ pub mod PlacedFlow
 pub mod PlannedRows
 pub mod PlannedValid
 pub mod Infeasible
+pub mod PlannedTable
 pub mod ServiceOrder
 pub mod Ideal
 pub mod PseudoJobs

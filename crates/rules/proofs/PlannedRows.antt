@@ -23,14 +23,14 @@ use Rattle.rules.proofs.PlacedFlow.{shareTo, shareIn}
 
 -- ---- the rows of one flow
 -- a walk that brings nothing
-pub join-nothing : (g : ℕ → List Row) (n : ℕ) → ((k : ℕ) → k < n → g k ≡ []) → joinFrom g n 0 ≡ []
-join-nothing g zero h = unfold joinFrom in refl
-join-nothing g (suc n) h = rw (join-snoc g n 0, zero-add n, join-nothing g n (λ k l. h k (omega arith)), h n (lt-suc-self n)) refl
+pub join-nothing : (g : ℕ → List Row) (n s : ℕ) → ((k : ℕ) → k < n → g (s + k) ≡ []) → joinFrom g n s ≡ []
+join-nothing g zero s h = unfold joinFrom in refl
+join-nothing g (suc n) s h = rw (join-snoc g n s, join-nothing g n s (λ k l. h k (omega arith)), h n (lt-suc-self n)) refl
 
 slot-rows : (w : Flow) (f t : ℕ) (ps : List PseudoJob) (done free : ℕ) →
     slotRows w f t ps done free ≡ joinFrom (λ i. rowFor t f i (shareTo w i ps done free)) (jobCount w) 0
 slot-rows w f t [] done free =
-    unfold slotRows shareTo in sym (join-nothing (λ i. rowFor t f i 0) (jobCount w) (λ i l. unfold rowFor in refl))
+    unfold slotRows shareTo in sym (join-nothing (λ i. rowFor t f i 0) (jobCount w) 0 (λ i l. unfold rowFor in refl))
 slot-rows w f t (p ∷ ps) done free = unfold slotRows shareTo in refl
 
 pub flow-rows-grid : (w : Flow) (f : ℕ) (free : ℕ → ℕ) (n : ℕ) → flowRows w f free n ≡ flowGrid f (jobCount w) n (shareIn w free)
