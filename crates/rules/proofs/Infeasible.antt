@@ -29,7 +29,7 @@ use Rattle.rules.proofs.Necessity.{Keeps, CompleteBy, worksUpTo, OnTime
 use Rattle.rules.proofs.Refusal.{refusal, quote-bound}
 use Rattle.rules.proofs.RowSums.{each-mono, finish-least}
 use Rattle.rules.proofs.PlacedFlow.{shareTo}
-use Rattle.rules.proofs.PlannedRows.{servedAt, flowAt, freeFor, plannedShare, Stopped, placing-stops, states-share, states-none-of-flow}
+use Rattle.rules.proofs.PlannedRows.{servedAt, flowAt, freeFor, plannedShare, Stopped, placed-earlier, states-share, states-none-of-flow}
 use Rattle.rules.proofs.PlannedValid.{RowFits, sized-at, used-within-work, first-rows-fit}
 
 -- every slot is usable
@@ -120,3 +120,35 @@ module _ (b : Book) (range : InRange b) where
         quote-bound (b .processors) n (flowAt b) (λ m. everySlot) (freeFor b n) (usedIn earlier) (sized-at b range n below)
             (λ u q. free-or-used n earlier e u) (used-within-work b range n earlier (omega arith) e) (range .processors-least) t left,
       )
+
+  -- the slots within which the flow at place n ends at the latest
+  abbrev pub quoteFor : ℕ → ℕ
+  quoteFor n = path (flowAt b n) + worksUpTo (flowAt b) (suc n) / b .processors
+
+  module _ (k : ℕ) (rows : List Row) (h : k ≤ flowCount b) (e : placeFirst b k ≡ planned rows) (n : ℕ) (l : n < k) where
+    after-quote : (t : ℕ) → quoteFor n ≤ t → progress (flowAt b n) (freeFor b n) t .left ≡ []
+    after-quote t c = go (lt-or-ge 0 (unitsLeftAt (flowAt b n) (freeFor b n) t))
+      where
+        go : (0 < unitsLeftAt (flowAt b n) (freeFor b n) t) ⊎ (unitsLeftAt (flowAt b n) (freeFor b n) t ≤ 0) → progress (flowAt b n) (freeFor b n) t .left ≡ []
+        go (inl left) = let p = placed-earlier b k rows e n l in absurd (omega (arith, quote-at n (p .0) (omega arith) (p .1) t left))
+        go (inr none) =
+            nothing-left (flowAt b n) (progress (flowAt b n) (freeFor b n) t .left) (progress (flowAt b n) (freeFor b n) t .done)
+            (underway (flowAt b n) (freeFor b n) (chain-live (flowAt b n) (sized-at b range n (omega arith))) t) (omega arith)
+
+    ends-by-quote : EndsBy (scheduleOf rows) (servedAt b n) (quoteFor n)
+    unfolding EndsBy
+    ends-by-quote i t c = go (lt-or-ge t (slotsFor (flowAt b n))) (lt-or-ge i (jobCount (flowAt b n)))
+      where
+        none : plannedShare b n i t ≡ 0
+        none = rw (after-quote t c) (unfold shareTo in refl)
+
+        go : (t < slotsFor (flowAt b n)) ⊎ (slotsFor (flowAt b n) ≤ t) → (i < jobCount (flowAt b n)) ⊎ (jobCount (flowAt b n) ≤ i) → scheduleOf rows (servedAt b n) i t ≡ 0
+        go (inl d) (inl a) = states-share b k rows e h n i t l a d ∙ none
+        go (inl d) (inr a) = states-none-of-flow b k rows e h n i t l (λ x y. omega arith)
+        go (inr d) o = states-none-of-flow b k rows e h n i t l (λ x y. omega arith)
+
+    -- a finish within the quote
+    pub first-finish-within-quote : finishOf rows (servedAt b n) ≤ quoteFor n
+    first-finish-within-quote =
+        finish-least rows (servedAt b n) (quoteFor n)
+        (each-mono (RowFits b) (λ r. 1 ≤ r .processors) rows (λ r q. q .processors-least) (first-rows-fit b range k rows h e)) ends-by-quote

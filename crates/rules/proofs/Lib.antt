@@ -11,6 +11,7 @@ pub mod PlannedRows
 pub mod PlannedValid
 pub mod Infeasible
 pub mod PlannedTable
+pub mod Demand3Values
 pub mod ServiceOrder
 pub mod Ideal
 pub mod PseudoJobs

@@ -137,6 +137,13 @@ placed-finished b (suc k) rows e n l =
     let s = placed-next b k rows e in
     last-or n k l (λ q. rw q (s .finished)) (λ m. placed-finished b k (s .earlier) (s .placed-before) n m)
 
+-- where flows are placed, so are those before them
+pub placed-earlier : (b : Book) (k : ℕ) (rows : List Row) → placeFirst b k ≡ planned rows → (n : ℕ) → n < k → (earlier : List Row) × (placeFirst b n ≡ planned earlier)
+placed-earlier b zero rows e n l = absurd (omega arith)
+placed-earlier b (suc k) rows e n l =
+    let s = placed-next b k rows e in
+    last-or n k l (λ q. (s .earlier, rw q (s .placed-before))) (λ m. placed-earlier b k (s .earlier) (s .placed-before) n m)
+
 -- they state for a flow what its own rows state, and nothing for the others
 module _ (b : Book) (k : ℕ) (rows : List Row) (e : placeFirst b k ≡ planned rows) where
   schedule-sum : (g i t : ℕ) → scheduleOf rows g i t ≡ sumTo (λ n. scheduleOf (plannedGrid b n) g i t) k

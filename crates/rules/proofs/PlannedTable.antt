@@ -18,7 +18,7 @@ use Rattle.rules.specs.Demands.{IsScheduleTable}
 use Rattle.rules.proofs.Walks.{join-ext, join-split}
 use Rattle.rules.proofs.RowSums.{flowGrid}
 use Rattle.rules.proofs.PlannedRows.{join-nothing, servedAt, flowAt, plannedShare, plannedGrid, placed-rows, states-share, states-none-of-flow}
-use Rattle.rules.proofs.PlannedValid.{range-at, planned-well, planned-in-slots}
+use Rattle.rules.proofs.PlannedValid.{range-at, all-placed, planned-valid, planned-in-slots}
 
 -- ---- rows of a flow by slot and job
 grid-ext : (f m n : ℕ) (τ υ : ℕ → ℕ → ℕ) → ((i t : ℕ) → i < m → t < n → τ i t ≡ υ i t) → flowGrid f m n τ ≡ flowGrid f m n υ
@@ -42,23 +42,20 @@ grid-longer f m n k τ l h =
     ap (joinFrom (λ t. joinFrom (λ i. rowFor t f i (τ i t)) m 0) n 0 ++_) rest ∙ append-nil (joinFrom (λ t. joinFrom (λ i. rowFor t f i (τ i t)) m 0) n 0))
 
 module _ (b : Book) (range : InRange b) (rows : List Row) (e : plan b ≡ planned rows) where
-  all-placed : placeFirst b (flowCount b) ≡ planned rows
-  all-placed = unfold plan in e
-
   own-rows : (n : ℕ) → n < flowCount b → plannedGrid b n ≡ flowGrid (servedAt b n) (jobCount (flowAt b n)) slots (scheduleOf rows (servedAt b n))
   unfolding plannedGrid
   own-rows n l =
       grid-ext (servedAt b n) (jobCount (flowAt b n)) (slotsFor (flowAt b n)) (plannedShare b n) (scheduleOf rows (servedAt b n))
-      (λ i t a c. sym (states-share b (flowCount b) rows all-placed (omega arith) n i t l a c)) ∙
+      (λ i t a c. sym (states-share b (flowCount b) rows (all-placed b range rows e) (omega arith) n i t l a c)) ∙
       grid-longer (servedAt b n) (jobCount (flowAt b n)) (slotsFor (flowAt b n)) slots (scheduleOf rows (servedAt b n))
       (omega (arith, range-at b range n l .deadline-most))
-      (λ i t a c. states-none-of-flow b (flowCount b) rows all-placed (omega arith) n i t l (λ x y. omega arith))
+      (λ i t a c. states-none-of-flow b (flowCount b) rows (all-placed b range rows e) (omega arith) n i t l (λ x y. omega arith))
 
   -- the rows of a plan are the rows of the schedule that they state
   pub planned-rows-are-schedule-rows : rows ≡ scheduleRows b (scheduleOf rows)
   unfolding scheduleRows flowGrid
   planned-rows-are-schedule-rows =
-      placed-rows b (flowCount b) rows all-placed ∙
+      placed-rows b (flowCount b) rows (all-placed b range rows e) ∙
       join-ext (plannedGrid b) (λ n. flowGrid (servedAt b n) (jobCount (flowAt b n)) slots (scheduleOf rows (servedAt b n))) (flowCount b) 0
       (λ n l. own-rows (0 + n) (omega arith))
 
@@ -66,7 +63,7 @@ module _ (b : Book) (range : InRange b) (rows : List Row) (e : plan b ≡ planne
   pub planned-table-is-schedule-table : IsScheduleTable b (tableBytes b rows) (lateFlows b rows)
   planned-table-is-schedule-table = record {
     schedule = scheduleOf rows;
-    valid = planned-well b range rows e .valid;
+    valid = planned-valid b range rows e;
     in-slots = planned-in-slots b range rows e;
     written = unfold scheduleTable in ap (tableBytes b) planned-rows-are-schedule-rows;
     late-flows = ap (lateFlows b) planned-rows-are-schedule-rows;

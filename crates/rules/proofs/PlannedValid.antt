@@ -20,7 +20,6 @@ use Rattle.rules.specs.Rows.{Row, sumWhere, usedIn, finishOf}
 use Rattle.rules.specs.Schedule.{Schedule, everyFlow, IsJob, inUse, Valid, EndsBy, InSlots, scheduleOf}
 use Rattle.rules.specs.Placing.{progress, freeProcessors, slotsFor, planned, placeFirst, rowsOf, plan}
 use Rattle.rules.specs.Cut.{amongFirst}
-use Rattle.rules.specs.Demands.{PlannedWell}
 use Rattle.rules.proofs.Division.{lt-or-ge}
 use Rattle.rules.proofs.Sums.{sum-ext, sum-mono, sum-add, sum-zero, sum-up, sum-quiet}
 use Rattle.rules.proofs.Walks.{any-met, any-none, any-true}
@@ -29,7 +28,7 @@ use Rattle.rules.proofs.PseudoJobs.{chain-live, chain-works}
 use Rattle.rules.proofs.ServiceOrder.{service-below, service-position}
 use Rattle.rules.proofs.Greedy.{givenIn, given-le-free, given-and-left}
 use Rattle.rules.proofs.Necessity.{flowWork, worksUpTo}
-use Rattle.rules.proofs.RowSums.{used-append, grid-used, grid-not-used, in-use-within-used, EachRow, each-join, each-grid, each-mono, ends-by-finish, finish-least}
+use Rattle.rules.proofs.RowSums.{used-append, grid-used, grid-not-used, in-use-within-used, EachRow, each-join, each-grid, each-mono, finish-least}
 use Rattle.rules.proofs.PlacedFlow.{shareIn, placed-together, placed-within-cap, placed-exactly, placed-in-order}
 use Rattle.rules.proofs.PlannedRows.{
   servedAt,
@@ -279,25 +278,16 @@ module _ (b : Book) (range : InRange b) where
       any-true (λ n. eqb (servedAt b n) f) (flowCount b) (m .0) (m .1) (eq-eqb (servedAt b (m .0)) f (m .2))
 
   module _ (rows : List Row) (e : plan b ≡ planned rows) where
-    all-placed : placeFirst b (flowCount b) ≡ planned rows
+    pub all-placed : placeFirst b (flowCount b) ≡ planned rows
     all-placed = unfold plan in e
 
-    -- the planned rows are a valid schedule of the book's flows, each within twice its deadline
-    pub planned-well : PlannedWell b rows
-    planned-well = record {
-      valid = valid-among b (amongFirst b (flowCount b)) everyFlow (scheduleOf rows) among-all
-          (first-planned-valid (flowCount b) rows (omega arith) all-placed);
-      within-twice = λ f l. first-within-twice (flowCount b) rows (omega arith) all-placed f;
-    }
-
-    pub planned-finish-within-twice : (f : ℕ) → finishOf rows f ≤ 2 * flowOf b f .deadline
-    planned-finish-within-twice f = first-finish-within-twice (flowCount b) rows (omega arith) all-placed f
-
-    pub planned-ends-by-finish : (f : ℕ) → EndsBy (scheduleOf rows) f (finishOf rows f)
-    planned-ends-by-finish f = ends-by-finish rows f
-
-    pub planned-rows-fit : EachRow (RowFits b) rows
-    planned-rows-fit = first-rows-fit (flowCount b) rows (omega arith) all-placed
+    pub planned-valid : Valid b everyFlow (scheduleOf rows)
+    planned-valid =
+        valid-among b (amongFirst b (flowCount b)) everyFlow (scheduleOf rows) among-all
+        (first-planned-valid (flowCount b) rows (omega arith) all-placed)
 
     pub planned-in-slots : InSlots (scheduleOf rows)
     planned-in-slots = first-in-slots (flowCount b) rows (omega arith) all-placed
+
+    pub planned-rows-fit : EachRow (RowFits b) rows
+    planned-rows-fit = first-rows-fit (flowCount b) rows (omega arith) all-placed
