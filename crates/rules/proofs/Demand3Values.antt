@@ -13,7 +13,7 @@ use Rattle.rules.specs.Placing.{planned, infeasible, placeFirst, plan}
 use Rattle.rules.specs.Demands.{PlannedWell, NoneOnTime}
 use Rattle.rules.proofs.Greedy.{unitsLeftAt}
 use Rattle.rules.proofs.Necessity.{worksUpTo}
-use Rattle.rules.proofs.RowSums.{ends-by-finish}
+use Rattle.rules.proofs.FlowRows.{ends-by-finish}
 use Rattle.rules.proofs.PlannedRows.{servedAt, flowAt, freeFor, placing-stops}
 use Rattle.rules.proofs.PlannedValid.{all-placed, planned-valid, first-within-twice, first-finish-within-twice}
 use Rattle.rules.proofs.Infeasible.{stopped-proves, quote-at, first-finish-within-quote}

@@ -27,10 +27,10 @@ use Rattle.rules.proofs.ServiceOrder.{service-below, service-sorted, se
 use Rattle.rules.proofs.Greedy.{unitsLeftAt, underway, something-left, nothing-left}
 use Rattle.rules.proofs.Necessity.{Keeps, CompleteBy, worksUpTo, OnTime}
 use Rattle.rules.proofs.Refusal.{refusal, quote-bound}
-use Rattle.rules.proofs.RowSums.{each-mono, finish-least}
+use Rattle.rules.proofs.FlowRows.{finish-least}
 use Rattle.rules.proofs.PlacedFlow.{shareTo}
 use Rattle.rules.proofs.PlannedRows.{servedAt, flowAt, freeFor, plannedShare, Stopped, placed-earlier, states-share, states-none-of-flow}
-use Rattle.rules.proofs.PlannedValid.{RowFits, sized-at, used-within-work, first-rows-fit}
+use Rattle.rules.proofs.PlannedValid.{sized-at, used-within-work, first-rows-fit}
 
 -- every slot is usable
 abbrev pub everySlot : ℕ → Bool
@@ -151,4 +151,4 @@ module _ (b : Book) (range : InRange b) where
     pub first-finish-within-quote : finishOf rows (servedAt b n) ≤ quoteFor n
     first-finish-within-quote =
         finish-least rows (servedAt b n) (quoteFor n)
-        (each-mono (RowFits b) (λ r. 1 ≤ r .processors) rows (λ r q. q .processors-least) (first-rows-fit b range k rows h e)) ends-by-quote
+        (λ r m. first-rows-fit b range k rows h e r m .processors-least) ends-by-quote

@@ -1,11 +1,14 @@
 -- What follows from the rules.
 pub mod MarkedPlans
-
 -- what the rules guarantee
 pub mod Greedy
 pub mod Necessity
 pub mod Refusal
+pub mod Rising
+pub mod RowOrder
 pub mod RowSums
+pub mod ScheduleRows
+pub mod FlowRows
 pub mod PlacedFlow
 pub mod PlannedRows
 pub mod PlannedValid
@@ -16,7 +19,6 @@ pub mod ServiceOrder
 pub mod Ideal
 pub mod PseudoJobs
 pub mod Shares
-
 -- laws that the proofs here and in the crates above cite
 pub mod Division
 pub mod Sums

@@ -2,23 +2,22 @@
 -- job of what the flow's jobs get there; and where the placing stops, the flow that stops it still has work left. Assumes nothing.
 use mathlib.Core.Path.{_≡_, refl, sym, ap, _∙_}
 use Prim.Native.Nat.{ℕ, zero, suc, _+_, _*_, _-_, _≤_, _<_}
-use mathlib.Core.Bool.{Bool, true, false, _&&_}
 use mathlib.Core.List.{List, [], _∷_, _++_}
-use native.Mathlib.Nat.{zero-add, lt-suc-self}
+use native.Mathlib.Nat.{lt-suc-self}
 use native.Mathlib.Omega.{arith}
 use lib.ListN.{getD}
-use lib.Dec.{eqb}
 use Rattle.rules.specs.Walks.{sumTo, joinFrom}
 use Rattle.rules.specs.Book.{Flow, Book, flowCount, jobCount, flowOf}
 use Rattle.rules.specs.PseudoJobs.{PseudoJob}
 use Rattle.rules.specs.Service.{serviceOrder}
-use Rattle.rules.specs.Rows.{Row, rowFor, usedIn, isOf}
+use Rattle.rules.specs.Rows.{Row, rowFor}
 use Rattle.rules.specs.Schedule.{scheduleOf}
 use Rattle.rules.specs.Placing.{slotRows, progress, flowRows, freeProcessors, slotsFor, Plan, planned, infeasible, settled, placeFlow, thenPlace, placeFirst, rowsOf}
-use Rattle.rules.proofs.Sums.{sum-ext, sum-nothing, sum-one}
-use Rattle.rules.proofs.Walks.{last-or, join-ext, join-snoc}
+use Rattle.rules.proofs.Sums.{sum-nothing, sum-one}
+use Rattle.rules.proofs.Walks.{last-or, join-ext, join-snoc, join-last}
 use Rattle.rules.proofs.ServiceOrder.{service-once}
-use Rattle.rules.proofs.RowSums.{sum-where-join, flowGrid, grid-states, grid-states-nothing}
+use Rattle.rules.proofs.RowSums.{isAt}
+use Rattle.rules.proofs.FlowRows.{sum-where-join, flowGrid, grid-states, grid-states-nothing}
 use Rattle.rules.proofs.PlacedFlow.{shareTo, shareIn}
 
 -- ---- the rows of one flow
@@ -129,7 +128,7 @@ placed-rows b zero rows e = unfold placeFirst joinFrom in sym (same-rows [] rows
 placed-rows b (suc k) rows e =
     let s = placed-next b k rows e in
     s .appended ∙ ap (_++ plannedGrid b k) (placed-rows b k (s .earlier) (s .placed-before)) ∙
-    sym (join-snoc (plannedGrid b) k 0 ∙ ap (λ n. joinFrom (plannedGrid b) k 0 ++ plannedGrid b n) (zero-add k))
+    sym (join-last (plannedGrid b) k)
 
 pub placed-finished : (b : Book) (k : ℕ) (rows : List Row) → placeFirst b k ≡ planned rows → (n : ℕ) → n < k → Finished b n
 placed-finished b zero rows e n l = absurd (omega arith)
@@ -148,7 +147,7 @@ placed-earlier b (suc k) rows e n l =
 module _ (b : Book) (k : ℕ) (rows : List Row) (e : placeFirst b k ≡ planned rows) where
   schedule-sum : (g i t : ℕ) → scheduleOf rows g i t ≡ sumTo (λ n. scheduleOf (plannedGrid b n) g i t) k
   unfolding scheduleOf
-  schedule-sum g i t = rw (placed-rows b k rows e) (sum-where-join (λ r. isOf g i r && eqb (r .slot) t) (plannedGrid b) k)
+  schedule-sum g i t = rw (placed-rows b k rows e) (sum-where-join (isAt g i t) (plannedGrid b) k)
 
   other-grid : (n g i t : ℕ) → (servedAt b n ≡ g → ⊥) → scheduleOf (plannedGrid b n) g i t ≡ 0
   unfolding plannedGrid

@@ -1,6 +1,6 @@
 -- A plan's rows are the rows of the schedule that they state: in service order, by slot and job, and no row left out up to the last slot of a
 -- table. So the table that the planner writes is the table of a valid schedule. Assumes nothing.
-use mathlib.Core.Path.{_≡_, refl, sym, ap, _∙_}
+use mathlib.Core.Path.{_≡_, refl, sym, ap, subst, _∙_}
 use Prim.Native.Nat.{ℕ, zero, suc, _+_, _*_, _-_, _≤_, _<_}
 use mathlib.Core.List.{List, [], _∷_, _++_, append-nil}
 use native.Mathlib.Nat.{zero-add, add-sub-of-le}
@@ -16,7 +16,10 @@ use Rattle.rules.specs.Placing.{slotsFor, planned, placeFirst, plan}
 use Rattle.rules.specs.Table.{tableBytes}
 use Rattle.rules.specs.Demands.{IsScheduleTable}
 use Rattle.rules.proofs.Walks.{join-ext, join-split}
-use Rattle.rules.proofs.RowSums.{flowGrid}
+use Rattle.rules.proofs.Rising.{Rising}
+use Rattle.rules.proofs.RowOrder.{Before}
+use Rattle.rules.proofs.ScheduleRows.{schedule-rows-rising}
+use Rattle.rules.proofs.FlowRows.{flowGrid}
 use Rattle.rules.proofs.PlannedRows.{join-nothing, servedAt, flowAt, plannedShare, plannedGrid, placed-rows, states-share, states-none-of-flow}
 use Rattle.rules.proofs.PlannedValid.{range-at, all-placed, planned-valid, planned-in-slots}
 
@@ -58,6 +61,10 @@ module _ (b : Book) (range : InRange b) (rows : List Row) (e : plan b ≡ planne
       placed-rows b (flowCount b) rows (all-placed b range rows e) ∙
       join-ext (plannedGrid b) (λ n. flowGrid (servedAt b n) (jobCount (flowAt b n)) slots (scheduleOf rows (servedAt b n))) (flowCount b) 0
       (λ n l. own-rows (0 + n) (omega arith))
+
+  -- they stand in the stated order
+  pub planned-rows-rising : Rising (Before b) rows
+  planned-rows-rising = subst (Rising (Before b)) (sym planned-rows-are-schedule-rows) (schedule-rows-rising b (scheduleOf rows))
 
   -- the table that is written is the table of a valid schedule
   pub planned-table-is-schedule-table : IsScheduleTable b (tableBytes b rows) (lateFlows b rows)

@@ -28,7 +28,9 @@ use Rattle.rules.proofs.PseudoJobs.{chain-live, chain-works}
 use Rattle.rules.proofs.ServiceOrder.{service-below, service-position}
 use Rattle.rules.proofs.Greedy.{givenIn, given-le-free, given-and-left}
 use Rattle.rules.proofs.Necessity.{flowWork, worksUpTo}
-use Rattle.rules.proofs.RowSums.{used-append, grid-used, grid-not-used, in-use-within-used, EachRow, each-join, each-grid, each-mono, finish-least}
+use Rattle.rules.proofs.Rising.{_∈_, join-in}
+use Rattle.rules.proofs.RowSums.{used-in-use}
+use Rattle.rules.proofs.FlowRows.{used-append, grid-used, grid-not-used, grid-in, finish-least}
 use Rattle.rules.proofs.PlacedFlow.{shareIn, placed-together, placed-within-cap, placed-exactly, placed-in-order}
 use Rattle.rules.proofs.PlannedRows.{
   servedAt,
@@ -219,6 +221,24 @@ module _ (b : Book) (range : InRange b) where
         go true q = let m = at-place f q in subst X (m .2) (own (m .0) (m .1))
         go false q = other f (λ i t. states-nothing b k rows e f i t (at-no-place f q)) q
 
+    -- each row is one of a flow placed
+    pub first-rows-fit : (r : Row) → r ∈ rows → RowFits b r
+    first-rows-fit r m =
+        let n = join-in (plannedGrid b) k (subst (λ (xs : List Row). r ∈ xs) (placed-rows b k rows e) m) in
+        fit (n .0) (n .1) (n .2)
+      where
+        fit : (n : ℕ) → n < k → r ∈ plannedGrid b n → RowFits b r
+        fit n l g =
+            let s = grid-in (servedAt b n) (jobCount (flowAt b n)) (slotsFor (flowAt b n)) (plannedShare b n) r (unfold plannedGrid in g) in
+            subst (RowFits b) (sym (s .4))
+            (record {
+              flow-in = service-below b n (omega arith);
+              job-in = s .3;
+              processors-least = s .5;
+              processors-most = placed-within-cap (flowAt b n) (freeFor b n) (sized-at n (omega arith)) (s .2) (s .0) (s .3);
+              slot-in = s .1;
+            })
+
     -- its slots are those of a table
     pub first-in-slots : InSlots (scheduleOf rows)
     unfolding InSlots
@@ -234,7 +254,11 @@ module _ (b : Book) (range : InRange b) where
           (λ f z q i t ne. z i t);
       caps = by-flow (λ f. (i t : ℕ) → IsJob b (amongFirst b k) f i → scheduleOf rows f i t ≤ jobOf (flowOf b f) i .cap)
           (λ n l i t j. flow-caps n l i t (j .job-in)) (λ f z q i t j. omega (arith, z i t));
-      together = λ t. le-trans (in-use-within-used b rows t) (used-within-processors k rows h e t);
+      together = λ t. omega (
+        arith,
+        used-in-use b rows t (λ r m. record { flow-in = first-rows-fit r m .flow-in; job-in = first-rows-fit r m .job-in }),
+        used-within-processors k rows h e t,
+      );
       horizon = slots;
       nothing-after = unfold InSlots in first-in-slots;
       sizes = by-flow (λ f. (i : ℕ) → IsJob b (amongFirst b k) f i → sumTo (scheduleOf rows f i) slots ≡ jobOf (flowOf b f) i .size)
@@ -250,25 +274,10 @@ module _ (b : Book) (range : InRange b) where
     unfolding EndsBy
     first-within-twice = by-flow (λ f. (i t : ℕ) → 2 * flowOf b f .deadline ≤ t → scheduleOf rows f i t ≡ 0) flow-ends (λ f z q i t g. z i t)
 
-    pub first-rows-fit : EachRow (RowFits b) rows
-    first-rows-fit = rw (placed-rows b k rows e) (each-join (RowFits b) (plannedGrid b) k fit)
-      where
-        fit : (n : ℕ) → n < k → EachRow (RowFits b) (plannedGrid b n)
-        fit n l = unfold plannedGrid in
-            each-grid (RowFits b) (servedAt b n) (jobCount (flowAt b n)) (slotsFor (flowAt b n)) (plannedShare b n)
-            (λ i t a c g. record {
-              flow-in = service-below b n (omega arith);
-              job-in = a;
-              processors-least = g;
-              processors-most = placed-within-cap (flowAt b n) (freeFor b n) (sized-at n (omega arith)) i t a;
-              slot-in = c;
-            })
-
     -- so does each finish
     pub first-finish-within-twice : (f : ℕ) → finishOf rows f ≤ 2 * flowOf b f .deadline
     first-finish-within-twice f =
-        finish-least rows f (2 * flowOf b f .deadline) (each-mono (RowFits b) (λ r. 1 ≤ r .processors) rows (λ r q. q .processors-least) first-rows-fit)
-        (first-within-twice f)
+        finish-least rows f (2 * flowOf b f .deadline) (λ r m. first-rows-fit r m .processors-least) (first-within-twice f)
 
   -- ---- the whole plan
   among-all : (f : ℕ) → f < flowCount b → amongFirst b (flowCount b) f ≡ true
@@ -289,5 +298,5 @@ module _ (b : Book) (range : InRange b) where
     pub planned-in-slots : InSlots (scheduleOf rows)
     planned-in-slots = first-in-slots (flowCount b) rows (omega arith) all-placed
 
-    pub planned-rows-fit : EachRow (RowFits b) rows
+    pub planned-rows-fit : (r : Row) → r ∈ rows → RowFits b r
     planned-rows-fit = first-rows-fit (flowCount b) rows (omega arith) all-placed

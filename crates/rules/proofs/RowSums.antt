@@ -1,195 +1,221 @@
--- Rows and the schedules that they state: sums over rows, the rows of one flow laid out by slot and job, finishes, and the use of a slot.
--- Rows that are appended or joined add up; of the rows of a flow, those of one job in one slot are one row or none. Assumes nothing.
+-- Sums over rows that pass a test, and the schedule that rows state.
+-- Every sum is taken row by row: what one row adds to a total is what it adds to the slots of its job, and what it adds to a slot is what it
+-- adds to the jobs of the book in that slot. Assumes nothing.
 use mathlib.Core.Path.{_≡_, refl, sym, ap, _∙_}
-use Prim.Native.Nat.{ℕ, zero, suc, _+_, _-_, _≤_, _<_, max}
-use mathlib.Core.Bool.{Bool, true, false, _&&_, and-eq-true-iff}
-use mathlib.Core.List.{List, [], _∷_, _++_}
 use mathlib.Core.Logic.{_⊎_, inl, inr}
-use native.Mathlib.Nat.{zero-add}
+use mathlib.Core.Bool.{Bool, true, false, _&&_, and-eq-true-iff, false≢true, and-false}
+use Prim.Native.Nat.{ℕ, zero, suc, _+_, _≤_, _<_, max}
+use native.Mathlib.Nat.{not-suc-le-zero, lt-suc-self, add-assoc}
+use native.Mathlib.Decide.{ℕ-discrete}
 use native.Mathlib.Omega.{arith}
+use mathlib.Core.List.{List, [], _∷_, _++_, List·Memᴰ·tail, List·Memᴰ·cases-cons, List·Memᴰ·not-nil}
+use lib.ListN.{length, take, getD}
+use lib.Seq.{take-suc, take-length}
 use lib.Dec.{ltb, eqb}
-use borrow.Author.Tests.{eq-eqb, ne-eqb, eqb-true}
-use Rattle.rules.specs.Walks.{if_then_else_, sumTo, joinFrom}
-use Rattle.rules.specs.Book.{Book, flowCount, jobCount, flowOf}
-use Rattle.rules.specs.Rows.{Row, rowFor, sumWhere, usedIn, isOf, finishOf}
-use Rattle.rules.specs.Schedule.{Schedule, inUse, EndsBy, scheduleOf}
+use borrow.Author.Tests.{ltb-true, ltb-false, eqb-true, eqb-false, lt-ltb, le-ltb, eq-eqb, ne-eqb}
+use Rattle.rules.specs.Walks.{if_then_else_, sumTo}
+use Rattle.rules.specs.Book.{Flow, Book, flowCount, jobCount, flowOf}
+use Rattle.rules.specs.Rows.{Row, sumWhere, usedIn, isOf, totalOf, doneBefore, finishOf}
+use Rattle.rules.specs.Schedule.{inUse, scheduleOf}
 use Rattle.rules.proofs.Division.{lt-or-ge}
-use Rattle.rules.proofs.Sums.{sum-ext, sum-add, sum-nothing, sum-one, sum-le-one}
-use Rattle.rules.proofs.Walks.{join-snoc}
+use Rattle.rules.proofs.Sums.{sum-ext, sum-add, sum-zero, sum-one}
+use Rattle.rules.proofs.Walks.{last-or}
+use Rattle.rules.proofs.Rising.{_∈_, first-in}
+
+-- ---- what one row adds
+-- the processors of a row that passes a test, or 0
+abbrev pub counted : (Row → Bool) → Row → ℕ
+counted q r = if q r then r .processors else 0
+
+pub counted-true : (q : Row → Bool) (r : Row) → q r ≡ true → counted q r ≡ r .processors
+counted-true q r e = ap (λ c. if c then r .processors else 0) e
+
+pub counted-false : (q : Row → Bool) (r : Row) → q r ≡ false → counted q r ≡ 0
+counted-false q r e = ap (λ c. if c then r .processors else 0) e
 
 -- ---- sums over rows
 pub sum-where-append : (q : Row → Bool) (xs ys : List Row) → sumWhere q (xs ++ ys) ≡ sumWhere q xs + sumWhere q ys
 unfolding sumWhere
 sum-where-append q [] ys = omega arith
-sum-where-append q (r ∷ xs) ys = omega (arith, sum-where-append q xs ys)
+sum-where-append q (x ∷ xs) ys = omega (arith, sum-where-append q xs ys)
 
-pub sum-where-join : (q : Row → Bool) (g : ℕ → List Row) (n : ℕ) → sumWhere q (joinFrom g n 0) ≡ sumTo (λ k. sumWhere q (g k)) n
-sum-where-join q g zero = unfold sumTo joinFrom sumWhere in refl
-sum-where-join q g (suc n) =
-    ap (sumWhere q) (join-snoc g n 0 ∙ ap (λ k. joinFrom g n 0 ++ g k) (zero-add n)) ∙
-    (sum-where-append q (joinFrom g n 0) (g n) ∙ ap (_+ sumWhere q (g n)) (sum-where-join q g n)) ∙ (unfold sumTo in refl)
+-- tests that agree on the rows
+pub sum-where-ext : (p q : Row → Bool) (rows : List Row) → ((r : Row) → r ∈ rows → p r ≡ q r) → sumWhere p rows ≡ sumWhere q rows
+unfolding sumWhere
+sum-where-ext p q [] h = refl
+sum-where-ext p q (r ∷ rs) h = rw (h r (first-in r rs), sum-where-ext p q rs (λ x m. h x (List·Memᴰ·tail m))) refl
 
--- the row of x processors for job i of flow f in slot t
-abbrev pub rowWith : ℕ → ℕ → ℕ → ℕ → Row
-rowWith t f i x = record { slot = t; flow = f; job = i; processors = x }
+pub sum-where-none : (q : Row → Bool) (rows : List Row) → ((r : Row) → r ∈ rows → q r ≡ false) → sumWhere q rows ≡ 0
+unfolding sumWhere
+sum-where-none q [] h = refl
+sum-where-none q (r ∷ rs) h = rw (h r (first-in r rs), sum-where-none q rs (λ x m. h x (List·Memᴰ·tail m))) refl
 
-pub row-counts : (q : Row → Bool) (t f i x : ℕ) → q (rowWith t f i x) ≡ true → sumWhere q (rowFor t f i x) ≡ x
-unfolding sumWhere rowFor
-row-counts q t f i zero e = refl
-row-counts q t f i (suc x) e = rw e (omega arith)
+-- a test that passes wherever the other one does
+pub sum-where-mono : (p q : Row → Bool) (rows : List Row) → ((r : Row) → counted p r ≤ counted q r) → sumWhere p rows ≤ sumWhere q rows
+unfolding sumWhere
+sum-where-mono p q [] h = omega arith
+sum-where-mono p q (r ∷ rs) h = omega (arith, h r, sum-where-mono p q rs h)
 
-pub row-does-not-count : (q : Row → Bool) (t f i x : ℕ) → q (rowWith t f i x) ≡ false → sumWhere q (rowFor t f i x) ≡ 0
-unfolding sumWhere rowFor
-row-does-not-count q t f i zero e = refl
-row-does-not-count q t f i (suc x) e = rw e (omega arith)
+-- a test that is one of two others, never both
+pub sum-where-split : (p q s : Row → Bool) (rows : List Row) → ((r : Row) → counted p r ≡ counted q r + counted s r) →
+    sumWhere p rows ≡ sumWhere q rows + sumWhere s rows
+unfolding sumWhere
+sum-where-split p q s [] h = refl
+sum-where-split p q s (r ∷ rs) h = omega (arith, h r, sum-where-split p q s rs h)
 
-pub schedule-append : (xs ys : List Row) (f i t : ℕ) → scheduleOf (xs ++ ys) f i t ≡ scheduleOf xs f i t + scheduleOf ys f i t
+-- a row that counts, where the sum is not 0
+pub sum-where-met : (q : Row → Bool) (rows : List Row) → 0 < sumWhere q rows → (r : Row) × (r ∈ rows) × (q r ≡ true)
+unfolding sumWhere
+sum-where-met q [] h = absurd (not-suc-le-zero h)
+sum-where-met q (r ∷ rs) h = go (q r) refl (sum-where-met q rs)
+  where
+    go : (c : Bool) → q r ≡ c → (0 < sumWhere q rs → (x : Row) × (x ∈ rs) × (q x ≡ true)) → (x : Row) × (x ∈ r ∷ rs) × (q x ≡ true)
+    go true e ih = (r, first-in r rs, e)
+    go false e ih = let w = ih (omega (arith, counted-false q r e)) in (w .0, List·Memᴰ·tail (w .1), w .2)
+
+-- the first k rows, and then one more
+pub sum-where-next : (q : Row → Bool) (rows : List Row) (k : ℕ) (d : Row) → k < length rows → sumWhere q (take (suc k) rows) ≡ sumWhere q (take k rows) + counted q (getD rows k d)
+unfolding sumWhere
+sum-where-next q rows k d h = rw (take-suc rows k d h, sum-where-append q (take k rows) (getD rows k d ∷ [])) (omega arith)
+
+pub sum-where-take : (q : Row → Bool) (rows : List Row) (k : ℕ) → sumWhere q (take k rows) ≤ sumWhere q rows
+unfolding sumWhere
+sum-where-take q rows zero = omega arith
+sum-where-take q [] (suc k) = omega arith
+sum-where-take q (r ∷ rs) (suc k) = omega (arith, sum-where-take q rs k)
+
+-- ---- the schedule that rows state
+-- the row is one of job i of flow f in slot t
+abbrev pub isAt : ℕ → ℕ → ℕ → Row → Bool
+isAt f i t r = isOf f i r && eqb (r .slot) t
+
+-- the row has the flow, the job and the slot
+pub record IsAt (f i t : ℕ) (r : Row) : Type 0 where
+  pub of-flow : r .flow ≡ f
+  pub of-job : r .job ≡ i
+  pub of-slot : r .slot ≡ t
+
+pub is-at : (f i t : ℕ) (r : Row) → isAt f i t r ≡ true → IsAt f i t r
+is-at f i t r e =
+    let both = and-eq-true-iff (isOf f i r) (eqb (r .slot) t) .0 e in
+    let of = and-eq-true-iff (eqb (r .flow) f) (eqb (r .job) i) .0 (both .0) in
+    record { of-flow = eqb-true (r .flow) f (of .0); of-job = eqb-true (r .job) i (of .1); of-slot = eqb-true (r .slot) t (both .1) }
+
+pub at-is : (f i t : ℕ) (r : Row) → IsAt f i t r → isAt f i t r ≡ true
+at-is f i t r s =
+    and-eq-true-iff (isOf f i r) (eqb (r .slot) t) .1
+    (and-eq-true-iff (eqb (r .flow) f) (eqb (r .job) i) .1 (eq-eqb (r .flow) f (s .of-flow), eq-eqb (r .job) i (s .of-job)), eq-eqb (r .slot) t (s .of-slot))
+
+pub not-at : (f i t : ℕ) (r : Row) → (IsAt f i t r → ⊥) → isAt f i t r ≡ false
+not-at f i t r n = go (isAt f i t r) refl
+  where
+    go : (c : Bool) → isAt f i t r ≡ c → isAt f i t r ≡ false
+    go true e = absurd (n (is-at f i t r e))
+    go false e = e
+
+pub schedule-none : (rows : List Row) (f i t : ℕ) → ((r : Row) → r ∈ rows → IsAt f i t r → ⊥) → scheduleOf rows f i t ≡ 0
 unfolding scheduleOf
-schedule-append xs ys f i t = sum-where-append (λ r. isOf f i r && eqb (r .slot) t) xs ys
+schedule-none rows f i t h = sum-where-none (isAt f i t) rows (λ r m. not-at f i t r (h r m))
 
-pub used-append : (xs ys : List Row) (t : ℕ) → usedIn (xs ++ ys) t ≡ usedIn xs t + usedIn ys t
-unfolding usedIn
-used-append xs ys t = sum-where-append (λ r. eqb (r .slot) t) xs ys
+pub schedule-met : (rows : List Row) (f i t : ℕ) → 0 < scheduleOf rows f i t → (r : Row) × (r ∈ rows) × IsAt f i t r
+unfolding scheduleOf
+schedule-met rows f i t h = let w = sum-where-met (isAt f i t) rows h in (w .0, w .1, is-at f i t (w .0) (w .2))
 
--- ---- the rows of flow f, with τ i t processors for job i in slot t, for n slots and m jobs
-unfoldable pub flowGrid : ℕ → ℕ → ℕ → (ℕ → ℕ → ℕ) → List Row
-flowGrid f m n τ = joinFrom (λ t. joinFrom (λ i. rowFor t f i (τ i t)) m 0) n 0
-
--- a row of another flow, job or slot
-other-row : (g f k i u t : ℕ) → (g ≡ f → k ≡ i → u ≡ t → ⊥) → (eqb g f && eqb k i && eqb u t) ≡ false
-other-row g f k i u t ne = go (eqb g f) refl (eqb k i) refl (eqb u t) refl
+-- "what job i of flow f has before slot t", added slot by slot
+pub sum-schedule : (rows : List Row) (f i t : ℕ) → sumTo (scheduleOf rows f i) t ≡ doneBefore rows f i t
+unfolding sumTo doneBefore scheduleOf
+sum-schedule rows f i zero = sym (sum-where-none (λ r. isOf f i r && ltb (r .slot) 0) rows (λ r m. rw (le-ltb (r .slot) 0 (omega arith)) (and-false (isOf f i r))))
+sum-schedule rows f i (suc t) = omega (arith, sum-schedule rows f i t, next)
   where
-    go : (a : Bool) → eqb g f ≡ a → (b : Bool) → eqb k i ≡ b → (c : Bool) → eqb u t ≡ c → (a && b && c) ≡ false
-    go true x true y true z = absurd (ne (eqb-true g f x) (eqb-true k i y) (eqb-true u t z))
-    go true x true y false z = refl
-    go true x false y c z = refl
-    go false x b y c z = refl
+    earlier : ℕ → Row → Bool
+    earlier n r = isOf f i r && ltb (r .slot) n
 
-module _ (f m n : ℕ) (τ : ℕ → ℕ → ℕ) where
-  grid-sum : (q : Row → Bool) → sumWhere q (flowGrid f m n τ) ≡ sumTo (λ t. sumTo (λ i. sumWhere q (rowFor t f i (τ i t))) m) n
-  unfolding flowGrid
-  grid-sum q =
-      sum-where-join q (λ t. joinFrom (λ i. rowFor t f i (τ i t)) m 0) n ∙
-      sum-ext _ _ n (λ t l. sum-where-join q (λ i. rowFor t f i (τ i t)) m)
+    one-more : (r : Row) (c : Bool) → (o : (r .slot < t) ⊎ (t ≤ r .slot)) → (p : (r .slot < suc t) ⊎ (suc t ≤ r .slot)) →
+        (if c && ltb (r .slot) (suc t) then r .processors else 0)
+        ≡ (if c && ltb (r .slot) t then r .processors else 0) + (if c && eqb (r .slot) t then r .processors else 0)
+    one-more r false o p = refl
+    one-more r true (inl l) p =
+        rw (lt-ltb (r .slot) t l, lt-ltb (r .slot) (suc t) (omega arith), ne-eqb (r .slot) t (λ e. omega arith)) (omega arith)
+    one-more r true (inr l) (inl m) =
+        rw (le-ltb (r .slot) t l, lt-ltb (r .slot) (suc t) m, eq-eqb (r .slot) t (omega arith)) (omega arith)
+    one-more r true (inr l) (inr m) =
+        rw (le-ltb (r .slot) t l, le-ltb (r .slot) (suc t) m, ne-eqb (r .slot) t (λ e. omega arith)) refl
 
-  -- what the rows state for a job and a slot of theirs
-  pub grid-states : (i t : ℕ) → i < m → t < n → scheduleOf (flowGrid f m n τ) f i t ≡ τ i t
-  unfolding scheduleOf
-  grid-states i t l b =
-      grid-sum mine ∙
-      sum-one (λ u. sumTo (λ k. sumWhere mine (rowFor u f k (τ k u))) m) n t b
-      (λ u c ne. sum-nothing _ m (λ k d. row-does-not-count mine u f k (τ k u) (other-row f f k i u t (λ x y. ne)))) ∙
-      sum-one (λ k. sumWhere mine (rowFor t f k (τ k t))) m i l
-      (λ k c ne. row-does-not-count mine t f k (τ k t) (other-row f f k i t t (λ x y z. ne y))) ∙
-      row-counts mine t f i (τ i t) (rw (eq-eqb f f refl, eq-eqb i i refl, eq-eqb t t refl) refl)
-    where
-      mine : Row → Bool
-      mine r = isOf f i r && eqb (r .slot) t
+    next : sumWhere (earlier (suc t)) rows ≡ sumWhere (earlier t) rows + scheduleOf rows f i t
+    next =
+        sum-where-split (earlier (suc t)) (earlier t) (isAt f i t) rows
+        (λ r. one-more r (isOf f i r) (lt-or-ge (r .slot) t) (lt-or-ge (r .slot) (suc t)))
 
-  -- and nothing for another flow, job or slot
-  pub grid-states-nothing : (g i t : ℕ) → (g ≡ f → i < m → t < n → ⊥) → scheduleOf (flowGrid f m n τ) g i t ≡ 0
-  unfolding scheduleOf
-  grid-states-nothing g i t ne =
-      grid-sum (λ r. isOf g i r && eqb (r .slot) t) ∙
-      sum-nothing _ n (λ u c. sum-nothing _ m (λ k d. row-does-not-count (λ r. isOf g i r && eqb (r .slot) t) u f k (τ k u)
-      (other-row f g k i u t (λ x y z. ne (sym x) (rw y at d) (rw z at c)))))
-
-  -- the use of a slot
-  pub grid-used : (t : ℕ) → t < n → usedIn (flowGrid f m n τ) t ≡ sumTo (λ i. τ i t) m
-  unfolding usedIn
-  grid-used t b =
-      grid-sum (λ r. eqb (r .slot) t) ∙
-      sum-one (λ u. sumTo (λ k. sumWhere (λ r. eqb (r .slot) t) (rowFor u f k (τ k u))) m) n t b
-      (λ u c ne. sum-nothing _ m (λ k d. row-does-not-count (λ r. eqb (r .slot) t) u f k (τ k u) (ne-eqb u t ne))) ∙
-      sum-ext _ _ m (λ k d. row-counts (λ r. eqb (r .slot) t) t f k (τ k t) (eq-eqb t t refl))
-
-  pub grid-not-used : (t : ℕ) → n ≤ t → usedIn (flowGrid f m n τ) t ≡ 0
-  unfolding usedIn
-  grid-not-used t b =
-      grid-sum (λ r. eqb (r .slot) t) ∙
-      sum-nothing _ n (λ u c. sum-nothing _ m (λ k d. row-does-not-count (λ r. eqb (r .slot) t) u f k (τ k u) (ne-eqb u t (λ (e : u ≡ t). omega arith))))
-
--- ---- a property of every row
-abbrev pub EachRow : (Row → Type 0) → List Row → Type 0
-EachRow Q [] = Unit {0}
-EachRow Q (r ∷ rs) = Q r × EachRow Q rs
-
-pub each-append : (Q : Row → Type 0) (xs ys : List Row) → EachRow Q xs → EachRow Q ys → EachRow Q (xs ++ ys)
-each-append Q [] ys a b = b
-each-append Q (r ∷ xs) ys a b = (a .0, each-append Q xs ys (a .1) b)
-
-pub each-join : (Q : Row → Type 0) (g : ℕ → List Row) (n : ℕ) → ((k : ℕ) → k < n → EachRow Q (g k)) → EachRow Q (joinFrom g n 0)
-each-join Q g zero h = unfold joinFrom in tt
-each-join Q g (suc n) h =
-    rw (join-snoc g n 0, zero-add n) (each-append Q (joinFrom g n 0) (g n) (each-join Q g n (λ k l. h k (omega arith))) (h n (omega arith)))
-
-pub each-mono : (Q R : Row → Type 0) (xs : List Row) → ((r : Row) → Q r → R r) → EachRow Q xs → EachRow R xs
-each-mono Q R [] h a = tt
-each-mono Q R (r ∷ xs) h a = (h r (a .0), each-mono Q R xs h (a .1))
-
-pub each-grid : (Q : Row → Type 0) (f m n : ℕ) (τ : ℕ → ℕ → ℕ) → ((i t : ℕ) → i < m → t < n → 0 < τ i t → Q (rowWith t f i (τ i t))) →
-    EachRow Q (flowGrid f m n τ)
-unfolding flowGrid
-each-grid Q f m n τ h =
-    each-join Q (λ t. joinFrom (λ i. rowFor t f i (τ i t)) m 0) n (λ t b. each-join Q (λ i. rowFor t f i (τ i t)) m (λ i l. one t i (τ i t) (h i t l b)))
+-- where every row stands before slot t, a job has its total by then
+pub total-by : (rows : List Row) (f i t : ℕ) → ((r : Row) → r ∈ rows → r .slot < t) → doneBefore rows f i t ≡ totalOf rows f i
+unfolding doneBefore totalOf
+total-by rows f i t h =
+    sum-where-ext (λ r. isOf f i r && ltb (r .slot) t) (λ r. isOf f i r) rows
+    (λ r m. ap (isOf f i r &&_) (lt-ltb (r .slot) t (h r m)) ∙ and-true (isOf f i r))
   where
-    one : (t i x : ℕ) → (0 < x → Q (rowWith t f i x)) → EachRow Q (rowFor t f i x)
-    one t i zero g = unfold rowFor in tt
-    one t i (suc x) g = unfold rowFor in (g (omega arith), tt)
+    and-true : (c : Bool) → (c && true) ≡ c
+    and-true true = refl
+    and-true false = refl
 
--- ---- the use of a slot, by flows and jobs: no row counts twice
-pub in-use-within-used : (b : Book) (rows : List Row) (t : ℕ) → inUse b (scheduleOf rows) t ≤ usedIn rows t
-unfolding inUse scheduleOf usedIn sumWhere
-in-use-within-used b [] t =
-    omega (arith, sum-nothing (λ f. sumTo (λ i. 0) (jobCount (flowOf b f))) (flowCount b) (λ f l. sum-nothing (λ i. 0) (jobCount (flowOf b f)) (λ i k. refl)))
-in-use-within-used b (r ∷ rs) t =
-    omega (
-      arith,
-      sum-ext _ _ (flowCount b) (λ f l. sum-add (own f) (λ i. scheduleOf rs f i t) (jobCount (flowOf b f))),
-      sum-add (λ f. sumTo (own f) (jobCount (flowOf b f))) (λ f. sumTo (λ i. scheduleOf rs f i t) (jobCount (flowOf b f))) (flowCount b),
-      sum-le-one (λ f. sumTo (own f) (jobCount (flowOf b f))) (flowCount b) (r .flow) here
-          (λ f ne. sum-nothing (own f) (jobCount (flowOf b f)) (λ i l. elsewhere f i (λ x y. ne (sym x))))
-          (sum-le-one (own (r .flow)) (jobCount (flowOf b (r .flow))) (r .job) here (λ i ne. elsewhere (r .flow) i (λ x y. ne (sym y))) within),
-      in-use-within-used b rs t,
-    )
+pub done-le-total : (rows : List Row) (f i t : ℕ) → doneBefore rows f i t ≤ totalOf rows f i
+unfolding doneBefore totalOf
+done-le-total rows f i t = sum-where-mono (λ r. isOf f i r && ltb (r .slot) t) (λ r. isOf f i r) rows (λ r. less (isOf f i r) (ltb (r .slot) t) (r .processors))
   where
-    here : ℕ
-    here = if eqb (r .slot) t then r .processors else 0
+    less : (c d : Bool) (n : ℕ) → (if c && d then n else 0) ≤ (if c then n else 0)
+    less true true n = omega arith
+    less true false n = omega arith
+    less false d n = omega arith
 
-    own : ℕ → ℕ → ℕ
-    own f i = if isOf f i r && eqb (r .slot) t then r .processors else 0
+-- ---- the use of a slot
+-- the row is one of a job of the book
+pub record InBook (b : Book) (r : Row) : Type 0 where
+  pub flow-in : r .flow < flowCount b
+  pub job-in : r .job < jobCount (flowOf b (r .flow))
 
-    elsewhere : (f i : ℕ) → (r .flow ≡ f → r .job ≡ i → ⊥) → own f i ≡ 0
-    elsewhere f i ne = rw (other-row (r .flow) f (r .job) i (r .slot) t (λ x y z. ne x y)) refl
-
-    within : own (r .flow) (r .job) ≤ here
-    within = rw (eq-eqb (r .flow) (r .flow) refl, eq-eqb (r .job) (r .job) refl) (omega arith)
-
--- ---- the finish: the last used slot plus 1
--- no row of the flow stands from its finish on
-pub ends-by-finish : (rows : List Row) (f : ℕ) → EndsBy (scheduleOf rows) f (finishOf rows f)
-unfolding EndsBy scheduleOf finishOf sumWhere
-ends-by-finish [] f i t l = refl
-ends-by-finish (r ∷ rs) f i t l =
-    let later : (if isOf f i r && eqb (r .slot) t then r .processors else 0) ≡ 0 =
-    rw (other-row (r .flow) f (r .job) i (r .slot) t (λ x y z. after x z)) refl in
-    omega (arith, later, ends-by-finish rs f i t (omega arith))
+-- one row, added over all jobs of the book
+sum-row : (b : Book) (r : Row) (t : ℕ) → InBook b r →
+    sumTo (λ f. sumTo (λ i. counted (isAt f i t) r) (jobCount (flowOf b f))) (flowCount b) ≡ counted (λ q. eqb (q .slot) t) r
+sum-row b r t h =
+    sum-one (λ f. sumTo (λ i. counted (isAt f i t) r) (jobs f)) (flowCount b) (r .flow) (h .flow-in)
+    (λ f l n. sum-ext (λ i. counted (isAt f i t) r) (λ i. 0) (jobs f) (λ i m. elsewhere f i (λ s. n (sym (s .of-flow)))) ∙ sum-zero (jobs f))
+    ∙ sum-one (λ i. counted (isAt (r .flow) i t) r) (jobs (r .flow)) (r .job) (h .job-in)
+    (λ i l n. elsewhere (r .flow) i (λ s. n (sym (s .of-job))))
+    ∙ rw (eq-eqb (r .flow) (r .flow) refl, eq-eqb (r .job) (r .job) refl) refl
   where
-    after : r .flow ≡ f → r .slot ≡ t → ⊥
-    after x z = let e : (if eqb (r .flow) f then r .slot + 1 else 0) ≡ r .slot + 1 = rw (eq-eqb (r .flow) f x) refl in omega arith
+    jobs : ℕ → ℕ
+    jobs f = jobCount (flowOf b f)
 
--- and where rows have processors, the finish is at most any slot from which on the flow has none
-pub finish-least : (rows : List Row) (f d : ℕ) → EachRow (λ r. 1 ≤ r .processors) rows → EndsBy (scheduleOf rows) f d → finishOf rows f ≤ d
-unfolding EndsBy scheduleOf finishOf sumWhere
-finish-least [] f d p h = omega arith
-finish-least (r ∷ rs) f d p h =
-    let rest : finishOf rs f ≤ d = finish-least rs f d (p .1) (λ i t l. omega (arith, h i t l)) in
-    go (eqb (r .flow) f) refl rest (lt-or-ge (r .slot) d)
+    elsewhere : (f i : ℕ) → (IsAt f i t r → ⊥) → counted (isAt f i t) r ≡ 0
+    elsewhere f i n = counted-false (isAt f i t) r (not-at f i t r n)
+
+-- "the processors in use in that slot", added row by row or job by job
+pub used-in-use : (b : Book) (rows : List Row) (t : ℕ) → ((r : Row) → r ∈ rows → InBook b r) → usedIn rows t ≡ inUse b (scheduleOf rows) t
+unfolding usedIn inUse scheduleOf sumWhere
+used-in-use b [] t h =
+    sym (sum-ext (λ f. sumTo (λ i. 0) (jobCount (flowOf b f))) (λ f. 0) (flowCount b) (λ f l. sum-zero (jobCount (flowOf b f))) ∙ sum-zero (flowCount b))
+used-in-use b (r ∷ rs) t h =
+    omega (arith,
+    sum-ext (λ f. sumTo (λ i. one f i + others f i) (jobs f)) (λ f. sumTo (one f) (jobs f) + sumTo (others f) (jobs f)) (flowCount b)
+    (λ f l. sum-add (one f) (others f) (jobs f)),
+    sum-add (λ f. sumTo (one f) (jobs f)) (λ f. sumTo (others f) (jobs f)) (flowCount b),
+    sum-row b r t (h r (first-in r rs)),
+    used-in-use b rs t (λ x m. h x (List·Memᴰ·tail m)))
   where
-    go : (c : Bool) → eqb (r .flow) f ≡ c → finishOf rs f ≤ d → (r .slot < d) ⊎ (d ≤ r .slot) → max (if c then r .slot + 1 else 0) (finishOf rs f) ≤ d
-    go false e rest o = omega arith
-    go true e rest (inl l) = omega arith
-    go true e rest (inr l) =
-        let own : (if isOf f (r .job) r && eqb (r .slot) (r .slot) then r .processors else 0) ≡ r .processors =
-        rw (e, eq-eqb (r .job) (r .job) refl, eq-eqb (r .slot) (r .slot) refl) refl in
-        absurd (omega (arith, h (r .job) (r .slot) l, own, p .0))
+    jobs : ℕ → ℕ
+    jobs f = jobCount (flowOf b f)
+
+    one : ℕ → ℕ → ℕ
+    one f i = counted (isAt f i t) r
+
+    others : ℕ → ℕ → ℕ
+    others f i = sumWhere (isAt f i t) rs
+
+-- ---- finishes
+pub finish-le : (rows : List Row) (f n : ℕ) → ((r : Row) → r ∈ rows → r .slot < n) → finishOf rows f ≤ n
+unfolding finishOf
+finish-le [] f n h = omega arith
+finish-le (r ∷ rs) f n h = go (eqb (r .flow) f) (h r (first-in r rs)) (finish-le rs f n (λ x m. h x (List·Memᴰ·tail m)))
+  where
+    go : (c : Bool) → r .slot < n → finishOf rs f ≤ n → max (if c then r .slot + 1 else 0) (finishOf rs f) ≤ n
+    go true l ih = omega arith
+    go false l ih = omega arith

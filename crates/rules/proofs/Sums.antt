@@ -183,14 +183,6 @@ sum-one f (suc n) k l h = go (eq-or-lt-of-le (le-of-suc-le-suc l)) (λ q. sum-on
     go (inl e) ih = omega (arith, ap f e, sum-nothing f n (λ i b. h i (omega arith) (λ (q : i ≡ k). omega arith)))
     go (inr q) ih = omega (arith, ih q, h n (omega arith) (λ (e : n ≡ k). omega arith))
 
--- the one term that counts bounds the sum
-pub sum-le-one : (f : ℕ → ℕ) (n k x : ℕ) → ((i : ℕ) → (i ≡ k → ⊥) → f i ≡ 0) → f k ≤ x → sumTo f n ≤ x
-sum-le-one f n k x h b = go (lt-or-ge k n)
-  where
-    go : (k < n) ⊎ (n ≤ k) → sumTo f n ≤ x
-    go (inl l) = omega (arith, sum-one f n k l (λ i c ne. h i ne))
-    go (inr l) = omega (arith, sum-nothing f n (λ i c. h i (λ (e : i ≡ k). omega arith)))
-
 -- terms at places that differ are part of the whole sum
 pub sum-distinct : (f at : ℕ → ℕ) (m n : ℕ) → ((k : ℕ) → k < m → at k < n) → ((j k : ℕ) → j < m → k < m → at j ≡ at k → j ≡ k) →
     sumTo (λ k. f (at k)) m ≤ sumTo f n
