@@ -5,7 +5,7 @@ use Prim.Native.Nat.{ℕ, suc, _+_, _*_, _/_, _≤_, _<_}
 use mathlib.Core.List.{List}
 use native.Mathlib.Nat.{le-trans}
 use native.Mathlib.Omega.{arith}
-use Rattle.rules.specs.Book.{Flow, Book, flowCount, flowOf, InRange}
+use Rattle.rules.specs.Book.{Book, flowCount, flowOf, InRange}
 use Rattle.rules.specs.Ideal.{path}
 use Rattle.rules.specs.Rows.{Row, finishOf}
 use Rattle.rules.specs.Schedule.{Schedule, everyFlow, Valid, EndsBy, scheduleOf}
@@ -14,7 +14,7 @@ use Rattle.rules.specs.Demands.{PlannedWell, NoneOnTime}
 use Rattle.rules.proofs.Greedy.{unitsLeftAt}
 use Rattle.rules.proofs.Necessity.{worksUpTo}
 use Rattle.rules.proofs.FlowRows.{ends-by-finish}
-use Rattle.rules.proofs.PlannedRows.{servedAt, flowAt, freeFor, placing-stops}
+use Rattle.rules.proofs.PlannedRows.{servedAt, servedFlow, freeFor, placing-stops}
 use Rattle.rules.proofs.PlannedValid.{all-placed, planned-valid, first-within-twice, first-finish-within-twice}
 use Rattle.rules.proofs.Infeasible.{stopped-proves, quote-at, first-finish-within-quote}
 
@@ -25,12 +25,9 @@ planned-well b range rows e = record {
   within-twice = λ f l. first-within-twice b range (flowCount b) rows (omega arith) (all-placed b range rows e) f;
 }
 
--- each finish is within twice the deadline, and from its finish on a flow has nothing
+-- each finish, the flow's last used slot plus 1, is within twice its deadline
 pub planned-finish-within-twice : (b : Book) → InRange b → (rows : List Row) → plan b ≡ planned rows → (f : ℕ) → finishOf rows f ≤ 2 * flowOf b f .deadline
 planned-finish-within-twice b range rows e = first-finish-within-twice b range (flowCount b) rows (omega arith) (all-placed b range rows e)
-
-pub planned-ends-by-finish : (b : Book) (rows : List Row) → plan b ≡ planned rows → (f : ℕ) → EndsBy (scheduleOf rows) f (finishOf rows f)
-planned-ends-by-finish b rows e f = ends-by-finish rows f
 
 -- "no whole-slot schedule of that flow and those before it, whoever made it, keeps the same rules and ends each of them by its own deadline"
 pub infeasible-proves : (b : Book) → InRange b → (f : ℕ) → plan b ≡ infeasible f → (f < flowCount b) × NoneOnTime b f
@@ -45,10 +42,10 @@ on-time-plan b range rows e h = (scheduleOf rows, planned-valid b range rows e, 
 
 -- the flow at place n of the service order, while work of it is left: fewer slots have passed than its path and the area of the flows up to it
 pub quote : (b : Book) → InRange b → (n : ℕ) (earlier : List Row) → n < flowCount b → placeFirst b n ≡ planned earlier → (t : ℕ) →
-    0 < unitsLeftAt (flowAt b n) (freeFor b n) t → t < path (flowAt b n) + worksUpTo (flowAt b) (suc n) / b .processors
+    0 < unitsLeftAt (servedFlow b n) (freeFor b n) t → t < path (servedFlow b n) + worksUpTo (servedFlow b) (suc n) / b .processors
 quote b range = quote-at b range
 
 -- so its finish is within that
 pub planned-finish-within-quote : (b : Book) → InRange b → (rows : List Row) → plan b ≡ planned rows → (n : ℕ) → n < flowCount b →
-    finishOf rows (servedAt b n) ≤ path (flowAt b n) + worksUpTo (flowAt b) (suc n) / b .processors
+    finishOf rows (servedAt b n) ≤ path (servedFlow b n) + worksUpTo (servedFlow b) (suc n) / b .processors
 planned-finish-within-quote b range rows e n l = first-finish-within-quote b range (flowCount b) rows (omega arith) (all-placed b range rows e) n l

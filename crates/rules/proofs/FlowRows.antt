@@ -11,12 +11,12 @@ use lib.Dec.{eqb}
 use borrow.Author.Tests.{eq-eqb, ne-eqb, eqb-true}
 use Rattle.rules.specs.Walks.{if_then_else_, sumTo, joinFrom}
 use Rattle.rules.specs.Rows.{Row, rowFor, sumWhere, usedIn, finishOf}
-use Rattle.rules.specs.Schedule.{Schedule, EndsBy, scheduleOf}
+use Rattle.rules.specs.Schedule.{EndsBy, scheduleOf}
 use Rattle.rules.proofs.Division.{lt-or-ge}
 use Rattle.rules.proofs.Sums.{sum-ext, sum-nothing, sum-one}
 use Rattle.rules.proofs.Walks.{join-last}
 use Rattle.rules.proofs.Rising.{_∈_, first-in, join-in}
-use Rattle.rules.proofs.RowSums.{isAt, IsAt, at-is, not-at, counted-true, counted-false, sum-where-append}
+use Rattle.rules.proofs.RowSums.{isAt, at-is, not-at, counted-true, counted-false, sum-where-append}
 use Rattle.rules.proofs.ScheduleRows.{rowWith, row-for-in}
 
 -- ---- sums over rows

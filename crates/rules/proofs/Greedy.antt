@@ -2,7 +2,7 @@
 -- A slot that leaves a processor free lowers the slots that the chain still needs by one, and no slot raises them: so while work is left, the
 -- slots left short are fewer than the path. Every other usable slot is full; summed over the slots this is the one inequality `placing-bound`.
 -- Assumes nothing.
-use mathlib.Core.Path.{_≡_, refl, sym, ap, _∙_}
+use mathlib.Core.Path.{_≡_, refl, ap}
 use Prim.Native.Nat.{ℕ, zero, suc, _+_, _*_, _-_, _/_, _≤_, _<_, min}
 use mathlib.Core.Bool.{Bool, true, false}
 use mathlib.Core.List.{List, [], _∷_}

@@ -1,24 +1,26 @@
 -- What follows from the rules.
 pub mod MarkedPlans
--- what the rules guarantee
+pub mod Demand3Values
+-- rules 1 to 3 and 5
+pub mod Ideal
+pub mod PseudoJobs
+pub mod Shares
+-- placing, what it guarantees, and what a refusal proves
 pub mod Greedy
 pub mod Necessity
 pub mod Refusal
+pub mod PlacedFlow
+pub mod PlannedRows
+pub mod PlannedValid
+pub mod PlannedTable
+pub mod Infeasible
+-- orders and rows
+pub mod ServiceOrder
 pub mod Rising
 pub mod RowOrder
 pub mod RowSums
 pub mod ScheduleRows
 pub mod FlowRows
-pub mod PlacedFlow
-pub mod PlannedRows
-pub mod PlannedValid
-pub mod Infeasible
-pub mod PlannedTable
-pub mod Demand3Values
-pub mod ServiceOrder
-pub mod Ideal
-pub mod PseudoJobs
-pub mod Shares
 -- laws that the proofs here and in the crates above cite
 pub mod Division
 pub mod Sums

@@ -1,15 +1,15 @@
 -- What any schedule needs, whoever made it: as many usable slots as the critical path, and as many processor-slots as the work.
 -- Path: by induction on the job number, a job that has its size in the slots before t ends, on endless processors, within the usable slots
 -- before t. Area: the work of flows that all end by D was given in the slots before D, at most P in each. Assumes nothing.
-use mathlib.Core.Path.{_≡_, refl, sym, ap, _∙_}
+use mathlib.Core.Path.{_≡_, refl, sym, _∙_}
 use Prim.Native.Nat.{ℕ, zero, suc, _+_, _*_, _-_, _≤_, _<_}
 use mathlib.Core.Bool.{Bool, true, false, false≢true}
 use mathlib.Core.Logic.{_⊎_, inl, inr}
 use native.Mathlib.Nat.{mul-le-mul-right, not-suc-le-zero, le-trans}
 use native.Mathlib.Omega.{arith}
 use Rattle.rules.specs.Walks.{sumTo, bit, countTo}
-use Rattle.rules.specs.Book.{Job, Flow, jobCount, jobOf, precedes}
-use Rattle.rules.specs.Ideal.{duration, startOf, endOf, path}
+use Rattle.rules.specs.Book.{Flow, jobCount, jobOf, precedes}
+use Rattle.rules.specs.Ideal.{startOf, endOf, path}
 use Rattle.rules.proofs.Division.{lt-or-ge}
 use Rattle.rules.proofs.Sums.{sum-mono, sum-up, sum-swap, sum-ext, sum-scale, sum-const}
 use Rattle.rules.proofs.Walks.{max-least}

@@ -1,20 +1,20 @@
 -- One flow placed slot by slot, job by job (rules 4 and 5): it keeps to caps, usable slots and precedence, and each job gets its exact size.
 -- What is conserved is the units still to come of each job. A predecessor is complete when its successor runs because all pseudo-jobs that are
 -- left stand, in ideal slots, at or after its end. Assumes nothing.
-use mathlib.Core.Path.{_≡_, refl, sym, ap, _∙_}
+use mathlib.Core.Path.{_≡_, refl, ap}
 use Prim.Native.Nat.{ℕ, zero, suc, _+_, _*_, _-_, _≤_, _<_}
-use mathlib.Core.Bool.{Bool, true, false}
+use mathlib.Core.Bool.{Bool, true}
 use mathlib.Core.List.{List, [], _∷_}
-use native.Mathlib.Nat.{le-trans, le-refl, mul-zero}
+use native.Mathlib.Nat.{le-trans, mul-zero}
 use native.Mathlib.Omega.{arith}
 use Rattle.rules.specs.Walks.{sumTo}
-use Rattle.rules.specs.Book.{Job, Flow, jobCount, jobOf, precedes}
-use Rattle.rules.specs.Ideal.{startOf, endOf, takeOf}
-use Rattle.rules.specs.PseudoJobs.{PseudoJob, chain, rate, work}
-use Rattle.rules.specs.Placing.{Progress, share, given, afterSlot, progress}
+use Rattle.rules.specs.Book.{Flow, jobCount, jobOf, precedes}
+use Rattle.rules.specs.Ideal.{startOf, takeOf}
+use Rattle.rules.specs.PseudoJobs.{PseudoJob, chain, work}
+use Rattle.rules.specs.Placing.{share, given, afterSlot, progress}
 use Rattle.rules.proofs.Sums.{sum-zero, le-sum}
 use Rattle.rules.proofs.Ideal.{Sized, predecessor-ends-by-start, take-within-cap, take-only-from-start, take-from-end}
-use Rattle.rules.proofs.PseudoJobs.{Every, sumOver, Consecutive, chain-consecutive, chain-live, chain-size}
+use Rattle.rules.proofs.PseudoJobs.{sumOver, Consecutive, chain-consecutive, chain-live, chain-size}
 use Rattle.rules.proofs.Shares.{shareUpTo, share-up-to-nothing, share-whole, share-monotone, share-law, share-within-take, shares-sum}
 use Rattle.rules.proofs.Greedy.{Live, Underway, givenTo, givenIn, given-le-rest, given-le-rate, given-le-free, after-slot, underway}
 use Rattle.rules.proofs.Necessity.{Keeps}

@@ -1,18 +1,16 @@
 -- A plan's rows are the rows of the schedule that they state: in service order, by slot and job, and no row left out up to the last slot of a
 -- table. So the table that the planner writes is the table of a valid schedule. Assumes nothing.
 use mathlib.Core.Path.{_≡_, refl, sym, ap, subst, _∙_}
-use Prim.Native.Nat.{ℕ, zero, suc, _+_, _*_, _-_, _≤_, _<_}
-use mathlib.Core.List.{List, [], _∷_, _++_, append-nil}
-use native.Mathlib.Nat.{zero-add, add-sub-of-le}
+use Prim.Native.Nat.{ℕ, _+_, _-_, _≤_, _<_}
+use mathlib.Core.List.{List, [], _++_, append-nil}
+use native.Mathlib.Nat.{add-sub-of-le}
 use native.Mathlib.Omega.{arith}
-use lib.ListN.{getD}
 use Rattle.rules.specs.Walks.{joinFrom}
 use Rattle.rules.specs.Limits.{slots}
-use Rattle.rules.specs.Book.{Flow, Book, flowCount, jobCount, flowOf, InRange}
-use Rattle.rules.specs.Service.{serviceOrder}
+use Rattle.rules.specs.Book.{Book, flowCount, jobCount, InRange}
 use Rattle.rules.specs.Rows.{Row, rowFor, lateFlows}
 use Rattle.rules.specs.Schedule.{scheduleOf, scheduleRows, scheduleTable}
-use Rattle.rules.specs.Placing.{slotsFor, planned, placeFirst, plan}
+use Rattle.rules.specs.Placing.{slotsFor, planned, plan}
 use Rattle.rules.specs.Table.{tableBytes}
 use Rattle.rules.specs.Demands.{IsScheduleTable}
 use Rattle.rules.proofs.Walks.{join-ext, join-split}
@@ -20,7 +18,7 @@ use Rattle.rules.proofs.Rising.{Rising}
 use Rattle.rules.proofs.RowOrder.{Before}
 use Rattle.rules.proofs.ScheduleRows.{schedule-rows-rising}
 use Rattle.rules.proofs.FlowRows.{flowGrid}
-use Rattle.rules.proofs.PlannedRows.{join-nothing, servedAt, flowAt, plannedShare, plannedGrid, placed-rows, states-share, states-none-of-flow}
+use Rattle.rules.proofs.PlannedRows.{join-nothing, servedAt, servedFlow, plannedShare, plannedGrid, placed-rows, states-share, states-none-of-flow}
 use Rattle.rules.proofs.PlannedValid.{range-at, all-placed, planned-valid, planned-in-slots}
 
 -- ---- rows of a flow by slot and job
@@ -45,12 +43,12 @@ grid-longer f m n k τ l h =
     ap (joinFrom (λ t. joinFrom (λ i. rowFor t f i (τ i t)) m 0) n 0 ++_) rest ∙ append-nil (joinFrom (λ t. joinFrom (λ i. rowFor t f i (τ i t)) m 0) n 0))
 
 module _ (b : Book) (range : InRange b) (rows : List Row) (e : plan b ≡ planned rows) where
-  own-rows : (n : ℕ) → n < flowCount b → plannedGrid b n ≡ flowGrid (servedAt b n) (jobCount (flowAt b n)) slots (scheduleOf rows (servedAt b n))
+  own-rows : (n : ℕ) → n < flowCount b → plannedGrid b n ≡ flowGrid (servedAt b n) (jobCount (servedFlow b n)) slots (scheduleOf rows (servedAt b n))
   unfolding plannedGrid
   own-rows n l =
-      grid-ext (servedAt b n) (jobCount (flowAt b n)) (slotsFor (flowAt b n)) (plannedShare b n) (scheduleOf rows (servedAt b n))
+      grid-ext (servedAt b n) (jobCount (servedFlow b n)) (slotsFor (servedFlow b n)) (plannedShare b n) (scheduleOf rows (servedAt b n))
       (λ i t a c. sym (states-share b (flowCount b) rows (all-placed b range rows e) (omega arith) n i t l a c)) ∙
-      grid-longer (servedAt b n) (jobCount (flowAt b n)) (slotsFor (flowAt b n)) slots (scheduleOf rows (servedAt b n))
+      grid-longer (servedAt b n) (jobCount (servedFlow b n)) (slotsFor (servedFlow b n)) slots (scheduleOf rows (servedAt b n))
       (omega (arith, range-at b range n l .deadline-most))
       (λ i t a c. states-none-of-flow b (flowCount b) rows (all-placed b range rows e) (omega arith) n i t l (λ x y. omega arith))
 
@@ -59,7 +57,7 @@ module _ (b : Book) (range : InRange b) (rows : List Row) (e : plan b ≡ planne
   unfolding scheduleRows flowGrid
   planned-rows-are-schedule-rows =
       placed-rows b (flowCount b) rows (all-placed b range rows e) ∙
-      join-ext (plannedGrid b) (λ n. flowGrid (servedAt b n) (jobCount (flowAt b n)) slots (scheduleOf rows (servedAt b n))) (flowCount b) 0
+      join-ext (plannedGrid b) (λ n. flowGrid (servedAt b n) (jobCount (servedFlow b n)) slots (scheduleOf rows (servedAt b n))) (flowCount b) 0
       (λ n l. own-rows (0 + n) (omega arith))
 
   -- they stand in the stated order

@@ -4,20 +4,17 @@
 use mathlib.Core.Path.{_≡_, refl, sym, ap, subst, _∙_}
 use Prim.Native.Nat.{ℕ, zero, suc, _+_, _*_, _-_, _/_, _%_, _^_, _≤_, _<_}
 use mathlib.Core.Bool.{Bool, true, false, false≢true}
-use mathlib.Core.List.{List, [], _∷_, _++_}
+use mathlib.Core.List.{List}
 use mathlib.Core.Logic.{_⊎_, inl, inr}
-use native.Mathlib.Nat.{le-trans, div-eq-of-lt, zero-mod, pow-le-pow-right, not-suc-le-zero}
+use native.Mathlib.Nat.{le-trans, div-eq-of-lt, zero-mod, pow-le-pow-right}
 use native.Mathlib.Omega.{arith}
 use lib.Dec.{eqb}
-use lib.ListN.{getD}
 use borrow.Author.Tests.{eqb-true, eqb-false, eq-eqb}
-use Rattle.rules.specs.Walks.{sumTo, anyTo, joinFrom}
+use Rattle.rules.specs.Walks.{sumTo, joinFrom}
 use Rattle.rules.specs.Limits.{slots}
-use Rattle.rules.specs.Book.{Job, Flow, Book, flowCount, jobCount, flowOf, jobOf, hasBit, precedes, JobInRange, FlowInRange, InRange}
-use Rattle.rules.specs.Service.{serviceOrder}
-use Rattle.rules.specs.PseudoJobs.{chain}
+use Rattle.rules.specs.Book.{Job, Book, flowCount, jobCount, flowOf, jobOf, hasBit, precedes, JobInRange, FlowInRange, InRange}
 use Rattle.rules.specs.Rows.{Row, sumWhere, usedIn, finishOf}
-use Rattle.rules.specs.Schedule.{Schedule, everyFlow, IsJob, inUse, Valid, EndsBy, InSlots, scheduleOf}
+use Rattle.rules.specs.Schedule.{Schedule, everyFlow, IsJob, Valid, EndsBy, InSlots, scheduleOf}
 use Rattle.rules.specs.Placing.{progress, freeProcessors, slotsFor, planned, placeFirst, rowsOf, plan}
 use Rattle.rules.specs.Cut.{amongFirst}
 use Rattle.rules.proofs.Division.{lt-or-ge}
@@ -31,14 +28,13 @@ use Rattle.rules.proofs.Necessity.{flowWork, worksUpTo}
 use Rattle.rules.proofs.Rising.{_∈_, join-in}
 use Rattle.rules.proofs.RowSums.{used-in-use}
 use Rattle.rules.proofs.FlowRows.{used-append, grid-used, grid-not-used, grid-in, finish-least}
-use Rattle.rules.proofs.PlacedFlow.{shareIn, placed-together, placed-within-cap, placed-exactly, placed-in-order}
+use Rattle.rules.proofs.PlacedFlow.{placed-together, placed-within-cap, placed-exactly, placed-in-order}
 use Rattle.rules.proofs.PlannedRows.{
   servedAt,
-  flowAt,
+  servedFlow,
   freeFor,
   plannedShare,
   plannedGrid,
-  Finished,
   placed-next,
   placed-rows,
   placed-finished,
@@ -86,40 +82,40 @@ valid-among b p q σ same v = record {
     back f i j = over q p (λ g l. sym (same g l)) f i j
 
 module _ (b : Book) (range : InRange b) where
-  pub range-at : (n : ℕ) → n < flowCount b → FlowInRange (b .processors) (flowAt b n)
+  pub range-at : (n : ℕ) → n < flowCount b → FlowInRange (b .processors) (servedFlow b n)
   range-at n l = range .each-flow (servedAt b n) (service-below b n l)
 
-  pub sized-at : (n : ℕ) → n < flowCount b → Sized (flowAt b n)
+  pub sized-at : (n : ℕ) → n < flowCount b → Sized (servedFlow b n)
   sized-at n l = in-range-sized (range-at n l)
 
   -- ---- the use of slots
   -- a flow's rows use at most what the flow is given
-  grid-within-given : (n t : ℕ) → n < flowCount b → usedIn (plannedGrid b n) t ≤ givenIn (flowAt b n) (freeFor b n) t
+  grid-within-given : (n t : ℕ) → n < flowCount b → usedIn (plannedGrid b n) t ≤ givenIn (servedFlow b n) (freeFor b n) t
   unfolding plannedGrid
-  grid-within-given n t l = go (lt-or-ge t (slotsFor (flowAt b n)))
+  grid-within-given n t l = go (lt-or-ge t (slotsFor (servedFlow b n)))
     where
-      go : (t < slotsFor (flowAt b n)) ⊎ (slotsFor (flowAt b n) ≤ t) → usedIn (plannedGrid b n) t ≤ givenIn (flowAt b n) (freeFor b n) t
+      go : (t < slotsFor (servedFlow b n)) ⊎ (slotsFor (servedFlow b n) ≤ t) → usedIn (plannedGrid b n) t ≤ givenIn (servedFlow b n) (freeFor b n) t
       go (inl c) =
           omega (
             arith,
-            grid-used (servedAt b n) (jobCount (flowAt b n)) (slotsFor (flowAt b n)) (plannedShare b n) t c,
-            placed-together (flowAt b n) (freeFor b n) (sized-at n l) t,
+            grid-used (servedAt b n) (jobCount (servedFlow b n)) (slotsFor (servedFlow b n)) (plannedShare b n) t c,
+            placed-together (servedFlow b n) (freeFor b n) (sized-at n l) t,
           )
-      go (inr c) = omega (arith, grid-not-used (servedAt b n) (jobCount (flowAt b n)) (slotsFor (flowAt b n)) (plannedShare b n) t c)
+      go (inr c) = omega (arith, grid-not-used (servedAt b n) (jobCount (servedFlow b n)) (slotsFor (servedFlow b n)) (plannedShare b n) t c)
 
   grid-within-free : (n t : ℕ) → n < flowCount b → usedIn (plannedGrid b n) t ≤ freeFor b n t
   grid-within-free n t l =
       le-trans (grid-within-given n t l)
-      (given-le-free (flowAt b n) (progress (flowAt b n) (freeFor b n) t .left) (progress (flowAt b n) (freeFor b n) t .done) (freeFor b n t))
+      (given-le-free (servedFlow b n) (progress (servedFlow b n) (freeFor b n) t .left) (progress (servedFlow b n) (freeFor b n) t .done) (freeFor b n t))
 
-  grid-within-work : (n T : ℕ) → n < flowCount b → sumTo (usedIn (plannedGrid b n)) T ≤ flowWork (flowAt b n)
+  grid-within-work : (n T : ℕ) → n < flowCount b → sumTo (usedIn (plannedGrid b n)) T ≤ flowWork (servedFlow b n)
   unfolding flowWork
   grid-within-work n T l =
       omega (
         arith,
-        sum-mono (usedIn (plannedGrid b n)) (givenIn (flowAt b n) (freeFor b n)) T (λ t c. grid-within-given n t l),
-        given-and-left (flowAt b n) (freeFor b n) (chain-live (flowAt b n) (sized-at n l)) T,
-        chain-works (flowAt b n) (sized-at n l),
+        sum-mono (usedIn (plannedGrid b n)) (givenIn (servedFlow b n) (freeFor b n)) T (λ t c. grid-within-given n t l),
+        given-and-left (servedFlow b n) (freeFor b n) (chain-live (servedFlow b n) (sized-at n l)) T,
+        chain-works (servedFlow b n) (sized-at n l),
       )
 
   -- never more than P processors
@@ -137,7 +133,7 @@ module _ (b : Book) (range : InRange b) where
       ))
 
   -- and in all never more than the work of the flows
-  pub used-within-work : (k : ℕ) (rows : List Row) → k ≤ flowCount b → placeFirst b k ≡ planned rows → (T : ℕ) → sumTo (usedIn rows) T ≤ worksUpTo (flowAt b) k
+  pub used-within-work : (k : ℕ) (rows : List Row) → k ≤ flowCount b → placeFirst b k ≡ planned rows → (T : ℕ) → sumTo (usedIn rows) T ≤ worksUpTo (servedFlow b) k
   unfolding sumTo
   used-within-work zero rows h e T =
       omega (arith, sum-mono (usedIn rows) (λ t. 0) T (λ t l. rw (placed-rows b zero rows e) (unfold usedIn sumWhere joinFrom in omega arith)), sum-zero T)
@@ -158,45 +154,45 @@ module _ (b : Book) (range : InRange b) where
       within-count : n < flowCount b
       within-count = omega arith
 
-      flow-caps : (i t : ℕ) → i < jobCount (flowAt b n) → scheduleOf rows (servedAt b n) i t ≤ jobOf (flowAt b n) i .cap
-      flow-caps i t a = go (lt-or-ge t (slotsFor (flowAt b n)))
+      flow-caps : (i t : ℕ) → i < jobCount (servedFlow b n) → scheduleOf rows (servedAt b n) i t ≤ jobOf (servedFlow b n) i .cap
+      flow-caps i t a = go (lt-or-ge t (slotsFor (servedFlow b n)))
         where
-          go : (t < slotsFor (flowAt b n)) ⊎ (slotsFor (flowAt b n) ≤ t) → scheduleOf rows (servedAt b n) i t ≤ jobOf (flowAt b n) i .cap
+          go : (t < slotsFor (servedFlow b n)) ⊎ (slotsFor (servedFlow b n) ≤ t) → scheduleOf rows (servedAt b n) i t ≤ jobOf (servedFlow b n) i .cap
           go (inl c) =
-              omega (arith, states-share b k rows e h n i t l a c, placed-within-cap (flowAt b n) (freeFor b n) (sized-at n within-count) i t a)
+              omega (arith, states-share b k rows e h n i t l a c, placed-within-cap (servedFlow b n) (freeFor b n) (sized-at n within-count) i t a)
           go (inr c) = omega (arith, states-none-of-flow b k rows e h n i t l (λ x y. omega arith))
 
       -- within twice the deadline
-      flow-ends : (i t : ℕ) → slotsFor (flowAt b n) ≤ t → scheduleOf rows (servedAt b n) i t ≡ 0
+      flow-ends : (i t : ℕ) → slotsFor (servedFlow b n) ≤ t → scheduleOf rows (servedAt b n) i t ≡ 0
       flow-ends i t c = states-none-of-flow b k rows e h n i t l (λ x y. omega arith)
 
-      flow-sum : (i t : ℕ) → i < jobCount (flowAt b n) → t ≤ slotsFor (flowAt b n) → sumTo (scheduleOf rows (servedAt b n) i) t ≡ sumTo (plannedShare b n i) t
+      flow-sum : (i t : ℕ) → i < jobCount (servedFlow b n) → t ≤ slotsFor (servedFlow b n) → sumTo (scheduleOf rows (servedAt b n) i) t ≡ sumTo (plannedShare b n i) t
       flow-sum i t a c = sum-ext _ _ t (λ u d. states-share b k rows e h n i u l a (omega arith))
 
-      slots-enough : slotsFor (flowAt b n) ≤ slots
+      slots-enough : slotsFor (servedFlow b n) ≤ slots
       slots-enough = omega (arith, range-at n within-count .deadline-most)
 
-      flow-sizes : (i : ℕ) → i < jobCount (flowAt b n) → sumTo (scheduleOf rows (servedAt b n) i) slots ≡ jobOf (flowAt b n) i .size
+      flow-sizes : (i : ℕ) → i < jobCount (servedFlow b n) → sumTo (scheduleOf rows (servedAt b n) i) slots ≡ jobOf (servedFlow b n) i .size
       flow-sizes i a =
           omega (
             arith,
-            flow-sum i (slotsFor (flowAt b n)) a (omega arith),
-            placed-exactly (flowAt b n) (freeFor b n) (sized-at n within-count) i (slotsFor (flowAt b n)) a (placed-finished b k rows e n l),
-            sum-quiet (scheduleOf rows (servedAt b n) i) (slotsFor (flowAt b n)) slots (flow-ends i),
+            flow-sum i (slotsFor (servedFlow b n)) a (omega arith),
+            placed-exactly (servedFlow b n) (freeFor b n) (sized-at n within-count) i (slotsFor (servedFlow b n)) a (placed-finished b k rows e n l),
+            sum-quiet (scheduleOf rows (servedAt b n) i) (slotsFor (servedFlow b n)) slots (flow-ends i),
             sum-up (scheduleOf rows (servedAt b n) i) slots-enough,
           )
 
-      flow-precedence : (i j t : ℕ) → i < jobCount (flowAt b n) → precedes (flowAt b n) j i ≡ true → 0 < scheduleOf rows (servedAt b n) i t →
-          sumTo (scheduleOf rows (servedAt b n) j) t ≡ jobOf (flowAt b n) j .size
-      flow-precedence i j t a p g = go (lt-or-ge t (slotsFor (flowAt b n)))
+      flow-precedence : (i j t : ℕ) → i < jobCount (servedFlow b n) → precedes (servedFlow b n) j i ≡ true → 0 < scheduleOf rows (servedAt b n) i t →
+          sumTo (scheduleOf rows (servedAt b n) j) t ≡ jobOf (servedFlow b n) j .size
+      flow-precedence i j t a p g = go (lt-or-ge t (slotsFor (servedFlow b n)))
         where
           below : j < i
           below = predecessor-below (range-at n within-count .each-job i a) j p
 
-          go : (t < slotsFor (flowAt b n)) ⊎ (slotsFor (flowAt b n) ≤ t) → sumTo (scheduleOf rows (servedAt b n) j) t ≡ jobOf (flowAt b n) j .size
+          go : (t < slotsFor (servedFlow b n)) ⊎ (slotsFor (servedFlow b n) ≤ t) → sumTo (scheduleOf rows (servedAt b n) j) t ≡ jobOf (servedFlow b n) j .size
           go (inl c) =
               flow-sum j t (omega (arith, below)) (omega arith) ∙
-              placed-in-order (flowAt b n) (freeFor b n) (sized-at n within-count) i j t a below p (rw (states-share b k rows e h n i t l a c) at g)
+              placed-in-order (servedFlow b n) (freeFor b n) (sized-at n within-count) i j t a below p (rw (states-share b k rows e h n i t l a c) at g)
           go (inr c) = absurd (omega (arith, flow-ends i t c))
 
     -- a flow among the first k stands at a place below k
@@ -229,13 +225,13 @@ module _ (b : Book) (range : InRange b) where
       where
         fit : (n : ℕ) → n < k → r ∈ plannedGrid b n → RowFits b r
         fit n l g =
-            let s = grid-in (servedAt b n) (jobCount (flowAt b n)) (slotsFor (flowAt b n)) (plannedShare b n) r (unfold plannedGrid in g) in
+            let s = grid-in (servedAt b n) (jobCount (servedFlow b n)) (slotsFor (servedFlow b n)) (plannedShare b n) r (unfold plannedGrid in g) in
             subst (RowFits b) (sym (s .4))
             (record {
               flow-in = service-below b n (omega arith);
               job-in = s .3;
               processors-least = s .5;
-              processors-most = placed-within-cap (flowAt b n) (freeFor b n) (sized-at n (omega arith)) (s .2) (s .0) (s .3);
+              processors-most = placed-within-cap (servedFlow b n) (freeFor b n) (sized-at n (omega arith)) (s .2) (s .0) (s .3);
               slot-in = s .1;
             })
 

@@ -194,12 +194,14 @@ unfolding usedIn inUse scheduleOf sumWhere
 used-in-use b [] t h =
     sym (sum-ext (λ f. sumTo (λ i. 0) (jobCount (flowOf b f))) (λ f. 0) (flowCount b) (λ f l. sum-zero (jobCount (flowOf b f))) ∙ sum-zero (flowCount b))
 used-in-use b (r ∷ rs) t h =
-    omega (arith,
-    sum-ext (λ f. sumTo (λ i. one f i + others f i) (jobs f)) (λ f. sumTo (one f) (jobs f) + sumTo (others f) (jobs f)) (flowCount b)
-    (λ f l. sum-add (one f) (others f) (jobs f)),
-    sum-add (λ f. sumTo (one f) (jobs f)) (λ f. sumTo (others f) (jobs f)) (flowCount b),
-    sum-row b r t (h r (first-in r rs)),
-    used-in-use b rs t (λ x m. h x (List·Memᴰ·tail m)))
+    omega (
+      arith,
+      sum-ext (λ f. sumTo (λ i. one f i + others f i) (jobs f)) (λ f. sumTo (one f) (jobs f) + sumTo (others f) (jobs f)) (flowCount b)
+          (λ f l. sum-add (one f) (others f) (jobs f)),
+      sum-add (λ f. sumTo (one f) (jobs f)) (λ f. sumTo (others f) (jobs f)) (flowCount b),
+      sum-row b r t (h r (first-in r rs)),
+      used-in-use b rs t (λ x m. h x (List·Memᴰ·tail m)),
+    )
   where
     jobs : ℕ → ℕ
     jobs f = jobCount (flowOf b f)

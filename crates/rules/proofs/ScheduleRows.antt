@@ -87,20 +87,20 @@ module _ (b : Book) (σ : Schedule) where
   rows-of-slot-rising f t =
       rising-join (Before b) (rowsOfJob f t) (jobCount (flowOf b f)) (λ i l. row-for-rising b t f i (σ f i t))
       (λ i k l m x y p q.
-        let at-x = rows-of-job-in f t i p in
-        let at-y = rows-of-job-in f t k q in
-        same-flow-before b x y (at-x .of-flow ∙ sym (at-y .of-flow))
-        (inr (at-x .of-slot ∙ sym (at-y .of-slot), omega (arith, at-x .of-job, at-y .of-job))))
+      let at-x = rows-of-job-in f t i p in
+      let at-y = rows-of-job-in f t k q in
+      same-flow-before b x y (at-x .of-flow ∙ sym (at-y .of-flow))
+      (inr (at-x .of-slot ∙ sym (at-y .of-slot), omega (arith, at-x .of-job, at-y .of-job))))
 
   rows-of-flow-rising : (f : ℕ) → Rising (Before b) (rowsOfFlow f)
   rows-of-flow-rising f =
       rising-join (Before b) (rowsOfSlot f) slots (λ t l. rows-of-slot-rising f t)
       (λ t u l m x y p q.
-        let v = rows-of-slot-in f t p in
-        let w = rows-of-slot-in f u q in
-        let at-x = rows-of-job-in f t (v .0) (v .2) in
-        let at-y = rows-of-job-in f u (w .0) (w .2) in
-        same-flow-before b x y (at-x .of-flow ∙ sym (at-y .of-flow)) (inl (omega (arith, at-x .of-slot, at-y .of-slot))))
+      let v = rows-of-slot-in f t p in
+      let w = rows-of-slot-in f u q in
+      let at-x = rows-of-job-in f t (v .0) (v .2) in
+      let at-y = rows-of-job-in f u (w .0) (w .2) in
+      same-flow-before b x y (at-x .of-flow ∙ sym (at-y .of-flow)) (inl (omega (arith, at-x .of-slot, at-y .of-slot))))
 
   flow-of-row : (f : ℕ) {r : Row} → r ∈ rowsOfFlow f → r .flow ≡ f
   flow-of-row f m = let w = rows-of-flow-in f m in rows-of-job-in f (w .0) (w .2) (w .4) .of-flow
@@ -111,8 +111,8 @@ module _ (b : Book) (σ : Schedule) where
   schedule-rows-rising =
       rising-join (Before b) (λ n. rowsOfFlow (getD (serviceOrder b) n 0)) (flowCount b) (λ n l. rows-of-flow-rising (getD (serviceOrder b) n 0))
       (λ m n l h x y p q.
-        served-before b x y
-        (rw (flow-of-row (getD (serviceOrder b) m 0) p, flow-of-row (getD (serviceOrder b) n 0) q) (service-sorted b m n l h)))
+      served-before b x y
+      (rw (flow-of-row (getD (serviceOrder b) m 0) p, flow-of-row (getD (serviceOrder b) n 0) q) (service-sorted b m n l h)))
 
   -- "one for each slot and job where the job has at least 1 processor": each row is such a one
   pub schedule-rows-in : (r : Row) → r ∈ scheduleRows b σ → RowOf b σ r
@@ -159,14 +159,18 @@ rising-schedule b (q ∷ qs) h r m = go (List·Memᴰ·cases-cons m) (rising-sch
     go : (r ≡ q) ⊎ (r ∈ qs) → (r ∈ qs → sumWhere there qs ≡ r .processors) → (if there q then q .processors else 0) + sumWhere there qs ≡ r .processors
     go (inl e) ih =
         let at-q : IsAt (r .flow) (r .job) (r .slot) q = subst (IsAt (r .flow) (r .job) (r .slot)) e itself in
-        omega (arith,
-        counted-true there q (at-is (r .flow) (r .job) (r .slot) q at-q),
-        sum-where-none there qs (λ x n. not-at (r .flow) (r .job) (r .slot) x (other q x (h .0 x n) at-q)),
-        ap (λ x. x .processors) e)
+        omega (
+          arith,
+          counted-true there q (at-is (r .flow) (r .job) (r .slot) q at-q),
+          sum-where-none there qs (λ x n. not-at (r .flow) (r .job) (r .slot) x (other q x (h .0 x n) at-q)),
+          ap (λ x. x .processors) e,
+        )
     go (inr l) ih =
-        omega (arith,
-        counted-false there q (not-at (r .flow) (r .job) (r .slot) q (λ p. other q r (h .0 r l) p itself)),
-        ih l)
+        omega (
+          arith,
+          counted-false there q (not-at (r .flow) (r .job) (r .slot) q (λ p. other q r (h .0 r l) p itself)),
+          ih l,
+        )
 
 row-ext : (q r : Row) → q .slot ≡ r .slot → q .flow ≡ r .flow → q .job ≡ r .job → q .processors ≡ r .processors → q ≡ r
 row-ext q r s f i n =
@@ -231,8 +235,12 @@ join-length-le g n c h =
 pub schedule-rows-length : (b : Book) (σ : Schedule) → InRange b → length (scheduleRows b σ) ≤ mostJobs * slots * mostFlows
 unfolding scheduleRows
 schedule-rows-length b σ h =
-    omega (arith, join-length-le (λ n. rowsOfFlow b σ (getD (serviceOrder b) n 0)) (flowCount b) (mostJobs * slots)
-    (λ n l. flow-length (getD (serviceOrder b) n 0) (service-below b n l)), h .flows-most)
+    omega (
+      arith,
+      join-length-le (λ n. rowsOfFlow b σ (getD (serviceOrder b) n 0)) (flowCount b) (mostJobs * slots)
+          (λ n l. flow-length (getD (serviceOrder b) n 0) (service-below b n l)),
+      h .flows-most,
+    )
   where
     slot-length : (f t : ℕ) → f < flowCount b → length (rowsOfSlot b σ f t) ≤ mostJobs
     slot-length f t l =
