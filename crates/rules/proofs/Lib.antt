@@ -1,10 +1,27 @@
 -- What follows from the rules.
 pub mod MarkedPlans
 pub mod Demand3Values
+-- laws that the proofs here and in the crates above cite
+pub mod Division
+pub mod Sums
+pub mod Walks
+pub mod Faults
+pub mod Fields
+-- the reading of books
+pub mod Passing
+pub mod RoundTrip
+pub mod ServiceOrder
+pub mod CutBook
 -- rules 1 to 3 and 5
 pub mod Ideal
 pub mod PseudoJobs
 pub mod Shares
+-- rows
+pub mod Rising
+pub mod RowOrder
+pub mod RowSums
+pub mod ScheduleRows
+pub mod FlowRows
 -- placing, what it guarantees, and what a refusal proves
 pub mod Greedy
 pub mod Necessity
@@ -14,16 +31,3 @@ pub mod PlannedRows
 pub mod PlannedValid
 pub mod PlannedTable
 pub mod Infeasible
--- orders and rows
-pub mod ServiceOrder
-pub mod Rising
-pub mod RowOrder
-pub mod RowSums
-pub mod ScheduleRows
-pub mod FlowRows
--- laws that the proofs here and in the crates above cite
-pub mod Division
-pub mod Sums
-pub mod Walks
-pub mod Faults
-pub mod Fields
