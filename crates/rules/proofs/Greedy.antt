@@ -62,7 +62,7 @@ module _ (w : Flow) where
   unfolding given
   given-le-rate p done free = omega arith
 
-  pub given-le-free : (ps : List PseudoJob) (done free : ℕ) → givenTo w ps done free ≤ free
+  given-le-free : (ps : List PseudoJob) (done free : ℕ) → givenTo w ps done free ≤ free
   unfolding givenTo given
   given-le-free [] done free = omega arith
   given-le-free (p ∷ ps) done free = omega arith
@@ -157,24 +157,30 @@ unitsLeftAt w free t = unitsLeft w (progress w free t .left) (progress w free t 
 abbrev pub short : Flow → (ℕ → ℕ) → ℕ → Bool
 short w free t = ltb (givenIn w free t) (free t)
 
--- no units are left exactly where no pseudo-job is left
-pub nothing-left : (w : Flow) (ps : List PseudoJob) (done : ℕ) → Underway w ps done → unitsLeft w ps done ≡ 0 → ps ≡ []
+no-units-left : (w : Flow) (ps : List PseudoJob) (done : ℕ) → Underway w ps done → unitsLeft w ps done ≡ 0 → ps ≡ []
 unfolding unitsLeft
-nothing-left w [] done u e = refl
-nothing-left w (p ∷ ps) done u e = absurd (omega (arith, u .0))
+no-units-left w [] done u e = refl
+no-units-left w (p ∷ ps) done u e = absurd (omega (arith, u .0))
 
-pub something-left : (w : Flow) (ps : List PseudoJob) (done : ℕ) → Underway w ps done → (ps ≡ [] → ⊥) → 0 < unitsLeft w ps done
-something-left w ps done u ne = go (lt-or-ge 0 (unitsLeft w ps done))
-  where
-    go : (0 < unitsLeft w ps done) ⊎ (unitsLeft w ps done ≤ 0) → 0 < unitsLeft w ps done
-    go (inl l) = l
-    go (inr l) = absurd (ne (nothing-left w ps done u (omega arith)))
+pub given-in-le-free : (w : Flow) (free : ℕ → ℕ) (t : ℕ) → givenIn w free t ≤ free t
+given-in-le-free w free t = given-le-free w (progress w free t .left) (progress w free t .done) (free t)
 
 module _ (w : Flow) (free : ℕ → ℕ) (live : Live w (chain w)) where
   pub underway : (t : ℕ) → Underway w (progress w free t .left) (progress w free t .done)
   unfolding progress
   underway zero = fresh-underway w (chain w) live
   underway (suc t) = after-underway w (progress w free t .left) (progress w free t .done) (free t) (underway t)
+
+  -- no units are left where no pseudo-job is left, and only there
+  pub nothing-left : (t : ℕ) → unitsLeftAt w free t ≡ 0 → progress w free t .left ≡ []
+  nothing-left t e = no-units-left w (progress w free t .left) (progress w free t .done) (underway t) e
+
+  pub something-left : (t : ℕ) → (progress w free t .left ≡ [] → ⊥) → 0 < unitsLeftAt w free t
+  something-left t ne = go (lt-or-ge 0 (unitsLeftAt w free t))
+    where
+      go : (0 < unitsLeftAt w free t) ⊎ (unitsLeftAt w free t ≤ 0) → 0 < unitsLeftAt w free t
+      go (inl l) = l
+      go (inr l) = absurd (ne (nothing-left t (omega arith)))
 
   -- what the flow has had, and the units that are left, are its work
   pub given-and-left : (t : ℕ) → sumTo (givenIn w free) t + unitsLeftAt w free t ≡ worksOf w (chain w)

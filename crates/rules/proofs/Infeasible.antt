@@ -23,7 +23,7 @@ use Rattle.rules.proofs.Sums.{count-all, sum-quiet, sum-distinct}
 use Rattle.rules.proofs.Walks.{last-or}
 use Rattle.rules.proofs.PseudoJobs.{chain-live}
 use Rattle.rules.proofs.ServiceOrder.{service-below, service-sorted, service-once, service-deadlines}
-use Rattle.rules.proofs.Greedy.{unitsLeftAt, underway, something-left, nothing-left}
+use Rattle.rules.proofs.Greedy.{unitsLeftAt, something-left, nothing-left}
 use Rattle.rules.proofs.Necessity.{Keeps, CompleteBy, worksUpTo, OnTime}
 use Rattle.rules.proofs.Refusal.{refusal, quote-bound}
 use Rattle.rules.proofs.FlowRows.{finish-least}
@@ -103,9 +103,7 @@ module _ (b : Book) (range : InRange b) where
   stopped-proves f s =
       let n = s .place in
       let left : 0 < unitsLeftAt (servedFlow b n) (freeFor b n) (slotsFor (servedFlow b n)) =
-      something-left (servedFlow b n) (progress (servedFlow b n) (freeFor b n) (slotsFor (servedFlow b n)) .left)
-      (progress (servedFlow b n) (freeFor b n) (slotsFor (servedFlow b n)) .done)
-      (underway (servedFlow b n) (freeFor b n) (chain-live (servedFlow b n) (sized-at b range n (s .place-below))) (slotsFor (servedFlow b n))) (s .not-finished) in
+      something-left (servedFlow b n) (freeFor b n) (chain-live (servedFlow b n) (sized-at b range n (s .place-below))) (slotsFor (servedFlow b n)) (s .not-finished) in
       (rw (s .served) at (service-below b n (s .place-below)), rw (s .served) at (none-on-time n (s .earlier) (s .place-below) (s .placed-before) left))
 
   -- ---- the quote
@@ -130,9 +128,7 @@ module _ (b : Book) (range : InRange b) where
       where
         go : (0 < unitsLeftAt (servedFlow b n) (freeFor b n) t) ⊎ (unitsLeftAt (servedFlow b n) (freeFor b n) t ≤ 0) → progress (servedFlow b n) (freeFor b n) t .left ≡ []
         go (inl left) = let p = placed-earlier b k rows e n l in absurd (omega (arith, quote-at n (p .0) (omega arith) (p .1) t left))
-        go (inr none) =
-            nothing-left (servedFlow b n) (progress (servedFlow b n) (freeFor b n) t .left) (progress (servedFlow b n) (freeFor b n) t .done)
-            (underway (servedFlow b n) (freeFor b n) (chain-live (servedFlow b n) (sized-at b range n (omega arith))) t) (omega arith)
+        go (inr none) = nothing-left (servedFlow b n) (freeFor b n) (chain-live (servedFlow b n) (sized-at b range n (omega arith))) t (omega arith)
 
     ends-by-quote : EndsBy (scheduleOf rows) (servedAt b n) (quoteFor n)
     unfolding EndsBy

@@ -16,7 +16,7 @@ use Rattle.rules.proofs.Sums.{sum-zero, le-sum}
 use Rattle.rules.proofs.Ideal.{Sized, predecessor-ends-by-start, take-within-cap, take-only-from-start, take-from-end}
 use Rattle.rules.proofs.PseudoJobs.{sumOver, Consecutive, chain-consecutive, chain-live, chain-size}
 use Rattle.rules.proofs.Shares.{shareUpTo, share-up-to-nothing, share-whole, share-monotone, share-law, share-within-take, shares-sum}
-use Rattle.rules.proofs.Greedy.{Live, Underway, givenTo, givenIn, given-le-rest, given-le-rate, given-le-free, after-slot, underway}
+use Rattle.rules.proofs.Greedy.{Live, Underway, givenTo, givenIn, given-le-rest, given-le-rate, given-in-le-free, after-slot, underway}
 use Rattle.rules.proofs.Necessity.{Keeps}
 
 -- ---- a chain on its way: the pseudo-jobs left, and the units done of the first of them
@@ -161,7 +161,7 @@ module _ (w : Flow) (free : ℕ → ℕ) (sized : Sized w) where
         arith,
         le-sum (λ k. shareIn w free k t) (jobCount w) i b,
         placed-together t,
-        given-le-free w (progress w free t .left) (progress w free t .done) (free t),
+        given-in-le-free w free t,
       )
 
   pub placed-keeps : (usable : ℕ → Bool) → ((t : ℕ) → 0 < free t → usable t ≡ true) → Keeps w usable (shareIn w free)

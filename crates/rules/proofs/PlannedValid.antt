@@ -23,7 +23,7 @@ use Rattle.rules.proofs.Walks.{any-met, any-none, any-true}
 use Rattle.rules.proofs.Ideal.{Sized, in-range-sized}
 use Rattle.rules.proofs.PseudoJobs.{chain-live, chain-works}
 use Rattle.rules.proofs.ServiceOrder.{service-below, service-position}
-use Rattle.rules.proofs.Greedy.{givenIn, given-le-free, given-and-left}
+use Rattle.rules.proofs.Greedy.{givenIn, given-in-le-free, given-and-left}
 use Rattle.rules.proofs.Necessity.{flowWork, worksUpTo}
 use Rattle.rules.proofs.Rising.{_∈_, join-in}
 use Rattle.rules.proofs.RowSums.{used-in-use}
@@ -104,9 +104,7 @@ module _ (b : Book) (range : InRange b) where
       go (inr c) = omega (arith, grid-not-used (servedAt b n) (jobCount (servedFlow b n)) (slotsFor (servedFlow b n)) (plannedShare b n) t c)
 
   grid-within-free : (n t : ℕ) → n < flowCount b → usedIn (plannedGrid b n) t ≤ freeFor b n t
-  grid-within-free n t l =
-      le-trans (grid-within-given n t l)
-      (given-le-free (servedFlow b n) (progress (servedFlow b n) (freeFor b n) t .left) (progress (servedFlow b n) (freeFor b n) t .done) (freeFor b n t))
+  grid-within-free n t l = le-trans (grid-within-given n t l) (given-in-le-free (servedFlow b n) (freeFor b n) t)
 
   grid-within-work : (n T : ℕ) → n < flowCount b → sumTo (usedIn (plannedGrid b n)) T ≤ flowWork (servedFlow b n)
   unfolding flowWork
