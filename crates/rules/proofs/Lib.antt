@@ -1,6 +1,7 @@
 -- What follows from the rules.
 pub mod MarkedPlans
 pub mod Demand3Values
+pub mod Demand3
 -- laws that the proofs here and in the crates above cite
 pub mod Division
 pub mod Sums
