@@ -7,3 +7,4 @@ pub mod Sums
 pub mod Walks
 pub mod Faults
 pub mod Fields
+pub mod Rising
