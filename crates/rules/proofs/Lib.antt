@@ -8,3 +8,4 @@ pub mod Walks
 pub mod Faults
 pub mod Fields
 pub mod Rising
+pub mod RowOrder
