@@ -9,3 +9,4 @@ pub mod Faults
 pub mod Fields
 pub mod Rising
 pub mod RowOrder
+pub mod RowSums
