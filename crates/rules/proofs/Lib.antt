@@ -7,6 +7,9 @@ pub mod Sums
 pub mod Walks
 pub mod Faults
 pub mod Fields
+pub mod Passing
+pub mod ServiceOrder
 pub mod Rising
 pub mod RowOrder
 pub mod RowSums
+pub mod ScheduleRows

@@ -15,6 +15,7 @@ use Rattle.rules.specs.Book.{Flow, Book, flowOf}
 use Rattle.rules.specs.Service.{servedBefore}
 use Rattle.rules.specs.Rows.{Row}
 use Rattle.rules.specs.Check.{rowBefore, noRow, rises}
+use Rattle.rules.proofs.ServiceOrder.{served-earlier, earlier-served}
 use Rattle.rules.proofs.Rising.{_∈_, first-in, at-in, Rising}
 
 -- ---- one number after another
@@ -94,18 +95,9 @@ lexical-map : {a b : ℕ} {X Y : Type 0} → (X → Y) → Lexical a b X → Lex
 lexical-map h (inl l) = inl l
 lexical-map h (inr s) = inr (s .0, h (s .1))
 
--- flow g comes before flow f in service order
-pub served-lexical : (b : Book) (g f : ℕ) → servedBefore b g f ≡ true → Lexical (flowOf b g .deadline) (flowOf b f .deadline) (g < f)
-unfolding servedBefore
-served-lexical b g f e = lexical-map (ltb-true g f) (less-or-same (flowOf b g .deadline) (flowOf b f .deadline) (ltb g f) e)
-
-pub lexical-served : (b : Book) (g f : ℕ) → Lexical (flowOf b g .deadline) (flowOf b f .deadline) (g < f) → servedBefore b g f ≡ true
-unfolding servedBefore
-lexical-served b g f x = less-or-same-test (flowOf b g .deadline) (flowOf b f .deadline) (ltb g f) (lexical-map (lt-ltb g f) x)
-
 pub served-before : (b : Book) (q r : Row) → servedBefore b (q .flow) (r .flow) ≡ true → Before b q r
 unfolding Before deadlineOf
-served-before b q r e = lexical-map (λ l. inl l) (served-lexical b (q .flow) (r .flow) e)
+served-before b q r e = lexical-map (λ l. inl l) (served-earlier b (q .flow) (r .flow) e)
 
 pub same-flow-before : (b : Book) (q r : Row) → q .flow ≡ r .flow → Lexical (q .slot) (r .slot) (q .job < r .job) → Before b q r
 unfolding Before deadlineOf
@@ -135,7 +127,7 @@ before-row b q r x = go x
     later = ltb (q .slot) (r .slot) || eqb (q .slot) (r .slot) && ltb (q .job) (r .job)
 
     served : Lexical (flowOf b (q .flow) .deadline) (flowOf b (r .flow) .deadline) (q .flow < r .flow) → (servedBefore b (q .flow) (r .flow) || eqb (q .flow) (r .flow) && later) ≡ true
-    served s = or-left (servedBefore b (q .flow) (r .flow)) (eqb (q .flow) (r .flow) && later) (lexical-served b (q .flow) (r .flow) s)
+    served s = or-left (servedBefore b (q .flow) (r .flow)) (eqb (q .flow) (r .flow) && later) (earlier-served b (q .flow) (r .flow) s)
 
     go : Lexical (flowOf b (q .flow) .deadline) (flowOf b (r .flow) .deadline) (Lexical (q .flow) (r .flow) (Lexical (q .slot) (r .slot) (q .job < r .job))) → (servedBefore b (q .flow) (r .flow) || eqb (q .flow) (r .flow) && later) ≡ true
     go (inl d) = served (inl d)

@@ -97,40 +97,40 @@ sum-where-take q (r ∷ rs) (suc k) = omega (arith, sum-where-take q rs k)
 
 -- ---- the schedule that rows state
 -- the row is one of job i of flow f in slot t
-abbrev pub standsAt : ℕ → ℕ → ℕ → Row → Bool
-standsAt f i t r = isOf f i r && eqb (r .slot) t
+abbrev pub isAt : ℕ → ℕ → ℕ → Row → Bool
+isAt f i t r = isOf f i r && eqb (r .slot) t
 
 -- the row has the flow, the job and the slot
-pub record StandsAt (f i t : ℕ) (r : Row) : Type 0 where
+pub record IsAt (f i t : ℕ) (r : Row) : Type 0 where
   pub of-flow : r .flow ≡ f
   pub of-job : r .job ≡ i
   pub of-slot : r .slot ≡ t
 
-pub stands-at : (f i t : ℕ) (r : Row) → standsAt f i t r ≡ true → StandsAt f i t r
-stands-at f i t r e =
+pub is-at : (f i t : ℕ) (r : Row) → isAt f i t r ≡ true → IsAt f i t r
+is-at f i t r e =
     let both = and-eq-true-iff (isOf f i r) (eqb (r .slot) t) .0 e in
     let of = and-eq-true-iff (eqb (r .flow) f) (eqb (r .job) i) .0 (both .0) in
     record { of-flow = eqb-true (r .flow) f (of .0); of-job = eqb-true (r .job) i (of .1); of-slot = eqb-true (r .slot) t (both .1) }
 
-pub at-stands : (f i t : ℕ) (r : Row) → StandsAt f i t r → standsAt f i t r ≡ true
-at-stands f i t r s =
+pub at-is : (f i t : ℕ) (r : Row) → IsAt f i t r → isAt f i t r ≡ true
+at-is f i t r s =
     and-eq-true-iff (isOf f i r) (eqb (r .slot) t) .1
     (and-eq-true-iff (eqb (r .flow) f) (eqb (r .job) i) .1 (eq-eqb (r .flow) f (s .of-flow), eq-eqb (r .job) i (s .of-job)), eq-eqb (r .slot) t (s .of-slot))
 
-not-at : (f i t : ℕ) (r : Row) → (StandsAt f i t r → ⊥) → standsAt f i t r ≡ false
-not-at f i t r n = go (standsAt f i t r) refl
+pub not-at : (f i t : ℕ) (r : Row) → (IsAt f i t r → ⊥) → isAt f i t r ≡ false
+not-at f i t r n = go (isAt f i t r) refl
   where
-    go : (c : Bool) → standsAt f i t r ≡ c → standsAt f i t r ≡ false
-    go true e = absurd (n (stands-at f i t r e))
+    go : (c : Bool) → isAt f i t r ≡ c → isAt f i t r ≡ false
+    go true e = absurd (n (is-at f i t r e))
     go false e = e
 
-pub schedule-none : (rows : List Row) (f i t : ℕ) → ((r : Row) → r ∈ rows → StandsAt f i t r → ⊥) → scheduleOf rows f i t ≡ 0
+pub schedule-none : (rows : List Row) (f i t : ℕ) → ((r : Row) → r ∈ rows → IsAt f i t r → ⊥) → scheduleOf rows f i t ≡ 0
 unfolding scheduleOf
-schedule-none rows f i t h = sum-where-none (standsAt f i t) rows (λ r m. not-at f i t r (h r m))
+schedule-none rows f i t h = sum-where-none (isAt f i t) rows (λ r m. not-at f i t r (h r m))
 
-pub schedule-met : (rows : List Row) (f i t : ℕ) → 0 < scheduleOf rows f i t → (r : Row) × (r ∈ rows) × StandsAt f i t r
+pub schedule-met : (rows : List Row) (f i t : ℕ) → 0 < scheduleOf rows f i t → (r : Row) × (r ∈ rows) × IsAt f i t r
 unfolding scheduleOf
-schedule-met rows f i t h = let w = sum-where-met (standsAt f i t) rows h in (w .0, w .1, stands-at f i t (w .0) (w .2))
+schedule-met rows f i t h = let w = sum-where-met (isAt f i t) rows h in (w .0, w .1, is-at f i t (w .0) (w .2))
 
 -- "what job i of flow f has before slot t", added slot by slot
 pub sum-schedule : (rows : List Row) (f i t : ℕ) → sumTo (scheduleOf rows f i) t ≡ doneBefore rows f i t
@@ -154,7 +154,7 @@ sum-schedule rows f i (suc t) = omega (arith, sum-schedule rows f i t, next)
 
     next : sumWhere (earlier (suc t)) rows ≡ sumWhere (earlier t) rows + scheduleOf rows f i t
     next =
-        sum-where-split (earlier (suc t)) (earlier t) (standsAt f i t) rows
+        sum-where-split (earlier (suc t)) (earlier t) (isAt f i t) rows
         (λ r. one-more r (isOf f i r) (lt-or-ge (r .slot) t) (lt-or-ge (r .slot) (suc t)))
 
 -- where every row stands before slot t, a job has its total by then
@@ -185,19 +185,19 @@ pub record InBook (b : Book) (r : Row) : Type 0 where
 
 -- one row, added over all jobs of the book
 sum-row : (b : Book) (r : Row) (t : ℕ) → InBook b r →
-    sumTo (λ f. sumTo (λ i. counted (standsAt f i t) r) (jobCount (flowOf b f))) (flowCount b) ≡ counted (λ q. eqb (q .slot) t) r
+    sumTo (λ f. sumTo (λ i. counted (isAt f i t) r) (jobCount (flowOf b f))) (flowCount b) ≡ counted (λ q. eqb (q .slot) t) r
 sum-row b r t h =
-    sum-one (λ f. sumTo (λ i. counted (standsAt f i t) r) (jobs f)) (flowCount b) (r .flow) (h .flow-in)
-    (λ f l n. sum-ext (λ i. counted (standsAt f i t) r) (λ i. 0) (jobs f) (λ i m. elsewhere f i (λ s. n (sym (s .of-flow)))) ∙ sum-zero (jobs f))
-    ∙ sum-one (λ i. counted (standsAt (r .flow) i t) r) (jobs (r .flow)) (r .job) (h .job-in)
+    sum-one (λ f. sumTo (λ i. counted (isAt f i t) r) (jobs f)) (flowCount b) (r .flow) (h .flow-in)
+    (λ f l n. sum-ext (λ i. counted (isAt f i t) r) (λ i. 0) (jobs f) (λ i m. elsewhere f i (λ s. n (sym (s .of-flow)))) ∙ sum-zero (jobs f))
+    ∙ sum-one (λ i. counted (isAt (r .flow) i t) r) (jobs (r .flow)) (r .job) (h .job-in)
     (λ i l n. elsewhere (r .flow) i (λ s. n (sym (s .of-job))))
     ∙ rw (eq-eqb (r .flow) (r .flow) refl, eq-eqb (r .job) (r .job) refl) refl
   where
     jobs : ℕ → ℕ
     jobs f = jobCount (flowOf b f)
 
-    elsewhere : (f i : ℕ) → (StandsAt f i t r → ⊥) → counted (standsAt f i t) r ≡ 0
-    elsewhere f i n = counted-false (standsAt f i t) r (not-at f i t r n)
+    elsewhere : (f i : ℕ) → (IsAt f i t r → ⊥) → counted (isAt f i t) r ≡ 0
+    elsewhere f i n = counted-false (isAt f i t) r (not-at f i t r n)
 
 -- "the processors in use in that slot", added row by row or job by job
 pub used-in-use : (b : Book) (rows : List Row) (t : ℕ) → ((r : Row) → r ∈ rows → InBook b r) → usedIn rows t ≡ inUse b (scheduleOf rows) t
@@ -216,10 +216,10 @@ used-in-use b (r ∷ rs) t h =
     jobs f = jobCount (flowOf b f)
 
     one : ℕ → ℕ → ℕ
-    one f i = counted (standsAt f i t) r
+    one f i = counted (isAt f i t) r
 
     others : ℕ → ℕ → ℕ
-    others f i = sumWhere (standsAt f i t) rs
+    others f i = sumWhere (isAt f i t) rs
 
 -- ---- finishes
 pub finish-le : (rows : List Row) (f n : ℕ) → ((r : Row) → r ∈ rows → r .slot < n) → finishOf rows f ≤ n
