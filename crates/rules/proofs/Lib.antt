@@ -13,3 +13,4 @@ pub mod Rising
 pub mod RowOrder
 pub mod RowSums
 pub mod ScheduleRows
+pub mod TableBytes

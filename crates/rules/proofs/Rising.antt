@@ -9,7 +9,7 @@ use native.Mathlib.Omega.{arith}
 use mathlib.Core.List.{List, [], _∷_, _++_, List·Memᴰ, List·Memᴰ·head, List·Memᴰ·tail, List·Memᴰ·not-nil, List·Memᴰ·cases-cons, List·Memᴰ·append-cases, Memᴰ·append-left, Memᴰ·append-right}
 use lib.ListN.{length, getD}
 use Rattle.rules.specs.Walks.{joinFrom}
-use Rattle.rules.proofs.Walks.{last-or, join-snoc}
+use Rattle.rules.proofs.Walks.{last-or, join-last}
 
 -- x is an element of a list
 infix 20 _∈_
@@ -31,9 +31,6 @@ in-at d (List·Memᴰ·head e) = (0, omega arith, sym e)
 in-at d (List·Memᴰ·tail m) = let w = in-at d m in (suc (w .0), omega (arith, w .1), w .2)
 
 -- ---- lists joined from 0 on
-pub join-last : {A : Type 0} (g : ℕ → List A) (n : ℕ) → joinFrom g (suc n) 0 ≡ joinFrom g n 0 ++ g n
-join-last g n = let e : 0 + n ≡ n = omega arith in join-snoc g n 0 ∙ ap (λ k. joinFrom g n 0 ++ g k) e
-
 pub join-in : {A : Type 0} (g : ℕ → List A) (n : ℕ) {x : A} → x ∈ joinFrom g n 0 → (k : ℕ) × (k < n) × (x ∈ g k)
 unfolding joinFrom
 join-in g zero m = absurd (List·Memᴰ·not-nil m)

@@ -148,3 +148,7 @@ pub join-length {ℓ} : {A : Type ℓ} (g : ℕ → List A) (n s : ℕ) → leng
 unfolding sumTo joinFrom
 join-length g zero s = refl
 join-length g (suc n) s = rw (join-snoc g n s, length-append) (ap (_+ length (g (s + n))) (join-length g n s))
+
+-- the last of lists joined from 0 on
+pub join-last {ℓ} : {A : Type ℓ} (g : ℕ → List A) (n : ℕ) → joinFrom g (suc n) 0 ≡ joinFrom g n 0 ++ g n
+join-last g n = let e : 0 + n ≡ n = omega arith in join-snoc g n 0 ∙ ap (λ k. joinFrom g n 0 ++ g k) e
