@@ -14,3 +14,5 @@ pub mod RowOrder
 pub mod RowSums
 pub mod ScheduleRows
 pub mod TableBytes
+pub mod TablePasses
+pub mod AcceptedRows
