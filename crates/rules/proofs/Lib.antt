@@ -16,3 +16,4 @@ pub mod ScheduleRows
 pub mod TableBytes
 pub mod TablePasses
 pub mod AcceptedRows
+pub mod Refusals
