@@ -17,3 +17,4 @@ pub mod TableBytes
 pub mod TablePasses
 pub mod AcceptedRows
 pub mod Refusals
+pub mod AcceptsExactly
