@@ -63,6 +63,14 @@ module _ (b : Book) (range : InRange b) (σ : Schedule) (valid : Valid b everyFl
         finishes = λ f l. rw schedule-table-rows (finish-written b rows f l (omega (arith, finish-le rows f slots (λ r m. schedule-rows-in b σ r m .is-row .slot-in))));
       })
 
+-- rows that are those of the valid schedule that they state, written as a table, have no fault: so it is with what the planner writes
+pub rows-accepted : (b : Book) → InRange b → (rows : List Row) → rows ≡ scheduleRows b (scheduleOf rows) → Valid b everyFlow (scheduleOf rows) →
+    InSlots (scheduleOf rows) → (tableFault b (tableBytes b rows) ≡ Pass) × (tableRows b (tableBytes b rows) ≡ rows)
+unfolding scheduleTable
+rows-accepted b range rows same valid within =
+    (subst (λ r. tableFault b (tableBytes b r) ≡ Pass) (sym same) (schedule-table-passes b range (scheduleOf rows) valid within),
+    subst (λ r. tableRows b (tableBytes b r) ≡ r) (sym same) (schedule-table-rows b range (scheduleOf rows) valid within))
+
 -- ---- an outcome that accepts
 -- number 0 is that of a table without a fault
 module _ (b : Book) (s area : List ℕ) where

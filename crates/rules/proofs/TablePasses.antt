@@ -114,7 +114,7 @@ must-hold false n f j e = not-pass n f j e
 
 total-passes : (b : Book) (rows : List Row) (f i : ℕ) → totalFault b rows f i ≡ Pass → totalOf rows f i ≡ jobOf (flowOf b f) i .size
 unfolding totalFault
-total-passes b rows f i pass = eqb-true (totalOf rows f i) (jobOf (flowOf b f) i .size) (must-hold _ 20 f i pass)
+total-passes b rows f i pass = eqb-true (totalOf rows f i) (jobOf (flowOf b f) i .size) (must-hold (eqb (totalOf rows f i) (jobOf (flowOf b f) i .size)) 20 f i pass)
 
 passes-total : (b : Book) (rows : List Row) (f i : ℕ) → totalOf rows f i ≡ jobOf (flowOf b f) i .size → totalFault b rows f i ≡ Pass
 unfolding totalFault
@@ -122,7 +122,7 @@ passes-total b rows f i e = rw (eq-eqb (totalOf rows f i) (jobOf (flowOf b f) i 
 
 finish-passes : (s : List ℕ) (rows : List Row) (f : ℕ) → finishFault s rows f ≡ Pass → statedFinish s f ≡ finishOf rows f
 unfolding finishFault
-finish-passes s rows f pass = eqb-true (statedFinish s f) (finishOf rows f) (must-hold _ 21 f none pass)
+finish-passes s rows f pass = eqb-true (statedFinish s f) (finishOf rows f) (must-hold (eqb (statedFinish s f) (finishOf rows f)) 21 f none pass)
 
 passes-finish : (s : List ℕ) (rows : List Row) (f : ℕ) → statedFinish s f ≡ finishOf rows f → finishFault s rows f ≡ Pass
 unfolding finishFault
