@@ -113,6 +113,15 @@ job-passes s f i at e =
       };
     }
 
+-- in a flow that passes the head passes and every job
+pub flow-fault-parts : (s : List ℕ) (f at : ℕ) → flowFault s f at ≡ Pass →
+    (flowHeadFault s f at ≡ Pass) × ((i : ℕ) → i < byte s (at + 2) → jobFault s f i (jobStart at i) ≡ Pass)
+unfolding flowFault
+flow-fault-parts s f at e =
+    let jobs : ℕ → Verdict = λ i. jobFault s f i (jobStart at i) in
+    let both = both-pass (flowHeadFault s f at) (firstFault jobs (byte s (at + 2))) e in
+    (both .0, fault-pass jobs (byte s (at + 2)) (both .1))
+
 -- a flow, at `at`, that passes: its head, each of its jobs, and so all its bytes
 pub record FlowPasses (s : List ℕ) (at : ℕ) : Type 0 where
   pub head : FlowHeadPasses s at
@@ -120,17 +129,13 @@ pub record FlowPasses (s : List ℕ) (at : ℕ) : Type 0 where
   pub flow-whole : at + flowHead + jobRecord * byte s (at + 2) ≤ length s
 
 pub flow-passes : (s : List ℕ) (f at : ℕ) → flowFault s f at ≡ Pass → FlowPasses s at
-unfolding flowFault
 flow-passes s f at e = record { head = head; each = each; flow-whole = go (byte s (at + 2)) refl }
   where
-    both : (flowHeadFault s f at ≡ Pass) × (firstFault (λ i. jobFault s f i (jobStart at i)) (byte s (at + 2)) ≡ Pass)
-    both = both-pass (flowHeadFault s f at) (firstFault (λ i. jobFault s f i (jobStart at i)) (byte s (at + 2))) e
-
     head : FlowHeadPasses s at
-    head = flow-head-passes s f at (both .0)
+    head = flow-head-passes s f at (flow-fault-parts s f at e .0)
 
     each : (i : ℕ) → i < byte s (at + 2) → JobPasses s i (jobStart at i)
-    each i h = job-passes s f i (jobStart at i) (fault-pass (λ i. jobFault s f i (jobStart at i)) (byte s (at + 2)) (both .1) i h)
+    each i h = job-passes s f i (jobStart at i) (flow-fault-parts s f at e .1 i h)
 
     go : (n : ℕ) → byte s (at + 2) ≡ n → at + flowHead + jobRecord * byte s (at + 2) ≤ length s
     go zero q = omega (arith, head .flow-head-whole)
