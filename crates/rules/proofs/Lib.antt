@@ -10,3 +10,5 @@ pub mod Fields
 pub mod Passing
 -- service order lists every flow once, sorted
 pub mod ServiceOrder
+-- values in range, written, are read back
+pub mod RoundTrip
