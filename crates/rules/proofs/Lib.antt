@@ -12,3 +12,5 @@ pub mod Passing
 pub mod ServiceOrder
 -- values in range, written, are read back
 pub mod RoundTrip
+-- a book that is cut in service order
+pub mod CutBook
