@@ -3,7 +3,7 @@
 -- the same elements agree at every position, and renumbering keeps the order of service. Assumes nothing.
 use mathlib.Core.Path.{_≡_, refl, sym, ap, ap₂, _∙_}
 use Prim.Native.Nat.{ℕ, zero, suc, _+_, _≤_, _<_}
-use mathlib.Core.Bool.{Bool, true, false, _||_, false≢true}
+use mathlib.Core.Bool.{Bool, true, false, false≢true}
 use mathlib.Core.List.{List, [], _∷_}
 use mathlib.Core.Logic.{_⊎_, inl, inr, ⊎-elim}
 use native.Mathlib.Nat.{add-zero, zero-add, not-suc-le-zero, le-of-suc-le-suc, eq-or-lt-of-le}
@@ -15,11 +15,11 @@ use Rattle.rules.specs.Walks.{if_then_else_, sumTo, bit, countTo, anyTo}
 use Rattle.rules.specs.Book.{Flow, Book, flowCount, noFlow, flowOf, InRange}
 use Rattle.rules.specs.Reading.{bookBytes, readBook}
 use Rattle.rules.specs.Reading.Reading.{read}
-use Rattle.rules.specs.Service.{servedBefore, serviceOrder}
+use Rattle.rules.specs.Service.{servedBefore}
 use Rattle.rules.specs.Cut.{amongFirst, keepFlows, cut}
-use Rattle.rules.proofs.Sums.{sum-ext, sum-add, sum-first, sum-le, le-sum, count-once, count-none}
-use Rattle.rules.proofs.Walks.{any-true, any-met}
-use Rattle.rules.proofs.ServiceOrder.{Earlier, served-earlier, earlier-served, service-below, service-position, service-sorted, service-once, SortedTo, EachIn, sorted-agree}
+use Rattle.rules.proofs.Sums.{sum-ext, sum-add, sum-first, count-none, count-most, count-equal, bit-or}
+use Rattle.rules.proofs.Walks.{next-start, any-true, any-met}
+use Rattle.rules.proofs.ServiceOrder.{Earlier, served-earlier, earlier-served, service-below, service-position, service-sorted, service-once, servedAt, SortedTo, EachIn, sorted-agree}
 use Rattle.rules.proofs.RoundTrip.{read-written}
 
 -- ---- the numbers that pass a test
@@ -41,7 +41,7 @@ count-next : (q : ℕ → Bool) (s n : ℕ) → countTo (λ i. q (s + i)) (suc n
 count-next q s n =
     sum-first (λ i. bit (q (s + i))) n
     ∙ ap₂ _+_ (ap (λ x. bit (q x)) (add-zero s))
-    (sum-ext (λ i. bit (q (s + suc i))) (λ i. bit (q (s + 1 + i))) n (λ i l. ap (λ x. bit (q x)) (let z : s + suc i ≡ s + 1 + i = omega arith in z)))
+    (sum-ext (λ i. bit (q (s + suc i))) (λ i. bit (q (s + 1 + i))) n (λ i l. ap (λ x. bit (q x)) (next-start s i)))
 
 pub chosen-laws : (q : ℕ → Bool) (n s : ℕ) → Chosen q n s (chosen q n s)
 unfolding chosen sumTo
@@ -97,13 +97,15 @@ chosen-laws q (suc n) s = go (q s) refl (chosen q n (s + 1)) (chosen-laws q n (s
     }
 
 -- ---- the flows that are kept
+-- as many flows are kept as numbers are chosen
 pub keep-length : (q : ℕ → Bool) (s : ℕ) (ws : List Flow) → length (keepFlows q s ws) ≡ length (chosen q (length ws) s)
 unfolding keepFlows chosen
 keep-length q s [] = refl
 keep-length q s (w ∷ ws) = go (q s) (keep-length q (s + 1) ws)
   where
     go : (t : Bool) → length (keepFlows q (s + 1) ws) ≡ length (chosen q (length ws) (s + 1)) →
-        length (if t then w ∷ keepFlows q (s + 1) ws else keepFlows q (s + 1) ws) ≡ length (if t then s ∷ chosen q (length ws) (s + 1) else chosen q (length ws) (s + 1))
+        length (if t then w ∷ keepFlows q (s + 1) ws else keepFlows q (s + 1) ws)
+        ≡ length (if t then s ∷ chosen q (length ws) (s + 1) else chosen q (length ws) (s + 1))
     go true ih = ap suc ih
     go false ih = ih
 
@@ -113,7 +115,7 @@ pub keep-at : (q : ℕ → Bool) (g : ℕ → Flow) (s : ℕ) (ws : List Flow) �
 unfolding keepFlows chosen
 keep-at q g s [] h n l = absurd (not-suc-le-zero l)
 keep-at q g s (w ∷ ws) h n l =
-    go (q s) n l (keep-at q g (s + 1) ws (λ i m. h (suc i) (omega arith) ∙ ap g (let z : s + suc i ≡ s + 1 + i = omega arith in z)))
+    go (q s) n l (keep-at q g (s + 1) ws (λ i m. h (suc i) (omega arith) ∙ ap g (next-start s i)))
   where
     go : (t : Bool) (n : ℕ) → n < length (if t then s ∷ chosen q (length ws) (s + 1) else chosen q (length ws) (s + 1)) →
         ((n : ℕ) → n < length (chosen q (length ws) (s + 1)) → getD (keepFlows q (s + 1) ws) n noFlow ≡ g (getD (chosen q (length ws) (s + 1)) n 0)) →
@@ -122,10 +124,6 @@ keep-at q g s (w ∷ ws) h n l =
     go true zero m ih = h 0 (omega arith) ∙ ap g (add-zero s)
     go true (suc n) m ih = ih n (le-of-suc-le-suc m)
     go false n m ih = ih n m
-
-bit-most : (t : Bool) → bit t ≤ 1
-bit-most true = omega arith
-bit-most false = omega arith
 
 -- ---- the renumbering
 -- the number in the whole book of flow n of the book cut after k
@@ -140,6 +138,7 @@ module _ (b : Book) (k : ℕ) where
   unfolding cut
   cut-length = keep-length (amongFirst b k) 0 (b .flows)
 
+  -- flow n of the cut book is a flow of the whole book, among the first k
   pub kept-below : (n : ℕ) → n < flowCount (cut b k) → kept b k n < flowCount b
   unfolding kept
   kept-below n l = omega (arith, chosen-here .each-below n (omega (arith, cut-length)))
@@ -160,18 +159,21 @@ module _ (b : Book) (k : ℕ) where
       let w = chosen-here .found f (omega arith) (omega arith) e in
       (w .0, omega (arith, w .1, cut-length), w .2)
 
+  -- flow n of the cut book is that flow
   pub cut-flow : (n : ℕ) → n < flowCount (cut b k) → flowOf (cut b k) n ≡ flowOf b (kept b k n)
   unfolding cut kept flowOf
   cut-flow n l =
-      keep-at (amongFirst b k) (λ f. getD (b .flows) f noFlow) 0 (b .flows) (λ i m. ap (λ f. getD (b .flows) f noFlow) (sym (zero-add i))) n (omega (arith, cut-length))
+      let numbered : ℕ → Flow = λ f. getD (b .flows) f noFlow in
+      keep-at (amongFirst b k) numbered 0 (b .flows) (λ i m. ap numbered (sym (zero-add i))) n (omega (arith, cut-length))
 
   pub cut-processors : cut b k .processors ≡ b .processors
   unfolding cut
   cut-processors = refl
 
   pub cut-at-most : flowCount (cut b k) ≤ flowCount b
-  cut-at-most = omega (arith, cut-length, chosen-here .count, sum-le (λ i. bit (amongFirst b k (0 + i))) 1 (flowCount b) (λ i l. bit-most (amongFirst b k (0 + i))))
+  cut-at-most = omega (arith, cut-length, chosen-here .count, count-most (λ i. amongFirst b k (0 + i)) (flowCount b))
 
+  -- a book in range stays so when it is cut
   pub cut-in-range : InRange b → InRange (cut b k)
   cut-in-range r = record {
     processors-least = rw cut-processors (r .processors-least);
@@ -185,55 +187,42 @@ pub cut-reads : (b : Book) (k : ℕ) → InRange b → readBook (bookBytes (cut 
 cut-reads b k r = read-written (cut b k) (cut-in-range b k r)
 
 -- ---- how many flows are kept
-pub among-position : (b : Book) (k f : ℕ) → amongFirst b k f ≡ true → (n : ℕ) × (n < k) × (getD (serviceOrder b) n 0 ≡ f)
+-- the flows among the first k are those at the positions below k
+pub among-position : (b : Book) (k f : ℕ) → amongFirst b k f ≡ true → (n : ℕ) × (n < k) × (servedAt b n ≡ f)
 unfolding amongFirst
 among-position b k f e =
-    let w = any-met (λ n. eqb (getD (serviceOrder b) n 0) f) k e in
-    (w .0, w .1, eqb-true (getD (serviceOrder b) (w .0) 0) f (w .2))
+    let w = any-met (λ n. eqb (servedAt b n) f) k e in
+    (w .0, w .1, eqb-true (servedAt b (w .0)) f (w .2))
 
-pub position-among : (b : Book) (k n : ℕ) → n < k → amongFirst b k (getD (serviceOrder b) n 0) ≡ true
+pub position-among : (b : Book) (k n : ℕ) → n < k → amongFirst b k (servedAt b n) ≡ true
 unfolding amongFirst
 position-among b k n l =
-    any-true (λ m. eqb (getD (serviceOrder b) m 0) (getD (serviceOrder b) n 0)) k n l (eq-eqb (getD (serviceOrder b) n 0) (getD (serviceOrder b) n 0) refl)
-
--- one number below n equals x
-count-equal : (x n : ℕ) → x < n → countTo (λ f. eqb x f) n ≡ 1
-count-equal x n l =
-    omega (
-      arith,
-      count-once (λ f. eqb x f) n (λ t u p q. sym (eqb-true x t p) ∙ eqb-true x u q),
-      le-sum (λ f. bit (eqb x f)) n x l,
-      ap bit (eq-eqb x x refl),
-    )
-
-bit-or : (x y : Bool) → (x ≡ true → y ≡ true → ⊥) → bit (x || y) ≡ bit x + bit y
-bit-or true true h = absurd (h refl refl)
-bit-or true false h = refl
-bit-or false y h = sym (zero-add (bit y))
+    any-true (λ m. eqb (servedAt b m) (servedAt b n)) k n l (eq-eqb (servedAt b n) (servedAt b n) refl)
 
 -- the flow at position k is not among the first k, so that each position adds one
-among-next : (b : Book) (k f : ℕ) → k < flowCount b → bit (amongFirst b (suc k) f) ≡ bit (amongFirst b k f) + bit (eqb (getD (serviceOrder b) k 0) f)
+among-next : (b : Book) (k f : ℕ) → k < flowCount b → bit (amongFirst b (suc k) f) ≡ bit (amongFirst b k f) + bit (eqb (servedAt b k) f)
 unfolding amongFirst anyTo
-among-next b k f l = bit-or (amongFirst b k f) (eqb (getD (serviceOrder b) k 0) f) (λ p q. apart (among-position b k f p) (eqb-true (getD (serviceOrder b) k 0) f q))
+among-next b k f l = bit-or (amongFirst b k f) (eqb (servedAt b k) f) (λ p q. apart (among-position b k f p) (eqb-true (servedAt b k) f q))
   where
-    apart : (n : ℕ) × (n < k) × (getD (serviceOrder b) n 0 ≡ f) → getD (serviceOrder b) k 0 ≡ f → ⊥
+    apart : (n : ℕ) × (n < k) × (servedAt b n ≡ f) → servedAt b k ≡ f → ⊥
     apart w e = omega (arith, w .1, service-once b (w .0) k (omega (arith, w .1)) l (w .2 ∙ sym e))
 
 among-none : (b : Book) (f : ℕ) → amongFirst b zero f ≡ false
 unfolding amongFirst anyTo
 among-none b f = refl
 
+-- k flows are among the first k
 pub among-count : (b : Book) (k : ℕ) → k ≤ flowCount b → countTo (amongFirst b k) (flowCount b) ≡ k
 among-count b zero l = count-none (amongFirst b zero) (flowCount b) (λ f m. among-none b f)
 among-count b (suc k) l =
     let first = amongFirst b k in
-    let this : ℕ → Bool = λ f. eqb (getD (serviceOrder b) k 0) f in
+    let this : ℕ → Bool = λ f. eqb (servedAt b k) f in
     omega (
       arith,
       sum-ext (λ f. bit (amongFirst b (suc k) f)) (λ f. bit (first f) + bit (this f)) (flowCount b) (λ f m. among-next b k f l),
       sum-add (λ f. bit (first f)) (λ f. bit (this f)) (flowCount b),
       among-count b k (omega arith),
-      count-equal (getD (serviceOrder b) k 0) (flowCount b) (service-below b k l),
+      count-equal (servedAt b k) (flowCount b) (service-below b k l),
     )
 
 -- the cut book has k flows
@@ -262,33 +251,33 @@ kept-served b k m n p q e = earlier-served b (kept b k m) (kept b k n) (go (serv
 
 module _ (b : Book) (k : ℕ) (fits : k ≤ flowCount b) where
   -- the flow that the cut book serves at n, by its number there
-  cut-served-below : (n : ℕ) → n < k → getD (serviceOrder (cut b k)) n 0 < flowCount (cut b k)
+  cut-served-below : (n : ℕ) → n < k → servedAt (cut b k) n < flowCount (cut b k)
   cut-served-below n l = service-below (cut b k) n (omega (arith, cut-count b k fits))
 
-  cut-served-sorted : SortedTo b (λ n. kept b k (getD (serviceOrder (cut b k)) n 0)) k
+  cut-served-sorted : SortedTo b (λ n. kept b k (servedAt (cut b k) n)) k
   cut-served-sorted m n l h =
-      kept-served b k (getD (serviceOrder (cut b k)) m 0) (getD (serviceOrder (cut b k)) n 0) (cut-served-below m (omega arith)) (cut-served-below n h)
+      kept-served b k (servedAt (cut b k) m) (servedAt (cut b k) n) (cut-served-below m (omega arith)) (cut-served-below n h)
       (service-sorted (cut b k) m n l (omega (arith, cut-count b k fits)))
 
-  cut-served-in : EachIn (λ n. kept b k (getD (serviceOrder (cut b k)) n 0)) (λ n. getD (serviceOrder b) n 0) k
+  cut-served-in : EachIn (λ n. kept b k (servedAt (cut b k) n)) (λ n. servedAt b n) k
   cut-served-in n l =
-      among-position b k (kept b k (getD (serviceOrder (cut b k)) n 0)) (kept-among b k (getD (serviceOrder (cut b k)) n 0) (cut-served-below n l))
+      among-position b k (kept b k (servedAt (cut b k) n)) (kept-among b k (servedAt (cut b k) n) (cut-served-below n l))
 
-  in-cut-served : EachIn (λ n. getD (serviceOrder b) n 0) (λ n. kept b k (getD (serviceOrder (cut b k)) n 0)) k
+  in-cut-served : EachIn (λ n. servedAt b n) (λ n. kept b k (servedAt (cut b k) n)) k
   in-cut-served n l =
-      let w = among-kept b k (getD (serviceOrder b) n 0) (service-below b n (omega arith)) (position-among b k n l) in
+      let w = among-kept b k (servedAt b n) (service-below b n (omega arith)) (position-among b k n l) in
       let v = service-position (cut b k) (w .0) (w .1) in
       (v .0, omega (arith, v .1, cut-count b k fits), ap (kept b k) (v .2) ∙ w .2)
 
   -- "Cut after its first k flows in service order": the cut book's service order is the first k of the whole book's
-  pub cut-service : (n : ℕ) → n < k → kept b k (getD (serviceOrder (cut b k)) n 0) ≡ getD (serviceOrder b) n 0
+  pub cut-service : (n : ℕ) → n < k → kept b k (servedAt (cut b k) n) ≡ servedAt b n
   cut-service =
-      sorted-agree b (λ n. kept b k (getD (serviceOrder (cut b k)) n 0)) (λ n. getD (serviceOrder b) n 0) k
+      sorted-agree b (λ n. kept b k (servedAt (cut b k) n)) (λ n. servedAt b n) k
       cut-served-sorted (λ m n l h. service-sorted b m n l (omega arith)) cut-served-in in-cut-served
 
   -- the flow served at n is the same
-  pub cut-service-flow : (n : ℕ) → n < k → flowOf (cut b k) (getD (serviceOrder (cut b k)) n 0) ≡ flowOf b (getD (serviceOrder b) n 0)
-  cut-service-flow n l = cut-flow b k (getD (serviceOrder (cut b k)) n 0) (cut-served-below n l) ∙ ap (flowOf b) (cut-service n l)
+  pub cut-service-flow : (n : ℕ) → n < k → flowOf (cut b k) (servedAt (cut b k) n) ≡ flowOf b (servedAt b n)
+  cut-service-flow n l = cut-flow b k (servedAt (cut b k) n) (cut-served-below n l) ∙ ap (flowOf b) (cut-service n l)
 
 -- cut after all its flows, a book is whole
 keep-all : (q : ℕ → Bool) (s : ℕ) (ws : List Flow) → ((i : ℕ) → i < length ws → q (s + i) ≡ true) → keepFlows q s ws ≡ ws
@@ -296,7 +285,7 @@ unfolding keepFlows
 keep-all q s [] h = refl
 keep-all q s (w ∷ ws) h =
     let first : q s ≡ true = ap q (sym (add-zero s)) ∙ h 0 (omega arith) in
-    rw first (ap (w ∷_) (keep-all q (s + 1) ws (λ i l. ap q (let z : s + 1 + i ≡ s + suc i = omega arith in z) ∙ h (suc i) (omega arith))))
+    rw first (ap (w ∷_) (keep-all q (s + 1) ws (λ i l. ap q (sym (next-start s i)) ∙ h (suc i) (omega arith))))
 
 pub cut-whole : (b : Book) → cut b (flowCount b) ≡ b
 unfolding cut

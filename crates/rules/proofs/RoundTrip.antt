@@ -6,17 +6,16 @@ use mathlib.Core.List.{List, _++_}
 use native.Mathlib.Nat.{pow-le-pow-right}
 use native.Mathlib.Omega.{arith}
 use lib.ListN.{length, length-append}
-use lib.Seq.{ext-getD}
 use Rattle.rules.specs.declared.Verdict.the-variants.{Pass}
 use Rattle.rules.specs.Walks.{sumTo, listFrom, joinFrom}
-use Rattle.rules.specs.Fields.{byte, field, bytesOf}
+use Rattle.rules.specs.Fields.{byte, field, bytesOf, AllBytes}
 use Rattle.rules.specs.Limits.{mostProcessors, mostJobs}
 use Rattle.rules.specs.Book.{Job, Flow, Book, flowCount, jobCount, noFlow, noJob, flowOf, jobOf, JobInRange, FlowInRange, InRange}
 use Rattle.rules.specs.Reading.{bookHead, flowHead, jobRecord, flowStart, jobStart, jobAt, flowAt, bookOf, bookFault, readBook, jobBytes, flowBytes, flowsBytes, bookBytes}
 use Rattle.rules.specs.Reading.Reading.{read}
 use Rattle.rules.proofs.Sums.{sum-ext, sum-const, sum-le, sum-up}
-use Rattle.rules.proofs.Walks.{list-length, list-at, join-length}
-use Rattle.rules.proofs.Fields.{bytes-length, StandsAt, stands-whole, stands-first, stands-after, stands-join, field-written, byte-written}
+use Rattle.rules.proofs.Walks.{list-of, join-length-zero}
+use Rattle.rules.proofs.Fields.{bytes-length, StandsAt, stands-whole, stands-first, stands-after, stands-join, field-written, byte-written, bytes-of, bytes-append, bytes-join}
 use Rattle.rules.proofs.Passing.{FlowPasses, flow-no-fault, book-no-fault, pass-reads}
 
 -- ---- lengths
@@ -27,14 +26,13 @@ job-length j = simp (length-append, bytes-length)
 pub flow-length : (w : Flow) → length (flowBytes w) ≡ flowHead + jobRecord * jobCount w
 unfolding flowBytes
 flow-length w =
-    let jobs : length (joinFrom (λ i. jobBytes (jobOf w i)) (jobCount w) 0) ≡ jobRecord * jobCount w =
-    join-length (λ i. jobBytes (jobOf w i)) (jobCount w) 0
-    ∙ sum-ext (λ i. length (jobBytes (jobOf w (0 + i)))) (λ i. jobRecord) (jobCount w) (λ i l. job-length (jobOf w (0 + i)))
-    ∙ sum-const jobRecord (jobCount w) in
-    simp (length-append, bytes-length) (omega arith)
+    let jobs = sum-ext (λ i. length (jobBytes (jobOf w i))) (λ i. jobRecord) (jobCount w) (λ i l. job-length (jobOf w i)) in
+    simp (length-append, bytes-length)
+    (omega (arith, join-length-zero (λ i. jobBytes (jobOf w i)) (jobCount w), sum-const jobRecord (jobCount w)))
 
 -- ---- a job that stands in bytes
 module _ (P i : ℕ) (j : Job) (s : List ℕ) (at : ℕ) (r : JobInRange P i j) (p : P ≤ mostProcessors) (l : i < mostJobs) (h : StandsAt s at (jobBytes j)) where
+  -- the values read there are the job's
   pub job-read : jobAt s at ≡ j
   unfolding jobBytes jobAt
   job-read = λ x. record { size = size-read x; cap = cap-read x; predecessors = predecessors-read x }
@@ -46,7 +44,9 @@ module _ (P i : ℕ) (j : Job) (s : List ℕ) (at : ℕ) (r : JobInRange P i j) 
       size-read = field-written 4 (j .size) s at (omega (arith, r .size-most)) (stands-first s at (bytesOf 4 (j .size)) (bytesOf 2 (j .cap)) front)
 
       cap-read : field 2 s (at + 4) ≡ j .cap
-      cap-read = field-written 2 (j .cap) s (at + 4) (omega (arith, r .cap-most)) (stands-after s at 4 (bytesOf 4 (j .size)) (bytesOf 2 (j .cap)) (bytes-length 4 (j .size)) front)
+      cap-read =
+          field-written 2 (j .cap) s (at + 4) (omega (arith, r .cap-most))
+          (stands-after s at 4 (bytesOf 4 (j .size)) (bytesOf 2 (j .cap)) (bytes-length 4 (j .size)) front)
 
       predecessors-read : field 8 s (at + 6) ≡ j .predecessors
       predecessors-read =
@@ -86,23 +86,13 @@ module _ (P : ℕ) (w : Flow) (s : List ℕ) (at : ℕ) (r : FlowInRange P w) (p
   pub job-read-at : (i : ℕ) → i < jobCount w → jobAt s (jobStart at i) ≡ jobOf w i
   job-read-at i l = job-read P i (jobOf w i) s (jobStart at i) (r .each-job i l) p (omega (arith, r .jobs-most)) (job-stands i l)
 
+  -- the values read there are the flow's
   pub flow-read : flowAt s at ≡ w
   unfolding flowAt jobOf
   flow-read = λ x. record { deadline = deadline-read x; jobs = jobs-read x }
     where
-      read-jobs : List Job
-      read-jobs = listFrom (λ i. jobAt s (jobStart at i)) (byte s (at + 2)) 0
-
-      as-many : length read-jobs ≡ jobCount w
-      as-many = list-length (λ i. jobAt s (jobStart at i)) (byte s (at + 2)) 0 ∙ job-count-read
-
-      jobs-read : read-jobs ≡ w .jobs
-      jobs-read = ext-getD noJob read-jobs (w .jobs) as-many
-          (λ i l.
-          let e : 0 + i ≡ i = omega arith in
-          list-at (λ k. jobAt s (jobStart at k)) (byte s (at + 2)) 0 i noJob (omega (arith, as-many, job-count-read))
-          ∙ ap (λ k. jobAt s (jobStart at k)) e
-          ∙ job-read-at i (omega (arith, as-many)))
+      jobs-read : listFrom (λ i. jobAt s (jobStart at i)) (byte s (at + 2)) 0 ≡ w .jobs
+      jobs-read = list-of (λ i. jobAt s (jobStart at i)) (byte s (at + 2)) (w .jobs) noJob job-count-read job-read-at
 
   -- a flow in range that stands inside the bytes of a book passes
   pub flow-stands-passes : field 2 s 5 ≡ P → at + length (flowBytes w) ≤ length s → FlowPasses s at
@@ -127,10 +117,7 @@ flowsBefore b f = sumTo (λ g. length (flowBytes (flowOf b g))) f
 
 pub flows-length : (b : Book) → length (flowsBytes b) ≡ flowsBefore b (flowCount b)
 unfolding flowsBytes
-flows-length b =
-    join-length (λ f. flowBytes (flowOf b f)) (flowCount b) 0
-    ∙ sum-ext (λ f. length (flowBytes (flowOf b (0 + f)))) (λ f. length (flowBytes (flowOf b f))) (flowCount b)
-    (λ f l. ap (λ g. length (flowBytes (flowOf b g))) (let e : 0 + f ≡ f = omega arith in e))
+flows-length b = join-length-zero (λ f. flowBytes (flowOf b f)) (flowCount b)
 
 pub book-length : (b : Book) → length (bookBytes b) ≡ bookHead + length (flowsBytes b)
 unfolding bookBytes
@@ -190,6 +177,7 @@ module _ (b : Book) (r : InRange b) where
         r .flows-most,
       )
 
+  -- what the reading finds in the head
   stand : BookStands (bookBytes b) b
   stand = book-stands b
 
@@ -211,6 +199,7 @@ module _ (b : Book) (r : InRange b) where
   unfolding flowsBytes
   flow-stands f l = stands-join (bookBytes b) bookHead (λ g. flowBytes (flowOf b g)) (flowCount b) (stand .flows-stand) f l
 
+  -- the reading finds each flow where it was written
   pub flow-start-read : (f : ℕ) → f ≤ flowCount b → flowStart (bookBytes b) f ≡ bookHead + flowsBefore b f
   unfolding flowStart sumTo
   flow-start-read zero l = refl
@@ -236,6 +225,7 @@ module _ (b : Book) (r : InRange b) where
         flows-length b,
       )
 
+  -- no test turns the bytes down
   pub written-passes : bookFault (bookBytes b) ≡ Pass
   written-passes = book-no-fault (bookBytes b) (record {
     head-whole = omega (arith, book-length b);
@@ -247,28 +237,42 @@ module _ (b : Book) (r : InRange b) where
     each-passes = λ f l.
         let m : f < flowCount b = rw flow-count-read at l in
         flow-no-fault (bookBytes b) f (flowStart (bookBytes b) f)
-        (flow-stands-passes (b .processors) (flowOf b f) (bookBytes b) (flowStart (bookBytes b) f) (r .each-flow f m) (r .processors-most) (flow-stands-at-start f m) processors-read (flow-fits f m));
+        (flow-stands-passes (b .processors) (flowOf b f) (bookBytes b) (flowStart (bookBytes b) f) (r .each-flow f m) (r .processors-most)
+        (flow-stands-at-start f m) processors-read (flow-fits f m));
     nothing-left = omega (arith, ap (flowStart (bookBytes b)) flow-count-read, flow-start-read (flowCount b) (omega arith), book-length b, flows-length b);
   })
 
+  -- the bytes hold the same values
   pub written-values : bookOf (bookBytes b) ≡ b
   unfolding bookOf flowOf
   written-values = λ x. record { processors = processors-read x; flows = flows-read x }
     where
-      read-flows : List Flow
-      read-flows = listFrom (λ f. flowAt (bookBytes b) (flowStart (bookBytes b) f)) (byte (bookBytes b) 7) 0
+      s : List ℕ
+      s = bookBytes b
 
-      as-many : length read-flows ≡ flowCount b
-      as-many = list-length (λ f. flowAt (bookBytes b) (flowStart (bookBytes b) f)) (byte (bookBytes b) 7) 0 ∙ flow-count-read
+      flow-read-at : (f : ℕ) → f < flowCount b → flowAt s (flowStart s f) ≡ flowOf b f
+      flow-read-at f l = flow-read (b .processors) (flowOf b f) s (flowStart s f) (r .each-flow f l) (r .processors-most) (flow-stands-at-start f l)
 
-      flows-read : read-flows ≡ b .flows
-      flows-read = ext-getD noFlow read-flows (b .flows) as-many
-          (λ f l.
-          let e : 0 + f ≡ f = omega arith in
-          let m : f < flowCount b = omega (arith, as-many) in
-          list-at (λ g. flowAt (bookBytes b) (flowStart (bookBytes b) g)) (byte (bookBytes b) 7) 0 f noFlow (omega (arith, flow-count-read))
-          ∙ ap (λ g. flowAt (bookBytes b) (flowStart (bookBytes b) g)) e
-          ∙ flow-read (b .processors) (flowOf b f) (bookBytes b) (flowStart (bookBytes b) f) (r .each-flow f m) (r .processors-most) (flow-stands-at-start f m))
+      flows-read : listFrom (λ f. flowAt s (flowStart s f)) (byte s 7) 0 ≡ b .flows
+      flows-read = list-of (λ f. flowAt s (flowStart s f)) (byte s 7) (b .flows) noFlow flow-count-read flow-read-at
+
+-- the encoding of any values is a list of bytes
+job-all-bytes : (j : Job) → AllBytes (jobBytes j)
+unfolding jobBytes
+job-all-bytes j = bytes-append _ _ (bytes-append _ _ (bytes-of 4 (j .size)) (bytes-of 2 (j .cap))) (bytes-of 8 (j .predecessors))
+
+flow-all-bytes : (w : Flow) → AllBytes (flowBytes w)
+unfolding flowBytes
+flow-all-bytes w =
+    bytes-append _ _ (bytes-append _ _ (bytes-of 2 (w .deadline)) (bytes-of 1 (jobCount w)))
+    (bytes-join (λ i. jobBytes (jobOf w i)) (jobCount w) 0 (λ i. job-all-bytes (jobOf w i)))
+
+pub book-all-bytes : (b : Book) → AllBytes (bookBytes b)
+unfolding bookBytes flowsBytes
+book-all-bytes b =
+    bytes-append _ _
+    (bytes-append _ _ (bytes-append _ _ (bytes-append _ _ (bytes-of 4 _) (bytes-of 1 1)) (bytes-of 2 (b .processors))) (bytes-of 1 (flowCount b)))
+    (bytes-join (λ f. flowBytes (flowOf b f)) (flowCount b) 0 (λ f. flow-all-bytes (flowOf b f)))
 
 -- the encoding of values in range is a book that reads back
 pub read-written : (b : Book) → InRange b → readBook (bookBytes b) ≡ read b
