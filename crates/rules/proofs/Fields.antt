@@ -1,7 +1,7 @@
 -- Laws of big-endian fields, over the width. Assumes nothing.
 use mathlib.Core.Path.{_≡_, refl, sym, ap, ap₂, _∙_}
 use Prim.Native.Nat.{ℕ, zero, suc, _+_, _*_, _-_, _/_, _%_, _^_, _≤_, _<_}
-use native.Mathlib.Nat.{add-zero, add-suc, add-assoc, mul-assoc, add-mul, pow-suc, pow-zero, mul-one, mod-one, mod-eq-of-lt, mod-lt, div-eq-of-lt, mul-add-div-right, mul-add-mod-self-right, one-le-pow, div-div-eq-div-mul, div-add-mod', not-suc-le-zero, le-of-suc-le-suc}
+use native.Mathlib.Nat.{add-zero, zero-add, add-suc, add-assoc, mul-assoc, add-mul, pow-suc, pow-zero, mul-one, mod-one, mod-eq-of-lt, mod-lt, div-eq-of-lt, mul-add-div-right, mul-add-mod-self-right, one-le-pow, div-div-eq-div-mul, div-add-mod', not-suc-le-zero, le-of-suc-le-suc}
 use native.Mathlib.Omega.{arith}
 use mathlib.Core.Logic.{_⊎_, inl, inr}
 use mathlib.Core.List.{List, [], _∷_, _++_}
@@ -11,7 +11,7 @@ use Rattle.rules.specs.Walks.{sumTo, joinFrom}
 use Rattle.rules.specs.Fields.{byte, field, bytesOf, AllBytes}
 use Rattle.rules.proofs.Division.{lt-or-ge}
 use Rattle.rules.proofs.Sums.{sum-ext, sum-const}
-use Rattle.rules.proofs.Walks.{last-or, join-snoc, join-last, join-length}
+use Rattle.rules.proofs.Walks.{last-or, join-snoc, join-last, join-length-zero}
 
 -- a field of m + n bytes is one of m bytes and then one of n
 pub field-add : (m n : ℕ) (s : List ℕ) (at : ℕ) → field (m + n) s at ≡ field m s at * 256 ^ n + field n s (at + m)
@@ -32,8 +32,7 @@ field-one s at = rw (add-zero at) (omega arith)
 -- the highest byte, and the field behind it
 pub field-first : (n : ℕ) (s : List ℕ) (at : ℕ) → field (suc n) s at ≡ byte s at * 256 ^ n + field n s (at + 1)
 field-first n s at =
-    let e : suc n ≡ 1 + n = omega arith in
-    ap (λ w. field w s at) e ∙ field-add 1 n s at ∙ ap (λ c. c * 256 ^ n + field n s (at + 1)) (field-one s at)
+    ap (λ w. field w s at) (let e : suc n ≡ 1 + n = omega arith in e) ∙ field-add 1 n s at ∙ ap (λ c. c * 256 ^ n + field n s (at + 1)) (field-one s at)
 
 -- the rest by m * k: the rest of the quotient, and the rest
 pub mod-mul : (x m k : ℕ) → x % (m * k) ≡ x / m % k * m + x % m
@@ -47,7 +46,7 @@ StandsAt s at t = (k : ℕ) → k < length t → byte s (at + k) ≡ byte t k
 
 pub stands-whole : (s : List ℕ) → StandsAt s 0 s
 unfolding StandsAt
-stands-whole s k l = let e : 0 + k ≡ k = omega arith in rw e refl
+stands-whole s k l = ap (byte s) (zero-add k)
 
 pub stands-first : (s : List ℕ) (at : ℕ) (t u : List ℕ) → StandsAt s at (t ++ u) → StandsAt s at t
 unfolding StandsAt
@@ -71,7 +70,8 @@ unfolding bytesOf field
 field-mod zero x s at h = sym (mod-one x)
 field-mod (suc n) x s at h =
     field-first n s at
-    ∙ ap₂ (λ c r. c * 256 ^ n + r) (stands-head s at (x / 256 ^ n % 256) (bytesOf n x) h) (field-mod n x s (at + 1) (stands-next s at (x / 256 ^ n % 256 ∷ []) (bytesOf n x) h))
+    ∙ ap₂ (λ c r. c * 256 ^ n + r) (stands-head s at (x / 256 ^ n % 256) (bytesOf n x) h)
+    (field-mod n x s (at + 1) (stands-next s at (x / 256 ^ n % 256 ∷ []) (bytesOf n x) h))
     ∙ sym (mod-mul x (256 ^ n) 256)
     ∙ ap (x %_) (sym (pow-suc 256 n))
 
@@ -86,23 +86,44 @@ byte-written x s at l h = sym (field-one s at) ∙ field-written 1 x s at l h
 pub field-between : (n x : ℕ) (xs ys : List ℕ) → x < 256 ^ n → field n (xs ++ bytesOf n x ++ ys) (length xs) ≡ x
 field-between n x xs ys l =
     let s = xs ++ bytesOf n x ++ ys in
-    let e : 0 + length xs ≡ length xs = omega arith in
-    field-written n x s (length xs) l (rw e at (stands-next s 0 xs (bytesOf n x) (stands-first s 0 (xs ++ bytesOf n x) ys (stands-whole s))))
+    field-written n x s (length xs) l (rw (zero-add (length xs)) at (stands-next s 0 xs (bytesOf n x) (stands-first s 0 (xs ++ bytesOf n x) ys (stands-whole s))))
 
 -- the k-th of several lists that stand one after the other
 pub stands-join : (s : List ℕ) (at : ℕ) (g : ℕ → List ℕ) (n : ℕ) → StandsAt s at (joinFrom g n 0) →
     (k : ℕ) → k < n → StandsAt s (at + sumTo (λ j. length (g j)) k) (g k)
 stands-join s at g zero h k l = absurd (not-suc-le-zero l)
-stands-join s at g (suc n) h k l = last-or k n l (λ e. rw e last) (λ m. stands-join s at g n (stands-first s at (joinFrom g n 0) (g (0 + n)) split) k m)
+stands-join s at g (suc n) h k l =
+    last-or k n l (λ e. rw e last) (λ m. stands-join s at g n (stands-first s at (joinFrom g n 0) (g (0 + n)) split) k m)
   where
     split : StandsAt s at (joinFrom g n 0 ++ g (0 + n))
     split = rw (join-snoc g n 0) at h
 
     last : StandsAt s (at + sumTo (λ j. length (g j)) n) (g n)
     last =
-        let e : 0 + n ≡ n = omega arith in
-        let d : length (joinFrom g n 0) ≡ sumTo (λ j. length (g j)) n = join-length g n 0 ∙ sum-ext (λ j. length (g (0 + j))) (λ j. length (g j)) n (λ j m. ap (λ x. length (g x)) (let z : 0 + j ≡ j = omega arith in z)) in
-        rw (← d) (rw e at (stands-next s at (joinFrom g n 0) (g (0 + n)) split))
+        rw (zero-add n) at
+        (stands-after s at (sumTo (λ j. length (g j)) n) (joinFrom g n 0) (g (0 + n)) (join-length-zero g n) split)
+
+-- ---- what is written is bytes
+pub bytes-none : AllBytes []
+unfolding AllBytes
+bytes-none i = omega arith
+
+pub bytes-append : (xs ys : List ℕ) → AllBytes xs → AllBytes ys → AllBytes (xs ++ ys)
+unfolding AllBytes
+bytes-append [] ys h g i = g i
+bytes-append (x ∷ xs) ys h g zero = h zero
+bytes-append (x ∷ xs) ys h g (suc i) = bytes-append xs ys (λ k. h (suc k)) g i
+
+pub bytes-of : (n x : ℕ) → AllBytes (bytesOf n x)
+unfolding AllBytes bytesOf
+bytes-of zero x i = omega arith
+bytes-of (suc n) x zero = mod-lt (x / 256 ^ n) (omega arith)
+bytes-of (suc n) x (suc i) = bytes-of n x i
+
+pub bytes-join : (g : ℕ → List ℕ) (n s : ℕ) → ((k : ℕ) → AllBytes (g k)) → AllBytes (joinFrom g n s)
+unfolding joinFrom
+bytes-join g zero s h = bytes-none
+bytes-join g (suc n) s h = bytes-append (g s) (joinFrom g n (s + 1)) (h s) (bytes-join g n (s + 1) h)
 
 -- ---- what is read is what stands there
 pub field-lt : (n : ℕ) (s : List ℕ) (at : ℕ) → AllBytes s → field n s at < 256 ^ n
@@ -162,14 +183,11 @@ byte-read s at h = rw (← field-one s at) (field-read 1 s at h)
 -- a list is the one that stands in it and is as long
 pub stands-equal : (s t : List ℕ) → length s ≡ length t → StandsAt s 0 t → s ≡ t
 unfolding StandsAt
-stands-equal s t e h = ext-getD 0 s t e (λ k l. let z : 0 + k ≡ k = omega arith in ap (byte s) (sym z) ∙ h k (omega arith))
+stands-equal s t e h = ext-getD 0 s t e (λ k l. ap (byte s) (sym (zero-add k)) ∙ h k (omega arith))
 
 -- lists of c bytes each, one after the other
 pub join-bytes-length : (g : ℕ → List ℕ) (c n : ℕ) → ((k : ℕ) → k < n → length (g k) ≡ c) → length (joinFrom g n 0) ≡ c * n
-join-bytes-length g c n h =
-    join-length g n 0
-    ∙ sum-ext (λ k. length (g (0 + k))) (λ k. c) n (λ k l. let e : 0 + k ≡ k = omega arith in ap (λ j. length (g j)) e ∙ h k l)
-    ∙ sum-const c n
+join-bytes-length g c n h = join-length-zero g n ∙ sum-ext (λ k. length (g k)) (λ k. c) n h ∙ sum-const c n
 
 pub join-stands : (s : List ℕ) (at : ℕ) (g : ℕ → List ℕ) (c n : ℕ) → ((k : ℕ) → k < n → length (g k) ≡ c) →
     ((k : ℕ) → k < n → StandsAt s (at + c * k) (g k)) → StandsAt s at (joinFrom g n 0)

@@ -18,7 +18,7 @@ use Rattle.rules.specs.Rows.{Row, rowFor, sumWhere}
 use Rattle.rules.specs.Schedule.{Schedule, everyFlow, IsJob, Valid, InSlots, scheduleOf, scheduleRows}
 use Rattle.rules.proofs.Division.{lt-or-ge}
 use Rattle.rules.proofs.Sums.{sum-le}
-use Rattle.rules.proofs.Walks.{join-length}
+use Rattle.rules.proofs.Walks.{join-length-zero}
 use Rattle.rules.proofs.ServiceOrder.{service-below, service-position, service-sorted}
 use Rattle.rules.proofs.Rising.{_∈_, first-in, join-in, in-join, Rising, rising-join, rising-unique}
 use Rattle.rules.proofs.RowOrder.{Before, before-differs, before-asymmetric, served-before, same-flow-before}
@@ -225,8 +225,7 @@ schedule-of-rows b σ w f i t = go (lt-or-ge 0 (σ f i t))
 
 -- ---- how many rows there are
 join-length-le : {A : Type 0} (g : ℕ → List A) (n c : ℕ) → ((k : ℕ) → k < n → length (g k) ≤ c) → length (joinFrom g n 0) ≤ c * n
-join-length-le g n c h =
-    omega (arith, join-length g n 0, sum-le (λ k. length (g (0 + k))) c n (λ k l. let e : 0 + k ≡ k = omega arith in rw e (h k l)))
+join-length-le g n c h = omega (arith, join-length-zero g n, sum-le (λ k. length (g k)) c n h)
 
 pub schedule-rows-length : (b : Book) (σ : Schedule) → InRange b → length (scheduleRows b σ) ≤ mostJobs * slots * mostFlows
 unfolding scheduleRows

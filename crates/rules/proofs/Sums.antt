@@ -2,11 +2,11 @@
 -- Assumes nothing.
 use mathlib.Core.Path.{_≡_, refl, ap, sym, _∙_}
 use Prim.Native.Nat.{ℕ, zero, suc, _+_, _*_, _-_, _≤_, _<_, min}
-use native.Mathlib.Nat.{add-zero, add-suc, add-sub-of-le, sub-add-cancel, min-zero, min-eq-left, min-eq-right, le-of-lt, le-step, not-suc-le-zero, eq-or-lt-of-le, le-of-suc-le-suc}
-use mathlib.Core.Bool.{Bool, true, false, _&&_}
-use lib.Dec.{leb, ltb}
+use native.Mathlib.Nat.{add-zero, zero-add, add-suc, add-sub-of-le, sub-add-cancel, min-zero, min-eq-left, min-eq-right, le-of-lt, le-step, not-suc-le-zero, eq-or-lt-of-le, le-of-suc-le-suc}
+use mathlib.Core.Bool.{Bool, true, false, _&&_, _||_}
+use lib.Dec.{leb, ltb, eqb}
 use mathlib.Core.Logic.{_⊎_, inl, inr}
-use borrow.Author.Tests.{leb-true, leb-false, le-leb, lt-leb, lt-ltb, le-ltb}
+use borrow.Author.Tests.{leb-true, leb-false, le-leb, lt-leb, lt-ltb, le-ltb, eqb-true, eq-eqb}
 use native.Mathlib.Omega.{arith}
 use Rattle.rules.specs.Walks.{sumTo, bit, countTo}
 use Rattle.rules.proofs.Division.{lt-or-ge}
@@ -169,3 +169,27 @@ module _ (g : ℕ → ℕ) (falls : (t : ℕ) → g (suc t) ≤ g t) where
           let b : t ≤ n = omega (arith, all-before n h, ap bit (lt-ltb 0 (g n) h)) in
           omega (arith, down t (n - t), ap g (add-sub-of-le b))
       go (inr h) ih = ih (omega (arith, ap bit (le-ltb 0 (g n) h)))
+
+-- ---- counts
+pub bit-most : (t : Bool) → bit t ≤ 1
+bit-most true = omega arith
+bit-most false = omega arith
+
+-- two tests that never pass together
+pub bit-or : (x y : Bool) → (x ≡ true → y ≡ true → ⊥) → bit (x || y) ≡ bit x + bit y
+bit-or true true h = absurd (h refl refl)
+bit-or true false h = refl
+bit-or false y h = sym (zero-add (bit y))
+
+pub count-most : (q : ℕ → Bool) (n : ℕ) → countTo q n ≤ n
+count-most q n = omega (arith, sum-le (λ i. bit (q i)) 1 n (λ i l. bit-most (q i)))
+
+-- one number below n equals x
+pub count-equal : (x n : ℕ) → x < n → countTo (λ f. eqb x f) n ≡ 1
+count-equal x n l =
+    omega (
+      arith,
+      count-once (λ f. eqb x f) n (λ t u p q. sym (eqb-true x t p) ∙ eqb-true x u q),
+      le-sum (λ f. bit (eqb x f)) n x l,
+      ap bit (eq-eqb x x refl),
+    )
