@@ -2,29 +2,29 @@
 -- The first: each row keeps its cap; the use of a slot grows row by row and never passes P; a job's rows before a slot sum to what it has
 -- before that slot; a predecessor has its size by the rows so far, so it has it by all rows, which have no more. The second: rows so far are
 -- fewer than all rows, except of one flow in earlier slots, where they are all rows, since the rows of a flow stand by slot. Assumes nothing.
-use mathlib.Core.Path.{_≡_, refl, sym, ap, ap₂, _∙_, subst}
-use mathlib.Core.Logic.{_⊎_, inl, inr, ⊎-elim}
-use mathlib.Core.Bool.{Bool, true, false, _&&_, false≢true, and-false}
+use mathlib.Core.Path.{_≡_, refl, sym, ap, _∙_, subst}
+use mathlib.Core.Logic.{_⊎_, inl, inr}
+use mathlib.Core.Bool.{Bool, true, false, _&&_, and-false}
 use Prim.Native.Nat.{ℕ, zero, suc, _+_, _/_, _%_, _^_, _≤_, _<_}
 use native.Mathlib.Nat.{div-eq-of-lt, pow-le-pow-right}
 use native.Mathlib.Omega.{arith}
-use mathlib.Core.List.{List, [], _∷_, _++_, List·Memᴰ·tail, List·Memᴰ·cases-cons}
+use mathlib.Core.List.{List, _∷_, _++_, List·Memᴰ·cases-cons}
 use lib.ListN.{length, take, drop, getD}
 use lib.Seq.{take-length, split-at}
 use lib.Dec.{ltb, eqb}
 use borrow.Author.Tests.{eqb-true, le-ltb, eq-eqb}
-use Rattle.rules.specs.Walks.{if_then_else_, sumTo}
+use Rattle.rules.specs.Walks.{sumTo}
 use Rattle.rules.specs.Limits.{slots}
-use Rattle.rules.specs.Book.{Job, Flow, Book, flowCount, jobCount, flowOf, jobOf, hasBit, precedes, InRange}
+use Rattle.rules.specs.Book.{Book, flowCount, jobCount, flowOf, jobOf, hasBit, precedes, InRange}
 use Rattle.rules.specs.Rows.{Row, sumWhere, usedIn, isOf, totalOf, doneBefore}
 use Rattle.rules.specs.Schedule.{Schedule, everyFlow, IsJob, inUse, Valid, InSlots, scheduleOf, scheduleRows}
 use Rattle.rules.specs.Check.{noRow}
 use Rattle.rules.proofs.Division.{lt-or-ge}
 use Rattle.rules.proofs.Sums.{sum-ext, sum-quiet}
-use Rattle.rules.proofs.Rising.{_∈_, first-in, at-in, in-at, Rising, rising-after}
+use Rattle.rules.proofs.Rising.{_∈_, at-in, in-at, Rising, rising-after}
 use Rattle.rules.proofs.RowOrder.{Before, before-slot, rises-rising, rising-rises}
-use Rattle.rules.proofs.RowSums.{IsAt, counted-true, counted-false, sum-where-append, sum-where-none, sum-where-next, sum-where-take, schedule-none, schedule-met, sum-schedule, total-by, done-le-total, InBook, used-in-use}
-use Rattle.rules.proofs.ScheduleRows.{IsRow, RowOf, rising-schedule, schedule-rows-rising, schedule-rows-in, rows-of-schedule, valid-within, schedule-of-rows}
+use Rattle.rules.proofs.RowSums.{IsAt, counted-true, counted-false, sum-where-append, sum-where-none, sum-where-next, sum-where-take, schedule-none, schedule-met, sum-schedule, total-by, done-le-total, used-in-use}
+use Rattle.rules.proofs.ScheduleRows.{IsRow, row-is-job, rising-schedule, schedule-rows-rising, schedule-rows-in, rows-of-schedule, valid-within, schedule-of-rows}
 use Rattle.rules.proofs.TablePasses.{PredecessorsDone, RowPasses, RowsPass}
 
 -- a bit of a number below 2 ^ i is one of the lowest i
@@ -129,9 +129,17 @@ module _ (b : Book) (range : InRange b) (rows : List Row) (pass : RowsPass b row
       let w = schedule-met rows f i t l in
       let v = row-at (w .1) in
       let below = predecessor-below b range f i k (j .flow-in) (j .job-in) p in
-      let done = done-at b (w .0) f i t (w .2) (take (v .0) rows) k below p (subst (PredecessorsDone b (take (v .0) rows)) (v .2) (v .1 .predecessors-done)) in
-      omega (arith, done, done-take rows (v .0) f k t, done-le-total rows f k t, sum-schedule rows f k t,
-      pass .totals f k (j .flow-in) (omega (arith, below, j .job-in)))
+      let done =
+      done-at b (w .0) f i t (w .2) (take (v .0) rows) k below p
+      (subst (PredecessorsDone b (take (v .0) rows)) (v .2) (v .1 .predecessors-done)) in
+      omega (
+        arith,
+        done,
+        done-take rows (v .0) f k t,
+        done-le-total rows f k t,
+        sum-schedule rows f k t,
+        pass .totals f k (j .flow-in) (omega (arith, below, j .job-in)),
+      )
 
   pub passing-valid : Valid b everyFlow (scheduleOf rows)
   passing-valid = record {
@@ -163,7 +171,12 @@ done-so-far : (b : Book) (rows : List Row) → Rising (Before b) rows → (k : �
     doneBefore (take k rows) (getD rows k noRow .flow) i (getD rows k noRow .slot) ≡ doneBefore rows (getD rows k noRow .flow) i (getD rows k noRow .slot)
 unfolding doneBefore Rising
 done-so-far b rows rising k l i =
-    omega (arith, ap (sumWhere earlier) split, sum-where-append earlier (take k rows) (r ∷ drop (suc k) rows), sum-where-none earlier (r ∷ drop (suc k) rows) (λ x m. go x (eqb (x .flow) (r .flow)) refl (List·Memᴰ·cases-cons m)))
+    omega (
+      arith,
+      ap (sumWhere earlier) split,
+      sum-where-append earlier (take k rows) (r ∷ drop (suc k) rows),
+      sum-where-none earlier (r ∷ drop (suc k) rows) (λ x m. go x (eqb (x .flow) (r .flow)) refl (List·Memᴰ·cases-cons m)),
+    )
   where
     r : Row
     r = getD rows k noRow
@@ -219,7 +232,7 @@ module _ (b : Book) (range : InRange b) (σ : Schedule) (valid : Valid b everyFl
   row-passes k l =
       let r = getD rows k noRow in
       let o = schedule-rows-in b σ r (at-in rows k noRow l) in
-      let j : IsJob b everyFlow (r .flow) (r .job) = record { flow-among = refl; flow-in = o .is-row .in-book .flow-in; job-in = o .is-row .in-book .job-in } in
+      let j = row-is-job b r (o .is-row .in-book) in
       let given-some : 0 < σ (r .flow) (r .job) (r .slot) = omega (arith, o .given-there, o .is-row .takes) in
       record {
         slot-in = o .is-row .slot-in;
@@ -230,8 +243,12 @@ module _ (b : Book) (range : InRange b) (σ : Schedule) (valid : Valid b everyFl
         cap-kept = omega (arith, o .given-there, valid .caps (r .flow) (r .job) (r .slot) j);
         processors-kept = omega (arith, used-so-far rows k l, used-given (r .slot), valid .together (r .slot));
         predecessors-done = λ i m p.
-          omega (arith, done-so-far b rows (schedule-rows-rising b σ) k l i, done-given (r .flow) i (r .slot),
-          valid .precedence (r .flow) (r .job) i (r .slot) j p given-some);
+            omega (
+              arith,
+              done-so-far b rows (schedule-rows-rising b σ) k l i,
+              done-given (r .flow) i (r .slot),
+              valid .precedence (r .flow) (r .job) i (r .slot) j p given-some,
+            );
       }
 
   pub valid-passes : RowsPass b rows

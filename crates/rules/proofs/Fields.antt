@@ -170,7 +170,9 @@ unfolding bytesOf
 field-stands zero x s at h e = stands-empty s at
 field-stands (suc n) x s at h e =
     let split = sym (field-first n s at) ∙ e ∙ ap (x %_) (pow-suc 256 n) ∙ mod-mul x (256 ^ n) 256 in
-    let parts = quotient-rest (256 ^ n) (byte s at) (field n s (at + 1)) (x / 256 ^ n % 256) (x % 256 ^ n) (field-lt n s (at + 1) h) (mod-lt x (one-le-pow n 256 (omega arith))) split in
+    let parts =
+    quotient-rest (256 ^ n) (byte s at) (field n s (at + 1)) (x / 256 ^ n % 256) (x % 256 ^ n)
+    (field-lt n s (at + 1) h) (mod-lt x (one-le-pow n 256 (omega arith))) split in
     stands-append s at 1 (x / 256 ^ n % 256 ∷ []) (bytesOf n x) refl
     (stands-one s at (x / 256 ^ n % 256) (parts .0)) (field-stands n x s (at + 1) h (parts .1))
 

@@ -15,7 +15,7 @@ use Rattle.rules.specs.Walks.{if_then_else_}
 use Rattle.rules.specs.Fields.{byte, field}
 use Rattle.rules.specs.Answers.{none, _andThen_, firstFault, planAccepted, planRefused, checkRefused}
 use Rattle.rules.specs.Limits.{outside, mostProcessors, mostFlows, mostDeadline, mostJobs, mostSize, slots, workBytes}
-use Rattle.rules.specs.Book.{Job, Flow, Book, flowCount, jobCount, flowOf, jobOf}
+use Rattle.rules.specs.Book.{Book, flowCount, jobCount, flowOf, jobOf}
 use Rattle.rules.specs.Reading.{bookHead, flowHead, jobRecord, flowStart, jobStart, flowHeadFault, jobFault, flowFault, leftoverFault, bookFault, bookOf, readingOf, readBook}
 use Rattle.rules.specs.Rows.{Row, usedIn, totalOf, finishOf, lateFlows, workUsed, workZero}
 use Rattle.rules.specs.Placing.{Plan, plan}
@@ -23,7 +23,7 @@ use Rattle.rules.specs.Placing.Plan.{planned, infeasible}
 use Rattle.rules.specs.Table.{tableHead, rowLength, tableLength, tableBytes}
 use Rattle.rules.specs.Planner.{PlanOutcome, planOutcome, planReading, planCall}
 use Rattle.rules.specs.Check.{tableRows, tableHeadFault, noRow, rises, lacksPredecessor, rowFault, totalFault, statedFinish, finishFault, tableFault, CheckOutcome, checkOutcome, checkReading, checkCall}
-use Rattle.rules.specs.Demands.{AreaAfterRefusal, PlannerRefusal, CheckRefusal, Demand1}
+use Rattle.rules.specs.Demands.{PlannerRefusal, CheckRefusal, Demand1}
 use Rattle.rules.proofs.Faults.{not-pass}
 
 -- where a verdict refuses, the number is one from least to most
@@ -37,7 +37,8 @@ module _ (least most : ℕ) where
   numbered-refused : (n f j : ℕ) → (least ≤ n) × (n ≤ most) → Numbered least most (Refused n f j)
   numbered-refused n f j h = record { bounds = λ m g i e. let q : n ≡ m = cc in omega arith }
 
-  numbered-test : (t : Bool) (n f j : ℕ) (v : Verdict) → (least ≤ n) × (n ≤ most) → Numbered least most v → Numbered least most (if t then Refused n f j else v)
+  numbered-test : (t : Bool) (n f j : ℕ) (v : Verdict) → (least ≤ n) × (n ≤ most) → Numbered least most v →
+      Numbered least most (if t then Refused n f j else v)
   numbered-test true n f j v h k = numbered-refused n f j h
   numbered-test false n f j v h k = k
 
@@ -147,7 +148,8 @@ planner-kept out area n f j h = record {
   refusal = λ l. record { late-zero = refl; length-zero = refl; output-kept = refl; area-left = record { kept = λ k. refl; zeroed = λ k. absurd (omega arith) } };
 }
 
-planner-zeroed : (out area : List ℕ) (n f j : ℕ) → 12 ≤ n → n ≤ 13 → PlannerAnswers out area (record { answer = planRefused n f j; output = out; area = workZero slots area })
+planner-zeroed : (out area : List ℕ) (n f j : ℕ) → 12 ≤ n → n ≤ 13 →
+    PlannerAnswers out area (record { answer = planRefused n f j; output = out; area = workZero slots area })
 planner-zeroed out area n f j h m = record {
   number-most = m;
   refusal = λ l. record { late-zero = refl; length-zero = refl; output-kept = refl; area-left = record { kept = λ k. absurd (omega arith); zeroed = λ k. refl } };

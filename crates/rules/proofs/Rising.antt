@@ -1,7 +1,7 @@
 -- Lists in strictly rising order, over any order of their elements: each element comes before all that stand after it.
 -- Lists that are joined rise where each of them rises and its elements come before those of the later ones. Two rising lists with the same
 -- elements are equal: the first of each is in the other, so neither can come before the other. Assumes nothing.
-use mathlib.Core.Path.{_≡_, refl, sym, ap, _∙_, subst}
+use mathlib.Core.Path.{_≡_, refl, sym, _∙_, subst}
 use mathlib.Core.Logic.{_⊎_, inl, inr, ⊎-elim}
 use Prim.Native.Nat.{ℕ, zero, suc, _+_, _<_}
 use native.Mathlib.Nat.{not-suc-le-zero, lt-suc-self}
@@ -58,9 +58,10 @@ module _ {A : Type 0} (Before : A → A → Type 0) where
   pub rising-append : (xs ys : List A) → Rising xs → Rising ys → ((x y : A) → x ∈ xs → y ∈ ys → Before x y) → Rising (xs ++ ys)
   unfolding Rising
   rising-append [] ys p q h = q
-  rising-append (x ∷ xs) ys p q h =
-      (λ y m. ⊎-elim (λ l. p .0 y l) (λ r. h x y (first-in x xs) r) (List·Memᴰ·append-cases xs m),
-      rising-append xs ys (p .1) q (λ z y l r. h z y (List·Memᴰ·tail l) r))
+  rising-append (x ∷ xs) ys p q h = (
+    λ y m. ⊎-elim (λ l. p .0 y l) (λ r. h x y (first-in x xs) r) (List·Memᴰ·append-cases xs m),
+    rising-append xs ys (p .1) q (λ z y l r. h z y (List·Memᴰ·tail l) r),
+  )
 
   pub rising-after : (xs ys : List A) → Rising (xs ++ ys) → Rising ys
   unfolding Rising
@@ -87,8 +88,8 @@ module _ {A : Type 0} (Before : A → A → Type 0) where
     rising-unique (x ∷ xs) (y ∷ ys) p q to from =
         let same = firsts (List·Memᴰ·cases-cons (to x (first-in x xs))) (List·Memᴰ·cases-cons (from y (first-in y ys))) in
         let rest = rising-unique xs ys (p .1) (q .1)
-            (λ z m. beyond (p .0) same m (List·Memᴰ·cases-cons (to z (List·Memᴰ·tail m))))
-            (λ z m. beyond (q .0) (sym same) m (List·Memᴰ·cases-cons (from z (List·Memᴰ·tail m)))) in
+        (λ z m. beyond (p .0) same m (List·Memᴰ·cases-cons (to z (List·Memᴰ·tail m))))
+        (λ z m. beyond (q .0) (sym same) m (List·Memᴰ·cases-cons (from z (List·Memᴰ·tail m)))) in
         rw (same, rest) refl
       where
         firsts : (x ≡ y) ⊎ (x ∈ ys) → (y ≡ x) ⊎ (y ∈ xs) → x ≡ y

@@ -3,16 +3,16 @@
 -- order have at most one row for a job and a slot, so what they state there is that row's processors; and they are the rows of what they
 -- state, because both are rising lists of the same rows. Assumes nothing.
 use mathlib.Core.Path.{_≡_, refl, sym, ap, _∙_, subst}
-use mathlib.Core.Logic.{_⊎_, inl, inr, ⊎-elim}
-use mathlib.Core.Bool.{Bool, true, false}
+use mathlib.Core.Logic.{_⊎_, inl, inr}
+use mathlib.Core.Bool.{Bool}
 use Prim.Native.Nat.{ℕ, zero, suc, _+_, _*_, _≤_, _<_}
 use native.Mathlib.Nat.{not-suc-le-zero}
 use native.Mathlib.Omega.{arith}
-use mathlib.Core.List.{List, [], _∷_, _++_, List·Memᴰ·head, List·Memᴰ·tail, List·Memᴰ·not-nil, List·Memᴰ·cases-cons, List·Memᴰ·eq-of-singleton}
+use mathlib.Core.List.{List, [], _∷_, List·Memᴰ·head, List·Memᴰ·not-nil, List·Memᴰ·cases-cons, List·Memᴰ·eq-of-singleton}
 use lib.ListN.{length, getD}
-use Rattle.rules.specs.Walks.{if_then_else_, sumTo, joinFrom}
+use Rattle.rules.specs.Walks.{if_then_else_, joinFrom}
 use Rattle.rules.specs.Limits.{slots, mostJobs, mostFlows}
-use Rattle.rules.specs.Book.{Flow, Book, flowCount, jobCount, flowOf, InRange}
+use Rattle.rules.specs.Book.{Book, flowCount, jobCount, flowOf, InRange}
 use Rattle.rules.specs.Service.{serviceOrder}
 use Rattle.rules.specs.Rows.{Row, rowFor, sumWhere}
 use Rattle.rules.specs.Schedule.{Schedule, everyFlow, IsJob, Valid, InSlots, scheduleOf, scheduleRows}
@@ -20,7 +20,7 @@ use Rattle.rules.proofs.Division.{lt-or-ge}
 use Rattle.rules.proofs.Sums.{sum-le}
 use Rattle.rules.proofs.Walks.{join-length-zero}
 use Rattle.rules.proofs.ServiceOrder.{service-below, service-position, service-sorted}
-use Rattle.rules.proofs.Rising.{_∈_, first-in, join-in, in-join, Rising, rising-join, rising-unique}
+use Rattle.rules.proofs.Rising.{_∈_, join-in, in-join, Rising, rising-join, rising-unique}
 use Rattle.rules.proofs.RowOrder.{Before, before-differs, before-asymmetric, served-before, same-flow-before}
 use Rattle.rules.proofs.RowSums.{isAt, IsAt, at-is, not-at, counted-true, counted-false, sum-where-none, schedule-none, schedule-met, InBook}
 
@@ -34,6 +34,10 @@ pub record IsRow (b : Book) (r : Row) : Type 0 where
 pub record RowOf (b : Book) (σ : Schedule) (r : Row) : Type 0 where
   pub is-row : IsRow b r
   pub given-there : r .processors ≡ σ (r .flow) (r .job) (r .slot)
+
+-- its job is a job of the book
+pub row-is-job : (b : Book) (r : Row) → InBook b r → IsJob b everyFlow (r .flow) (r .job)
+row-is-job b r h = record { flow-among = refl; flow-in = h .flow-in; job-in = h .job-in }
 
 -- ---- the rows of a schedule
 -- the row of job i of flow f in slot t, with n processors
@@ -71,7 +75,9 @@ module _ (b : Book) (σ : Schedule) where
   rowsOfFlow f = joinFrom (rowsOfSlot f) slots 0
 
   rows-of-job-in : (f t i : ℕ) {r : Row} → r ∈ rowsOfJob f t i → IsAt f i t r
-  rows-of-job-in f t i m = let e = row-for-in t f i (σ f i t) m .0 in record { of-flow = ap (λ q. q .flow) e; of-job = ap (λ q. q .job) e; of-slot = ap (λ q. q .slot) e }
+  rows-of-job-in f t i m =
+      let e = row-for-in t f i (σ f i t) m .0 in
+      record { of-flow = ap (λ q. q .flow) e; of-job = ap (λ q. q .job) e; of-slot = ap (λ q. q .slot) e }
 
   rows-of-slot-in : (f t : ℕ) {r : Row} → r ∈ rowsOfSlot f t → (i : ℕ) × (i < jobCount (flowOf b f)) × (r ∈ rowsOfJob f t i)
   rows-of-slot-in f t m = join-in (rowsOfJob f t) (jobCount (flowOf b f)) m
@@ -87,20 +93,20 @@ module _ (b : Book) (σ : Schedule) where
   rows-of-slot-rising f t =
       rising-join (Before b) (rowsOfJob f t) (jobCount (flowOf b f)) (λ i l. row-for-rising b t f i (σ f i t))
       (λ i k l m x y p q.
-        let at-x = rows-of-job-in f t i p in
-        let at-y = rows-of-job-in f t k q in
-        same-flow-before b x y (at-x .of-flow ∙ sym (at-y .of-flow))
-        (inr (at-x .of-slot ∙ sym (at-y .of-slot), omega (arith, at-x .of-job, at-y .of-job))))
+      let at-x = rows-of-job-in f t i p in
+      let at-y = rows-of-job-in f t k q in
+      same-flow-before b x y (at-x .of-flow ∙ sym (at-y .of-flow))
+      (inr (at-x .of-slot ∙ sym (at-y .of-slot), omega (arith, at-x .of-job, at-y .of-job))))
 
   rows-of-flow-rising : (f : ℕ) → Rising (Before b) (rowsOfFlow f)
   rows-of-flow-rising f =
       rising-join (Before b) (rowsOfSlot f) slots (λ t l. rows-of-slot-rising f t)
       (λ t u l m x y p q.
-        let v = rows-of-slot-in f t p in
-        let w = rows-of-slot-in f u q in
-        let at-x = rows-of-job-in f t (v .0) (v .2) in
-        let at-y = rows-of-job-in f u (w .0) (w .2) in
-        same-flow-before b x y (at-x .of-flow ∙ sym (at-y .of-flow)) (inl (omega (arith, at-x .of-slot, at-y .of-slot))))
+      let v = rows-of-slot-in f t p in
+      let w = rows-of-slot-in f u q in
+      let at-x = rows-of-job-in f t (v .0) (v .2) in
+      let at-y = rows-of-job-in f u (w .0) (w .2) in
+      same-flow-before b x y (at-x .of-flow ∙ sym (at-y .of-flow)) (inl (omega (arith, at-x .of-slot, at-y .of-slot))))
 
   flow-of-row : (f : ℕ) {r : Row} → r ∈ rowsOfFlow f → r .flow ≡ f
   flow-of-row f m = let w = rows-of-flow-in f m in rows-of-job-in f (w .0) (w .2) (w .4) .of-flow
@@ -111,8 +117,8 @@ module _ (b : Book) (σ : Schedule) where
   schedule-rows-rising =
       rising-join (Before b) (λ n. rowsOfFlow (getD (serviceOrder b) n 0)) (flowCount b) (λ n l. rows-of-flow-rising (getD (serviceOrder b) n 0))
       (λ m n l h x y p q.
-        served-before b x y
-        (rw (flow-of-row (getD (serviceOrder b) m 0) p, flow-of-row (getD (serviceOrder b) n 0) q) (service-sorted b m n l h)))
+      served-before b x y
+      (rw (flow-of-row (getD (serviceOrder b) m 0) p, flow-of-row (getD (serviceOrder b) n 0) q) (service-sorted b m n l h)))
 
   -- "one for each slot and job where the job has at least 1 processor": each row is such a one
   pub schedule-rows-in : (r : Row) → r ∈ scheduleRows b σ → RowOf b σ r
@@ -133,9 +139,12 @@ module _ (b : Book) (σ : Schedule) where
   unfolding scheduleRows
   in-schedule-rows r h =
       let n = service-position b (r .flow) (h .is-row .in-book .flow-in) in
-      let at-job : r ∈ rowsOfJob (r .flow) (r .slot) (r .job) = subst (λ p. r ∈ rowFor (r .slot) (r .flow) (r .job) p) (h .given-there) (in-row-for (r .slot) (r .flow) (r .job) (r .processors) (h .is-row .takes)) in
-      let at-slot : r ∈ rowsOfSlot (r .flow) (r .slot) = in-join (rowsOfJob (r .flow) (r .slot)) (jobCount (flowOf b (r .flow))) (r .job) (h .is-row .in-book .job-in) at-job in
-      let at-flow : r ∈ rowsOfFlow (r .flow) = in-join (rowsOfSlot (r .flow)) slots (r .slot) (h .is-row .slot-in) at-slot in
+      let f = r .flow in
+      let at-job : r ∈ rowsOfJob f (r .slot) (r .job) =
+      subst (λ p. r ∈ rowFor (r .slot) f (r .job) p) (h .given-there) (in-row-for (r .slot) f (r .job) (r .processors) (h .is-row .takes)) in
+      let at-slot : r ∈ rowsOfSlot f (r .slot) =
+      in-join (rowsOfJob f (r .slot)) (jobCount (flowOf b f)) (r .job) (h .is-row .in-book .job-in) at-job in
+      let at-flow : r ∈ rowsOfFlow f = in-join (rowsOfSlot f) slots (r .slot) (h .is-row .slot-in) at-slot in
       in-join (λ k. rowsOfFlow (getD (serviceOrder b) k 0)) (flowCount b) (n .0) (n .1) (subst (λ f. r ∈ rowsOfFlow f) (sym (n .2)) at-flow)
 
 -- ---- the schedule that rising rows state
@@ -159,14 +168,18 @@ rising-schedule b (q ∷ qs) h r m = go (List·Memᴰ·cases-cons m) (rising-sch
     go : (r ≡ q) ⊎ (r ∈ qs) → (r ∈ qs → sumWhere there qs ≡ r .processors) → (if there q then q .processors else 0) + sumWhere there qs ≡ r .processors
     go (inl e) ih =
         let at-q : IsAt (r .flow) (r .job) (r .slot) q = subst (IsAt (r .flow) (r .job) (r .slot)) e itself in
-        omega (arith,
-        counted-true there q (at-is (r .flow) (r .job) (r .slot) q at-q),
-        sum-where-none there qs (λ x n. not-at (r .flow) (r .job) (r .slot) x (other q x (h .0 x n) at-q)),
-        ap (λ x. x .processors) e)
+        omega (
+          arith,
+          counted-true there q (at-is (r .flow) (r .job) (r .slot) q at-q),
+          sum-where-none there qs (λ x n. not-at (r .flow) (r .job) (r .slot) x (other q x (h .0 x n) at-q)),
+          ap (λ x. x .processors) e,
+        )
     go (inr l) ih =
-        omega (arith,
-        counted-false there q (not-at (r .flow) (r .job) (r .slot) q (λ p. other q r (h .0 r l) p itself)),
-        ih l)
+        omega (
+          arith,
+          counted-false there q (not-at (r .flow) (r .job) (r .slot) q (λ p. other q r (h .0 r l) p itself)),
+          ih l,
+        )
 
 row-ext : (q r : Row) → q .slot ≡ r .slot → q .flow ≡ r .flow → q .job ≡ r .job → q .processors ≡ r .processors → q ≡ r
 row-ext q r s f i n =
@@ -199,7 +212,8 @@ pub valid-within : (b : Book) (σ : Schedule) → Valid b everyFlow σ → InSlo
 unfolding Within InSlots
 valid-within b σ v s f i t l = go (lt-or-ge f (flowCount b)) (lt-or-ge i (jobCount (flowOf b f))) (lt-or-ge t slots)
   where
-    go : (f < flowCount b) ⊎ (flowCount b ≤ f) → (i < jobCount (flowOf b f)) ⊎ (jobCount (flowOf b f) ≤ i) → (t < slots) ⊎ (slots ≤ t) → IsRow b (rowWith t f i (σ f i t))
+    go : (f < flowCount b) ⊎ (flowCount b ≤ f) → (i < jobCount (flowOf b f)) ⊎ (jobCount (flowOf b f) ≤ i) →
+        (t < slots) ⊎ (slots ≤ t) → IsRow b (rowWith t f i (σ f i t))
     go (inl x) (inl y) (inl z) = record { in-book = record { flow-in = x; job-in = y }; slot-in = z; takes = l }
     go (inr x) y z = absurd (omega (arith, v .no-others f i t (λ j. omega (arith, j .flow-in))))
     go (inl x) (inr y) z = absurd (omega (arith, v .no-others f i t (λ j. omega (arith, j .job-in))))
@@ -230,8 +244,12 @@ join-length-le g n c h = omega (arith, join-length-zero g n, sum-le (λ k. lengt
 pub schedule-rows-length : (b : Book) (σ : Schedule) → InRange b → length (scheduleRows b σ) ≤ mostJobs * slots * mostFlows
 unfolding scheduleRows
 schedule-rows-length b σ h =
-    omega (arith, join-length-le (λ n. rowsOfFlow b σ (getD (serviceOrder b) n 0)) (flowCount b) (mostJobs * slots)
-    (λ n l. flow-length (getD (serviceOrder b) n 0) (service-below b n l)), h .flows-most)
+    omega (
+      arith,
+      join-length-le (λ n. rowsOfFlow b σ (getD (serviceOrder b) n 0)) (flowCount b) (mostJobs * slots)
+          (λ n l. flow-length (getD (serviceOrder b) n 0) (service-below b n l)),
+      h .flows-most,
+    )
   where
     slot-length : (f t : ℕ) → f < flowCount b → length (rowsOfSlot b σ f t) ≤ mostJobs
     slot-length f t l =

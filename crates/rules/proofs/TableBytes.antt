@@ -1,17 +1,16 @@
 -- The bytes of a table, written and read back.
 -- A table is its head, its finishes and its rows, one after the other; each stands where the check reads it. What is read of bytes that pass
 -- the test of the head gives the same bytes when it is written again. Assumes nothing.
-use mathlib.Core.Path.{_≡_, refl, sym, ap, _∙_}
-use mathlib.Core.Bool.{Bool, true, false, not, _||_}
+use mathlib.Core.Path.{_≡_, refl, sym, _∙_}
+use mathlib.Core.Bool.{false, not}
 use Prim.Native.Nat.{ℕ, zero, suc, _+_, _*_, _-_, _/_, _%_, _^_, _≤_, _<_}
 use native.Mathlib.Omega.{arith}
 use mathlib.Core.List.{List, [], _∷_, _++_, List·Memᴰ·tail}
 use lib.ListN.{length, length-append}
-use lib.Dec.{ltb, eqb}
+use lib.Dec.{eqb}
 use borrow.Author.Tests.{ltb-false, eqb-true, le-ltb, eq-eqb, not-false}
-use Rattle.rules.specs.declared.Verdict.{Verdict}
-use Rattle.rules.specs.declared.Verdict.the-variants.{Pass, Refused}
-use Rattle.rules.specs.Walks.{if_then_else_, listFrom, joinFrom}
+use Rattle.rules.specs.declared.Verdict.the-variants.{Pass}
+use Rattle.rules.specs.Walks.{listFrom, joinFrom}
 use Rattle.rules.specs.Fields.{byte, field, bytesOf, AllBytes}
 use Rattle.rules.specs.Answers.{none}
 use Rattle.rules.specs.Book.{Book, flowCount, InRange}
@@ -46,7 +45,9 @@ row-written s at r f whole =
     let slot-is = field-written 2 (r .slot) s at (f .slot-fits) (stands-first s at slot flow to-flow) in
     let flow-is = byte-written (r .flow) s (at + 2) (f .flow-fits) (stands-after s at 2 slot flow (bytes-length 2 (r .slot)) to-flow) in
     let job-is = byte-written (r .job) s (at + 3) (f .job-fits) (stands-after s at 3 (slot ++ flow) job (simp (length-append, bytes-length)) to-job) in
-    let processors-are = field-written 2 (r .processors) s (at + 4) (f .processors-fit) (stands-after s at 4 (slot ++ flow ++ job) (bytesOf 2 (r .processors)) (simp (length-append, bytes-length)) whole) in
+    let processors-are =
+    field-written 2 (r .processors) s (at + 4) (f .processors-fit)
+    (stands-after s at 4 (slot ++ flow ++ job) (bytesOf 2 (r .processors)) (simp (length-append, bytes-length)) whole) in
     rw (slot-is, flow-is, job-is, processors-are) refl
 
 row-read : (s : List ℕ) (at : ℕ) → AllBytes s → StandsAt s at (rowBytes (rowAt s at))
@@ -71,15 +72,18 @@ rows-written s at k [] fits h = refl
 rows-written s at k (r ∷ rs) fits h =
     let e : at + rowLength * k + rowLength ≡ at + rowLength * (k + 1) = omega arith in
     let rest = rw e at (stands-after s (at + rowLength * k) rowLength (rowBytes r) (rowsBytes rs) (row-bytes-length r) h) in
-    rw (row-written s (at + rowLength * k) r (fits r (first-in r rs)) (stands-first s (at + rowLength * k) (rowBytes r) (rowsBytes rs) h),
-    rows-written s at (k + 1) rs (λ x m. fits x (List·Memᴰ·tail m)) rest) refl
+    rw (
+      row-written s (at + rowLength * k) r (fits r (first-in r rs)) (stands-first s (at + rowLength * k) (rowBytes r) (rowsBytes rs) h),
+      rows-written s at (k + 1) rs (λ x m. fits x (List·Memᴰ·tail m)) rest,
+    ) refl
 
 rows-read : (s : List ℕ) (at n k : ℕ) → AllBytes s → StandsAt s (at + rowLength * k) (rowsBytes (listFrom (λ j. rowAt s (at + rowLength * j)) n k))
 unfolding rowsBytes listFrom
 rows-read s at zero k h = stands-empty s (at + rowLength * k)
 rows-read s at (suc n) k h =
     let e : at + rowLength * k + rowLength ≡ at + rowLength * (k + 1) = omega arith in
-    stands-append s (at + rowLength * k) rowLength (rowBytes (rowAt s (at + rowLength * k))) (rowsBytes (listFrom (λ j. rowAt s (at + rowLength * j)) n (k + 1)))
+    stands-append s (at + rowLength * k) rowLength (rowBytes (rowAt s (at + rowLength * k)))
+    (rowsBytes (listFrom (λ j. rowAt s (at + rowLength * j)) n (k + 1)))
     (row-bytes-length (rowAt s (at + rowLength * k))) (row-read s (at + rowLength * k) h) (rw e (rows-read s at n (k + 1) h))
 
 -- ---- the whole table
@@ -142,7 +146,9 @@ module _ (b : Book) (rows : List Row) where
         version-stands = stands-after s 0 4 (bytesOf 4 (tableLength b rows)) (bytesOf 1 1) (bytes-length 4 (tableLength b rows)) to-version;
         processors-stand = stands-after s 0 5 upToVersion (bytesOf 2 (b .processors)) up-to-version to-processors;
         flows-stand = stands-after s 0 7 upToProcessors (bytesOf 1 (flowCount b)) up-to-processors to-flows;
-        finish-stands = stands-join-at s 8 (λ f. bytesOf 2 (finishOf rows f)) 2 (flowCount b) each-finish (stands-after s 0 8 upToFlows finishes up-to-flows to-finishes);
+        finish-stands =
+            stands-join-at s 8 (λ f. bytesOf 2 (finishOf rows f)) 2 (flowCount b) each-finish
+            (stands-after s 0 8 upToFlows finishes up-to-flows to-finishes);
         rows-stand = rw e at (stands-after s 0 (tableHead b) upToFinishes (rowsBytes rows) up-to-finishes whole);
       }
 
@@ -183,7 +189,7 @@ head-written b rows range fits =
       eq-eqb (byte s 4) 1 (byte-written 1 s 4 (omega arith) (p .version-stands)),
       eq-eqb (field 2 s 5) (b .processors) (field-written 2 (b .processors) s 5 (omega (arith, range .processors-most)) (p .processors-stand)),
       eq-eqb (byte s 7) (flowCount b) (byte-written (flowCount b) s 7 (omega (arith, range .flows-most)) (p .flows-stand)),
-      eq-eqb ((length s - tableHead b) % rowLength) 0 (omega arith)
+      eq-eqb ((length s - tableHead b) % rowLength) 0 (omega arith),
     ) refl
 
 pub finish-written : (b : Book) (rows : List Row) (f : ℕ) → f < flowCount b → finishOf rows f < 256 ^ 2 →
@@ -235,7 +241,8 @@ rows-stand-there b s bytes =
 -- a table with the right head and finishes is the one that its rows give
 pub table-read : (b : Book) (s : List ℕ) → AllBytes s → tableHeadFault b s ≡ Pass →
     ((f : ℕ) → f < flowCount b → statedFinish s f ≡ finishOf (tableRows b s) f) → s ≡ tableBytes b (tableRows b s)
-table-read b s bytes pass stated = stands-equal s (tableBytes b (tableRows b s)) (sym (table-bytes-length b (tableRows b s) ∙ long)) (parts-stand b (tableRows b s) s parts)
+table-read b s bytes pass stated =
+    stands-equal s (tableBytes b (tableRows b s)) (sym (table-bytes-length b (tableRows b s) ∙ long)) (parts-stand b (tableRows b s) s parts)
   where
     head : HeadPasses b s
     head = head-passes b s pass

@@ -1,20 +1,20 @@
 -- What the table check tests, as facts: of each row, of the totals and of the finishes, and the other way round.
 -- Each test of a chain of refusals is taken apart by `test-passed`, each walk by `fault-pass`; where the facts hold, every test passes.
 -- Assumes nothing.
-use mathlib.Core.Path.{_≡_, refl, sym, ap, _∙_}
-use mathlib.Core.Bool.{Bool, true, false, not, _&&_, _||_, true≢false}
-use Prim.Native.Nat.{ℕ, zero, suc, _+_, _≤_, _<_}
+use mathlib.Core.Path.{_≡_, refl, sym}
+use mathlib.Core.Bool.{Bool, true, false, _&&_, true≢false}
+use Prim.Native.Nat.{ℕ, _+_, _≤_, _<_}
 use native.Mathlib.Omega.{arith}
 use mathlib.Core.List.{List}
 use lib.ListN.{length, take, getD}
-use lib.Dec.{ltb, leb, eqb}
+use lib.Dec.{eqb}
 use borrow.Author.Tests.{ltb-false, leb-false, eqb-false, eqb-true, le-ltb, lt-leb, eq-eqb, ne-eqb, not-false}
 use Rattle.rules.specs.declared.Verdict.{Verdict}
 use Rattle.rules.specs.declared.Verdict.the-variants.{Pass, Refused}
-use Rattle.rules.specs.Walks.{if_then_else_, anyTo}
+use Rattle.rules.specs.Walks.{if_then_else_}
 use Rattle.rules.specs.Answers.{none, _andThen_, firstFault}
 use Rattle.rules.specs.Limits.{slots}
-use Rattle.rules.specs.Book.{Job, Flow, Book, flowCount, jobCount, flowOf, jobOf, precedes}
+use Rattle.rules.specs.Book.{Book, flowCount, jobCount, flowOf, jobOf, precedes}
 use Rattle.rules.specs.Rows.{Row, usedIn, totalOf, doneBefore, finishOf}
 use Rattle.rules.specs.Check.{noRow, rises, lacksPredecessor, rowFault, totalFault, statedFinish, finishFault, tableRows, tableHeadFault, tableFault}
 use Rattle.rules.proofs.Walks.{any-none, any-false}
@@ -41,7 +41,8 @@ pub record RowPasses (b : Book) (rows : List Row) (k : ℕ) : Type 0 where
 
 lacks-none : (b : Book) (soFar : List Row) (r : Row) → lacksPredecessor b soFar r ≡ false → PredecessorsDone b soFar r
 unfolding lacksPredecessor PredecessorsDone
-lacks-none b soFar r e k l p = ltb-false (doneBefore soFar (r .flow) k (r .slot)) (jobOf (flowOf b (r .flow)) k .size) (second _ _ p (any-none _ (r .job) e k l))
+lacks-none b soFar r e k l p =
+    ltb-false (doneBefore soFar (r .flow) k (r .slot)) (jobOf (flowOf b (r .flow)) k .size) (second _ _ p (any-none _ (r .job) e k l))
   where
     second : (x y : Bool) → x ≡ true → (x && y) ≡ false → y ≡ false
     second true y p e = e
@@ -49,7 +50,10 @@ lacks-none b soFar r e k l p = ltb-false (doneBefore soFar (r .flow) k (r .slot)
 
 none-lacks : (b : Book) (soFar : List Row) (r : Row) → PredecessorsDone b soFar r → lacksPredecessor b soFar r ≡ false
 unfolding lacksPredecessor PredecessorsDone
-none-lacks b soFar r h = any-false _ (r .job) (λ k l. each (precedes (flowOf b (r .flow)) k (r .job)) (λ p. le-ltb (doneBefore soFar (r .flow) k (r .slot)) (jobOf (flowOf b (r .flow)) k .size) (h k l p)))
+none-lacks b soFar r h =
+    any-false _ (r .job)
+    (λ k l. each (precedes (flowOf b (r .flow)) k (r .job))
+    (λ p. le-ltb (doneBefore soFar (r .flow) k (r .slot)) (jobOf (flowOf b (r .flow)) k .size) (h k l p)))
   where
     each : {y : Bool} (x : Bool) → (x ≡ true → y ≡ false) → (x && y) ≡ false
     each true h = h refl
@@ -93,7 +97,7 @@ passes-row b rows k p =
       p .comes-after,
       le-ltb (jobOf (flowOf b (r .flow)) (r .job) .cap) (r .processors) (p .cap-kept),
       le-ltb (b .processors) (usedIn (take k rows) (r .slot) + r .processors) (p .processors-kept),
-      none-lacks b (take k rows) r (p .predecessors-done)
+      none-lacks b (take k rows) r (p .predecessors-done),
     ) refl
 
 -- ---- all rows, and the totals
@@ -114,7 +118,9 @@ must-hold false n f j e = not-pass n f j e
 
 total-passes : (b : Book) (rows : List Row) (f i : ℕ) → totalFault b rows f i ≡ Pass → totalOf rows f i ≡ jobOf (flowOf b f) i .size
 unfolding totalFault
-total-passes b rows f i pass = eqb-true (totalOf rows f i) (jobOf (flowOf b f) i .size) (must-hold (eqb (totalOf rows f i) (jobOf (flowOf b f) i .size)) 20 f i pass)
+total-passes b rows f i pass =
+    eqb-true (totalOf rows f i) (jobOf (flowOf b f) i .size)
+    (must-hold (eqb (totalOf rows f i) (jobOf (flowOf b f) i .size)) 20 f i pass)
 
 passes-total : (b : Book) (rows : List Row) (f i : ℕ) → totalOf rows f i ≡ jobOf (flowOf b f) i .size → totalFault b rows f i ≡ Pass
 unfolding totalFault
@@ -156,8 +162,8 @@ module _ (b : Book) (s : List ℕ) where
         rows-pass = record {
           each-row = λ k l. row-passes b rows k (fault-pass (rowFault b rows) (length rows) (walk .0) k l);
           totals = λ f i l m.
-            total-passes b rows f i
-            (fault-pass (totalFault b rows f) (jobCount (flowOf b f)) (fault-pass jobFaults (flowCount b) (ends .0) f l) i m);
+              total-passes b rows f i
+              (fault-pass (totalFault b rows f) (jobCount (flowOf b f)) (fault-pass jobFaults (flowCount b) (ends .0) f l) i m);
         };
         finishes = λ f l. finish-passes s rows f (fault-pass (finishFault s rows) (flowCount b) (ends .1) f l);
       }
@@ -169,6 +175,6 @@ module _ (b : Book) (s : List ℕ) where
         p .head-passes,
         all-pass (rowFault b rows) (length rows) (λ k l. passes-row b rows k (p .rows-pass .each-row k l)),
         all-pass jobFaults (flowCount b)
-        (λ f l. all-pass (totalFault b rows f) (jobCount (flowOf b f)) (λ i m. passes-total b rows f i (p .rows-pass .totals f i l m))),
-        all-pass (finishFault s rows) (flowCount b) (λ f l. passes-finish s rows f (p .finishes f l))
+            (λ f l. all-pass (totalFault b rows f) (jobCount (flowOf b f)) (λ i m. passes-total b rows f i (p .rows-pass .totals f i l m))),
+        all-pass (finishFault s rows) (flowCount b) (λ f l. passes-finish s rows f (p .finishes f l)),
       ) refl
