@@ -2,6 +2,8 @@
 pub mod MarkedPlans
 pub mod Demand3Values
 pub mod Demand3
+pub mod Refusals
+pub mod AcceptsExactly
 -- laws that the proofs here and in the crates above cite
 pub mod Division
 pub mod Sums
@@ -32,3 +34,7 @@ pub mod PlannedRows
 pub mod PlannedValid
 pub mod PlannedTable
 pub mod Infeasible
+-- tables, and what the check accepts
+pub mod TableBytes
+pub mod TablePasses
+pub mod AcceptedRows

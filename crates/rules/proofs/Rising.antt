@@ -1,7 +1,7 @@
 -- Lists in strictly rising order, over any order of their elements: each element comes before all that stand after it.
 -- Lists that are joined rise where each of them rises and its elements come before those of the later ones. Two rising lists with the same
 -- elements are equal: the first of each is in the other, so neither can come before the other. Assumes nothing.
-use mathlib.Core.Path.{_≡_, refl, sym, ap, _∙_, subst}
+use mathlib.Core.Path.{_≡_, refl, sym, _∙_, subst}
 use mathlib.Core.Logic.{_⊎_, inl, inr, ⊎-elim}
 use Prim.Native.Nat.{ℕ, zero, suc, _+_, _<_}
 use native.Mathlib.Nat.{not-suc-le-zero, lt-suc-self}

@@ -1,22 +1,22 @@
 -- The order of rows: by deadline, flow number, slot and job, one after the other.
 -- A test of two rows is true where the first number in which they differ is less in the first row; so the order is transitive and
 -- asymmetric, and rows each of which comes after the one before it are in rising order. Assumes nothing.
-use mathlib.Core.Path.{_≡_, refl, sym, ap, _∙_}
+use mathlib.Core.Path.{_≡_, refl, ap, _∙_}
 use mathlib.Core.Logic.{_⊎_, inl, inr}
 use mathlib.Core.Bool.{Bool, true, false, _&&_, _||_, and-eq-true-iff, false≢true}
-use Prim.Native.Nat.{ℕ, zero, suc, _+_, _≤_, _<_}
+use Prim.Native.Nat.{ℕ, zero, suc, _≤_, _<_}
 use native.Mathlib.Nat.{not-suc-le-zero}
 use native.Mathlib.Omega.{arith}
-use mathlib.Core.List.{List, [], _∷_, List·Memᴰ·tail, List·Memᴰ·cases-cons, List·Memᴰ·not-nil}
+use mathlib.Core.List.{List, [], _∷_, List·Memᴰ·cases-cons, List·Memᴰ·not-nil}
 use lib.ListN.{length, getD}
 use lib.Dec.{ltb, eqb}
 use borrow.Author.Tests.{ltb-true, eqb-true, lt-ltb, eq-eqb}
-use Rattle.rules.specs.Book.{Flow, Book, flowOf}
+use Rattle.rules.specs.Book.{Book, flowOf}
 use Rattle.rules.specs.Service.{servedBefore}
 use Rattle.rules.specs.Rows.{Row}
 use Rattle.rules.specs.Check.{rowBefore, noRow, rises}
-use Rattle.rules.proofs.ServiceOrder.{served-earlier, earlier-served}
-use Rattle.rules.proofs.Rising.{_∈_, first-in, at-in, Rising}
+use Rattle.rules.proofs.ServiceOrder.{Earlier, served-earlier, earlier-served}
+use Rattle.rules.proofs.Rising.{_∈_, at-in, Rising}
 
 -- ---- one number after another
 -- the first number is less, or it is the same and the rest decides
@@ -126,10 +126,10 @@ before-row b q r x = go x
     later : Bool
     later = ltb (q .slot) (r .slot) || eqb (q .slot) (r .slot) && ltb (q .job) (r .job)
 
-    served : Lexical (flowOf b (q .flow) .deadline) (flowOf b (r .flow) .deadline) (q .flow < r .flow) → (servedBefore b (q .flow) (r .flow) || eqb (q .flow) (r .flow) && later) ≡ true
+    served : Earlier b (q .flow) (r .flow) → (servedBefore b (q .flow) (r .flow) || eqb (q .flow) (r .flow) && later) ≡ true
     served s = or-left (servedBefore b (q .flow) (r .flow)) (eqb (q .flow) (r .flow) && later) (earlier-served b (q .flow) (r .flow) s)
 
-    go : Lexical (flowOf b (q .flow) .deadline) (flowOf b (r .flow) .deadline) (Lexical (q .flow) (r .flow) (Lexical (q .slot) (r .slot) (q .job < r .job))) → (servedBefore b (q .flow) (r .flow) || eqb (q .flow) (r .flow) && later) ≡ true
+    go : Before b q r → (servedBefore b (q .flow) (r .flow) || eqb (q .flow) (r .flow) && later) ≡ true
     go (inl d) = served (inl d)
     go (inr (d, inl f)) = served (inr (d, f))
     go (inr (d, inr (e, s))) =
@@ -147,7 +147,8 @@ rises-rising b (r ∷ rs) h = let rest = rises-rising b rs (later rs h) in (abov
     later qs g zero l = refl
     later qs g (suc k) l = g (suc (suc k)) (omega arith)
 
-    above : (qs : List Row) → ((k : ℕ) → k < length (r ∷ qs) → rises b (r ∷ qs) k ≡ true) → Rising (Before b) qs → (y : Row) → y ∈ qs → Before b r y
+    above : (qs : List Row) → ((k : ℕ) → k < length (r ∷ qs) → rises b (r ∷ qs) k ≡ true) → Rising (Before b) qs →
+        (y : Row) → y ∈ qs → Before b r y
     above [] g rest y m = absurd (List·Memᴰ·not-nil m)
     above (q ∷ qs) g rest y m = go (List·Memᴰ·cases-cons m)
       where

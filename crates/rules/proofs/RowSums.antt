@@ -3,18 +3,17 @@
 -- adds to the jobs of the book in that slot. Assumes nothing.
 use mathlib.Core.Path.{_≡_, refl, sym, ap, _∙_}
 use mathlib.Core.Logic.{_⊎_, inl, inr}
-use mathlib.Core.Bool.{Bool, true, false, _&&_, and-eq-true-iff, false≢true, and-false}
+use mathlib.Core.Bool.{Bool, true, false, _&&_, and-eq-true-iff, and-false}
 use Prim.Native.Nat.{ℕ, zero, suc, _+_, _≤_, _<_, max}
-use native.Mathlib.Nat.{not-suc-le-zero, lt-suc-self, add-assoc}
-use native.Mathlib.Decide.{ℕ-discrete}
+use native.Mathlib.Nat.{not-suc-le-zero, lt-suc-self}
 use native.Mathlib.Omega.{arith}
-use mathlib.Core.List.{List, [], _∷_, _++_, List·Memᴰ·tail, List·Memᴰ·cases-cons, List·Memᴰ·not-nil}
+use mathlib.Core.List.{List, [], _∷_, _++_, List·Memᴰ·tail}
 use lib.ListN.{length, take, getD}
-use lib.Seq.{take-suc, take-length}
+use lib.Seq.{take-suc}
 use lib.Dec.{ltb, eqb}
-use borrow.Author.Tests.{ltb-true, ltb-false, eqb-true, eqb-false, lt-ltb, le-ltb, eq-eqb, ne-eqb}
+use borrow.Author.Tests.{eqb-true, lt-ltb, le-ltb, eq-eqb, ne-eqb}
 use Rattle.rules.specs.Walks.{if_then_else_, sumTo}
-use Rattle.rules.specs.Book.{Flow, Book, flowCount, jobCount, flowOf}
+use Rattle.rules.specs.Book.{Book, flowCount, jobCount, flowOf}
 use Rattle.rules.specs.Rows.{Row, sumWhere, usedIn, isOf, totalOf, doneBefore, finishOf}
 use Rattle.rules.specs.Schedule.{inUse, scheduleOf}
 use Rattle.rules.proofs.Division.{lt-or-ge}
@@ -74,7 +73,8 @@ sum-where-met q (r ∷ rs) h = go (q r) refl (sum-where-met q rs)
     go false e ih = let w = ih (omega (arith, counted-false q r e)) in (w .0, List·Memᴰ·tail (w .1), w .2)
 
 -- the first k rows, and then one more
-pub sum-where-next : (q : Row → Bool) (rows : List Row) (k : ℕ) (d : Row) → k < length rows → sumWhere q (take (suc k) rows) ≡ sumWhere q (take k rows) + counted q (getD rows k d)
+pub sum-where-next : (q : Row → Bool) (rows : List Row) (k : ℕ) (d : Row) → k < length rows →
+    sumWhere q (take (suc k) rows) ≡ sumWhere q (take k rows) + counted q (getD rows k d)
 unfolding sumWhere
 sum-where-next q rows k d h = rw (take-suc rows k d h, sum-where-append q (take k rows) (getD rows k d ∷ [])) (omega arith)
 
@@ -124,7 +124,9 @@ schedule-met rows f i t h = let w = sum-where-met (isAt f i t) rows h in (w .0, 
 -- "what job i of flow f has before slot t", added slot by slot
 pub sum-schedule : (rows : List Row) (f i t : ℕ) → sumTo (scheduleOf rows f i) t ≡ doneBefore rows f i t
 unfolding sumTo doneBefore scheduleOf
-sum-schedule rows f i zero = sym (sum-where-none (λ r. isOf f i r && ltb (r .slot) 0) rows (λ r m. rw (le-ltb (r .slot) 0 (omega arith)) (and-false (isOf f i r))))
+sum-schedule rows f i zero =
+    sym (sum-where-none (λ r. isOf f i r && ltb (r .slot) 0) rows
+    (λ r m. rw (le-ltb (r .slot) 0 (omega arith)) (and-false (isOf f i r))))
 sum-schedule rows f i (suc t) = omega (arith, sum-schedule rows f i t, next)
   where
     earlier : ℕ → Row → Bool
@@ -159,7 +161,9 @@ total-by rows f i t h =
 
 pub done-le-total : (rows : List Row) (f i t : ℕ) → doneBefore rows f i t ≤ totalOf rows f i
 unfolding doneBefore totalOf
-done-le-total rows f i t = sum-where-mono (λ r. isOf f i r && ltb (r .slot) t) (λ r. isOf f i r) rows (λ r. less (isOf f i r) (ltb (r .slot) t) (r .processors))
+done-le-total rows f i t =
+    sum-where-mono (λ r. isOf f i r && ltb (r .slot) t) (λ r. isOf f i r) rows
+    (λ r. less (isOf f i r) (ltb (r .slot) t) (r .processors))
   where
     less : (c d : Bool) (n : ℕ) → (if c && d then n else 0) ≤ (if c then n else 0)
     less true true n = omega arith

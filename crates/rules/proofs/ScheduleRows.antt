@@ -3,24 +3,24 @@
 -- order have at most one row for a job and a slot, so what they state there is that row's processors; and they are the rows of what they
 -- state, because both are rising lists of the same rows. Assumes nothing.
 use mathlib.Core.Path.{_≡_, refl, sym, ap, _∙_, subst}
-use mathlib.Core.Logic.{_⊎_, inl, inr, ⊎-elim}
-use mathlib.Core.Bool.{Bool, true, false}
+use mathlib.Core.Logic.{_⊎_, inl, inr}
+use mathlib.Core.Bool.{Bool}
 use Prim.Native.Nat.{ℕ, zero, suc, _+_, _*_, _≤_, _<_}
 use native.Mathlib.Nat.{not-suc-le-zero}
 use native.Mathlib.Omega.{arith}
-use mathlib.Core.List.{List, [], _∷_, _++_, List·Memᴰ·head, List·Memᴰ·tail, List·Memᴰ·not-nil, List·Memᴰ·cases-cons, List·Memᴰ·eq-of-singleton}
+use mathlib.Core.List.{List, [], _∷_, List·Memᴰ·head, List·Memᴰ·not-nil, List·Memᴰ·cases-cons, List·Memᴰ·eq-of-singleton}
 use lib.ListN.{length, getD}
-use Rattle.rules.specs.Walks.{if_then_else_, sumTo, joinFrom}
+use Rattle.rules.specs.Walks.{if_then_else_, joinFrom}
 use Rattle.rules.specs.Limits.{slots, mostJobs, mostFlows}
-use Rattle.rules.specs.Book.{Flow, Book, flowCount, jobCount, flowOf, InRange}
+use Rattle.rules.specs.Book.{Book, flowCount, jobCount, flowOf, InRange}
 use Rattle.rules.specs.Service.{serviceOrder}
 use Rattle.rules.specs.Rows.{Row, rowFor, sumWhere}
 use Rattle.rules.specs.Schedule.{Schedule, everyFlow, IsJob, Valid, InSlots, scheduleOf, scheduleRows}
 use Rattle.rules.proofs.Division.{lt-or-ge}
 use Rattle.rules.proofs.Sums.{sum-le}
-use Rattle.rules.proofs.Walks.{join-length}
+use Rattle.rules.proofs.Walks.{join-length-zero}
 use Rattle.rules.proofs.ServiceOrder.{service-below, service-position, service-sorted}
-use Rattle.rules.proofs.Rising.{_∈_, first-in, join-in, in-join, Rising, rising-join, rising-unique}
+use Rattle.rules.proofs.Rising.{_∈_, join-in, in-join, Rising, rising-join, rising-unique}
 use Rattle.rules.proofs.RowOrder.{Before, before-differs, before-asymmetric, served-before, same-flow-before}
 use Rattle.rules.proofs.RowSums.{isAt, IsAt, at-is, not-at, counted-true, counted-false, sum-where-none, schedule-none, schedule-met, InBook}
 
@@ -34,6 +34,10 @@ pub record IsRow (b : Book) (r : Row) : Type 0 where
 pub record RowOf (b : Book) (σ : Schedule) (r : Row) : Type 0 where
   pub is-row : IsRow b r
   pub given-there : r .processors ≡ σ (r .flow) (r .job) (r .slot)
+
+-- its job is a job of the book
+pub row-is-job : (b : Book) (r : Row) → InBook b r → IsJob b everyFlow (r .flow) (r .job)
+row-is-job b r h = record { flow-among = refl; flow-in = h .flow-in; job-in = h .job-in }
 
 -- ---- the rows of a schedule
 -- the row of job i of flow f in slot t, with n processors
@@ -71,7 +75,9 @@ module _ (b : Book) (σ : Schedule) where
   rowsOfFlow f = joinFrom (rowsOfSlot f) slots 0
 
   rows-of-job-in : (f t i : ℕ) {r : Row} → r ∈ rowsOfJob f t i → IsAt f i t r
-  rows-of-job-in f t i m = let e = row-for-in t f i (σ f i t) m .0 in record { of-flow = ap (λ q. q .flow) e; of-job = ap (λ q. q .job) e; of-slot = ap (λ q. q .slot) e }
+  rows-of-job-in f t i m =
+      let e = row-for-in t f i (σ f i t) m .0 in
+      record { of-flow = ap (λ q. q .flow) e; of-job = ap (λ q. q .job) e; of-slot = ap (λ q. q .slot) e }
 
   rows-of-slot-in : (f t : ℕ) {r : Row} → r ∈ rowsOfSlot f t → (i : ℕ) × (i < jobCount (flowOf b f)) × (r ∈ rowsOfJob f t i)
   rows-of-slot-in f t m = join-in (rowsOfJob f t) (jobCount (flowOf b f)) m
@@ -133,9 +139,12 @@ module _ (b : Book) (σ : Schedule) where
   unfolding scheduleRows
   in-schedule-rows r h =
       let n = service-position b (r .flow) (h .is-row .in-book .flow-in) in
-      let at-job : r ∈ rowsOfJob (r .flow) (r .slot) (r .job) = subst (λ p. r ∈ rowFor (r .slot) (r .flow) (r .job) p) (h .given-there) (in-row-for (r .slot) (r .flow) (r .job) (r .processors) (h .is-row .takes)) in
-      let at-slot : r ∈ rowsOfSlot (r .flow) (r .slot) = in-join (rowsOfJob (r .flow) (r .slot)) (jobCount (flowOf b (r .flow))) (r .job) (h .is-row .in-book .job-in) at-job in
-      let at-flow : r ∈ rowsOfFlow (r .flow) = in-join (rowsOfSlot (r .flow)) slots (r .slot) (h .is-row .slot-in) at-slot in
+      let f = r .flow in
+      let at-job : r ∈ rowsOfJob f (r .slot) (r .job) =
+      subst (λ p. r ∈ rowFor (r .slot) f (r .job) p) (h .given-there) (in-row-for (r .slot) f (r .job) (r .processors) (h .is-row .takes)) in
+      let at-slot : r ∈ rowsOfSlot f (r .slot) =
+      in-join (rowsOfJob f (r .slot)) (jobCount (flowOf b f)) (r .job) (h .is-row .in-book .job-in) at-job in
+      let at-flow : r ∈ rowsOfFlow f = in-join (rowsOfSlot f) slots (r .slot) (h .is-row .slot-in) at-slot in
       in-join (λ k. rowsOfFlow (getD (serviceOrder b) k 0)) (flowCount b) (n .0) (n .1) (subst (λ f. r ∈ rowsOfFlow f) (sym (n .2)) at-flow)
 
 -- ---- the schedule that rising rows state
@@ -203,7 +212,8 @@ pub valid-within : (b : Book) (σ : Schedule) → Valid b everyFlow σ → InSlo
 unfolding Within InSlots
 valid-within b σ v s f i t l = go (lt-or-ge f (flowCount b)) (lt-or-ge i (jobCount (flowOf b f))) (lt-or-ge t slots)
   where
-    go : (f < flowCount b) ⊎ (flowCount b ≤ f) → (i < jobCount (flowOf b f)) ⊎ (jobCount (flowOf b f) ≤ i) → (t < slots) ⊎ (slots ≤ t) → IsRow b (rowWith t f i (σ f i t))
+    go : (f < flowCount b) ⊎ (flowCount b ≤ f) → (i < jobCount (flowOf b f)) ⊎ (jobCount (flowOf b f) ≤ i) →
+        (t < slots) ⊎ (slots ≤ t) → IsRow b (rowWith t f i (σ f i t))
     go (inl x) (inl y) (inl z) = record { in-book = record { flow-in = x; job-in = y }; slot-in = z; takes = l }
     go (inr x) y z = absurd (omega (arith, v .no-others f i t (λ j. omega (arith, j .flow-in))))
     go (inl x) (inr y) z = absurd (omega (arith, v .no-others f i t (λ j. omega (arith, j .job-in))))
@@ -229,8 +239,7 @@ schedule-of-rows b σ w f i t = go (lt-or-ge 0 (σ f i t))
 
 -- ---- how many rows there are
 join-length-le : {A : Type 0} (g : ℕ → List A) (n c : ℕ) → ((k : ℕ) → k < n → length (g k) ≤ c) → length (joinFrom g n 0) ≤ c * n
-join-length-le g n c h =
-    omega (arith, join-length g n 0, sum-le (λ k. length (g (0 + k))) c n (λ k l. let e : 0 + k ≡ k = omega arith in rw e (h k l)))
+join-length-le g n c h = omega (arith, join-length-zero g n, sum-le (λ k. length (g k)) c n h)
 
 pub schedule-rows-length : (b : Book) (σ : Schedule) → InRange b → length (scheduleRows b σ) ≤ mostJobs * slots * mostFlows
 unfolding scheduleRows

@@ -169,4 +169,4 @@ join-length-zero g n = join-length g n 0 ∙ sum-ext (λ k. length (g (0 + k))) 
 
 -- the last of lists joined from 0 on
 pub join-last {ℓ} : {A : Type ℓ} (g : ℕ → List A) (n : ℕ) → joinFrom g (suc n) 0 ≡ joinFrom g n 0 ++ g n
-join-last g n = let e : 0 + n ≡ n = omega arith in join-snoc g n 0 ∙ ap (λ k. joinFrom g n 0 ++ g k) e
+join-last g n = join-snoc g n 0 ∙ ap (λ k. joinFrom g n 0 ++ g k) (zero-add n)
