@@ -4,6 +4,7 @@ pub mod Demand3Values
 pub mod Demand3
 pub mod Refusals
 pub mod AcceptsExactly
+pub mod AcceptsPlans
 -- laws that the proofs here and in the crates above cite
 pub mod Division
 pub mod Sums
