@@ -14,6 +14,9 @@ pub mod ServiceOrder
 pub mod RoundTrip
 -- a book that is cut in service order
 pub mod CutBook
+-- demand 1: the numbers of refusals, and what a refused call leaves
+pub mod Refusals
+-- the table check accepts exactly the tables of valid schedules: rising lists, rows, their sums and bytes, and the theorem
 pub mod Rising
 pub mod RowOrder
 pub mod RowSums
@@ -21,5 +24,4 @@ pub mod ScheduleRows
 pub mod TableBytes
 pub mod TablePasses
 pub mod AcceptedRows
-pub mod Refusals
 pub mod AcceptsExactly
