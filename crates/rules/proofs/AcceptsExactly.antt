@@ -24,7 +24,7 @@ use Rattle.rules.specs.Schedule.{Schedule, everyFlow, Valid, InSlots, sc
 use Rattle.rules.specs.Demands.{IsScheduleTable, AcceptsExactly}
 use Rattle.rules.proofs.Passing.{read-in-range}
 use Rattle.rules.proofs.Rising.{_∈_}
-use Rattle.rules.proofs.RowSums.{finish-le}
+use Rattle.rules.proofs.RowSums.{finish-least}
 use Rattle.rules.proofs.ScheduleRows.{row-is-job, schedule-rows-in, schedule-rows-length}
 use Rattle.rules.proofs.TableBytes.{RowFits, table-rows-written, head-written, finish-written, table-read}
 use Rattle.rules.proofs.TablePasses.{RowsPass, table-passes, passes-table}
@@ -68,7 +68,7 @@ module _ (b : Book) (range : InRange b) (σ : Schedule) (valid : Valid b everyFl
         rows-pass = subst (RowsPass b) (sym schedule-table-rows) (valid-passes b range σ valid within);
         finishes = λ f l.
             rw schedule-table-rows
-            (finish-written b rows f l (omega (arith, finish-le rows f slots (λ r m. schedule-rows-in b σ r m .is-row .slot-in))));
+            (finish-written b rows f l (omega (arith, finish-least rows f slots (λ r m e. schedule-rows-in b σ r m .is-row .slot-in))));
       })
 
 -- rows that are those of the valid schedule that they state, written as a table, have no fault: so it is with what the planner writes

@@ -3,7 +3,6 @@
 use mathlib.Core.Path.{_≡_}
 use Prim.Native.Nat.{ℕ, suc, _+_, _*_, _/_, _≤_, _<_}
 use mathlib.Core.List.{List}
-use native.Mathlib.Nat.{le-trans}
 use native.Mathlib.Omega.{arith}
 use Rattle.rules.specs.Book.{Book, flowCount, flowOf, InRange}
 use Rattle.rules.specs.Ideal.{path}
@@ -13,7 +12,7 @@ use Rattle.rules.specs.Placing.{planned, infeasible, placeFirst, plan}
 use Rattle.rules.specs.Demands.{PlannedWell, NoneOnTime}
 use Rattle.rules.proofs.Greedy.{unitsLeftAt}
 use Rattle.rules.proofs.Necessity.{worksUpTo}
-use Rattle.rules.proofs.FlowRows.{ends-by-finish}
+use Rattle.rules.proofs.RowSums.{finish-ends}
 use Rattle.rules.proofs.PlannedRows.{servedAt, servedFlow, freeFor, placing-stops}
 use Rattle.rules.proofs.PlannedValid.{all-placed, planned-valid, first-within-twice, first-finish-within-twice}
 use Rattle.rules.proofs.Infeasible.{stopped-proves, quote-at, first-finish-within-quote}
@@ -37,8 +36,7 @@ infeasible-proves b range f e = stopped-proves b range f (placing-stops b (flowC
 pub on-time-plan : (b : Book) → InRange b → (rows : List Row) → plan b ≡ planned rows →
     ((f : ℕ) → f < flowCount b → finishOf rows f ≤ flowOf b f .deadline) →
     (σ : Schedule) × Valid b everyFlow σ × ((f : ℕ) → f < flowCount b → EndsBy σ f (flowOf b f .deadline))
-unfolding EndsBy
-on-time-plan b range rows e h = (scheduleOf rows, planned-valid b range rows e, λ f l i t g. ends-by-finish rows f i t (le-trans (h f l) g))
+on-time-plan b range rows e h = (scheduleOf rows, planned-valid b range rows e, λ f l. finish-ends rows f (flowOf b f .deadline) (h f l))
 
 -- the flow at place n of the service order, while work of it is left: fewer slots have passed than its path and the area of the flows up to it
 pub quote : (b : Book) → InRange b → (n : ℕ) (earlier : List Row) → n < flowCount b → placeFirst b n ≡ planned earlier → (t : ℕ) →

@@ -1,6 +1,5 @@
--- The rows of one flow, laid out by slot and job, and the finish of a flow.
--- Rows that are joined add up; of the rows of a flow, those of one job in one slot are one row or none. The finish is the least slot from which
--- on the schedule that the rows state has nothing of the flow. Assumes nothing.
+-- The rows of one flow, laid out by slot and job. Rows that are joined add up; of the rows of a flow, those of one job in one slot are one
+-- row or none. Assumes nothing.
 use mathlib.Core.Path.{_≡_, refl, sym, ap, _∙_}
 use Prim.Native.Nat.{ℕ, zero, suc, _+_, _≤_, _<_, max}
 use mathlib.Core.Bool.{Bool, true, false}
@@ -102,34 +101,3 @@ module _ (f m n : ℕ) (τ : ℕ → ℕ → ℕ) where
       let k = join-in (λ i. rowFor (u .0) f i (τ i (u .0))) m (u .2) in
       let e = row-for-in (u .0) f (k .0) (τ (k .0) (u .0)) (k .2) in
       (u .0, u .1, k .0, k .1, e .0, e .1)
-
--- ---- the finish: the last used slot plus 1
--- no row of the flow stands from its finish on
-pub ends-by-finish : (rows : List Row) (f : ℕ) → EndsBy (scheduleOf rows) f (finishOf rows f)
-unfolding EndsBy scheduleOf finishOf sumWhere
-ends-by-finish [] f i t l = refl
-ends-by-finish (r ∷ rs) f i t l =
-    omega (arith, counted-false (isAt f i t) r (not-at f i t r (λ s. after (s .of-flow) (s .of-slot))), ends-by-finish rs f i t (omega arith))
-  where
-    after : r .flow ≡ f → r .slot ≡ t → ⊥
-    after x z = let e : (if eqb (r .flow) f then r .slot + 1 else 0) ≡ r .slot + 1 = rw (eq-eqb (r .flow) f x) refl in omega arith
-
--- and where rows have processors, the finish is at most any slot from which on the flow has none
-pub finish-least : (rows : List Row) (f d : ℕ) → ((r : Row) → r ∈ rows → 1 ≤ r .processors) → EndsBy (scheduleOf rows) f d → finishOf rows f ≤ d
-unfolding EndsBy scheduleOf finishOf sumWhere
-finish-least [] f d p h = omega arith
-finish-least (r ∷ rs) f d p h =
-    let rest : finishOf rs f ≤ d = finish-least rs f d (λ q m. p q (List·Memᴰ·tail m)) (λ i t l. omega (arith, h i t l)) in
-    go (eqb (r .flow) f) refl rest (lt-or-ge (r .slot) d)
-  where
-    go : (c : Bool) → eqb (r .flow) f ≡ c → finishOf rs f ≤ d → (r .slot < d) ⊎ (d ≤ r .slot) → max (if c then r .slot + 1 else 0) (finishOf rs f) ≤ d
-    go false e rest o = omega arith
-    go true e rest (inl l) = omega arith
-    go true e rest (inr l) =
-        absurd (omega (
-          arith,
-          h (r .job) (r .slot) l,
-          counted-true (isAt f (r .job) (r .slot)) r
-              (at-is f (r .job) (r .slot) r (record { of-flow = eqb-true (r .flow) f e; of-job = refl; of-slot = refl })),
-          p r (first-in r rs),
-        ))

@@ -26,7 +26,7 @@ use Rattle.rules.proofs.ServiceOrder.{service-below, service-sorted, se
 use Rattle.rules.proofs.Greedy.{unitsLeftAt, something-left, nothing-left}
 use Rattle.rules.proofs.Necessity.{Keeps, CompleteBy, worksUpTo, OnTime}
 use Rattle.rules.proofs.Refusal.{refusal, quote-bound}
-use Rattle.rules.proofs.FlowRows.{finish-least}
+use Rattle.rules.proofs.RowSums.{ends-finish}
 use Rattle.rules.proofs.PlacedFlow.{shareTo}
 use Rattle.rules.proofs.PlannedRows.{servedAt, servedFlow, freeFor, plannedShare, Stopped, placed-earlier, states-share, states-none-of-flow}
 use Rattle.rules.proofs.PlannedValid.{sized-at, used-within-work, first-rows-fit}
@@ -145,5 +145,5 @@ module _ (b : Book) (range : InRange b) where
     -- a finish within the quote
     pub first-finish-within-quote : finishOf rows (servedAt b n) ≤ quoteFor n
     first-finish-within-quote =
-        finish-least rows (servedAt b n) (quoteFor n)
+        ends-finish rows (servedAt b n) (quoteFor n)
         (λ r m. first-rows-fit b range k rows h e r m .processors-least) ends-by-quote

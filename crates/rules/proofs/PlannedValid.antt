@@ -27,7 +27,8 @@ use Rattle.rules.proofs.Greedy.{givenIn, given-in-le-free, given-and-le
 use Rattle.rules.proofs.Necessity.{flowWork, worksUpTo}
 use Rattle.rules.proofs.Rising.{_∈_, join-in}
 use Rattle.rules.proofs.RowSums.{used-in-use}
-use Rattle.rules.proofs.FlowRows.{used-append, grid-used, grid-not-used, grid-in, finish-least}
+use Rattle.rules.proofs.FlowRows.{used-append, grid-used, grid-not-used, grid-in}
+use Rattle.rules.proofs.RowSums.{ends-finish}
 use Rattle.rules.proofs.PlacedFlow.{placed-together, placed-within-cap, placed-exactly, placed-in-order}
 use Rattle.rules.proofs.PlannedRows.{
   servedAt,
@@ -271,7 +272,7 @@ module _ (b : Book) (range : InRange b) where
     -- so does each finish
     pub first-finish-within-twice : (f : ℕ) → finishOf rows f ≤ 2 * flowOf b f .deadline
     first-finish-within-twice f =
-        finish-least rows f (2 * flowOf b f .deadline) (λ r m. first-rows-fit r m .processors-least) (first-within-twice f)
+        ends-finish rows f (2 * flowOf b f .deadline) (λ r m. first-rows-fit r m .processors-least) (first-within-twice f)
 
   -- ---- the whole plan
   among-all : (f : ℕ) → f < flowCount b → amongFirst b (flowCount b) f ≡ true

@@ -7,7 +7,7 @@ use mathlib.Core.Bool.{Bool, true, false, _&&_, and-eq-true-iff, and-false}
 use Prim.Native.Nat.{ℕ, zero, suc, _+_, _≤_, _<_, max}
 use native.Mathlib.Nat.{not-suc-le-zero, lt-suc-self}
 use native.Mathlib.Omega.{arith}
-use mathlib.Core.List.{List, [], _∷_, _++_, List·Memᴰ·tail}
+use mathlib.Core.List.{List, [], _∷_, _++_, List·Memᴰ·tail, List·Memᴰ·cases-cons, List·Memᴰ·not-nil}
 use lib.ListN.{length, take, getD}
 use lib.Seq.{take-suc}
 use lib.Dec.{ltb, eqb}
@@ -15,7 +15,7 @@ use borrow.Author.Tests.{eqb-true, lt-ltb, le-ltb, eq-eqb, ne-eqb}
 use Rattle.rules.specs.Walks.{if_then_else_, sumTo}
 use Rattle.rules.specs.Book.{Book, flowCount, jobCount, flowOf}
 use Rattle.rules.specs.Rows.{Row, sumWhere, usedIn, isOf, totalOf, doneBefore, finishOf}
-use Rattle.rules.specs.Schedule.{inUse, scheduleOf}
+use Rattle.rules.specs.Schedule.{inUse, EndsBy, scheduleOf}
 use Rattle.rules.proofs.Division.{lt-or-ge}
 use Rattle.rules.proofs.Sums.{sum-ext, sum-add, sum-zero, sum-one}
 use Rattle.rules.proofs.Walks.{last-or}
@@ -72,6 +72,16 @@ sum-where-met q (r ∷ rs) h = go (q r) refl (sum-where-met q rs)
     go true e ih = (r, first-in r rs, e)
     go false e ih = let w = ih (omega (arith, counted-false q r e)) in (w .0, List·Memᴰ·tail (w .1), w .2)
 
+-- a row that counts is at most the sum
+pub sum-where-least : (q : Row → Bool) (rows : List Row) (r : Row) → r ∈ rows → q r ≡ true → r .processors ≤ sumWhere q rows
+unfolding sumWhere
+sum-where-least q [] r m e = absurd (List·Memᴰ·not-nil m)
+sum-where-least q (x ∷ xs) r m e = go (List·Memᴰ·cases-cons m) (sum-where-least q xs r)
+  where
+    go : (r ≡ x) ⊎ (r ∈ xs) → (r ∈ xs → q r ≡ true → r .processors ≤ sumWhere q xs) → r .processors ≤ counted q x + sumWhere q xs
+    go (inl s) ih = rw (← s) (omega (arith, counted-true q r e))
+    go (inr l) ih = omega (arith, ih l e)
+
 -- the first k rows, and then one more
 pub sum-where-next : (q : Row → Bool) (rows : List Row) (k : ℕ) (d : Row) → k < length rows →
     sumWhere q (take (suc k) rows) ≡ sumWhere q (take k rows) + counted q (getD rows k d)
@@ -120,6 +130,10 @@ schedule-none rows f i t h = sum-where-none (isAt f i t) rows (λ r m. not-at f 
 pub schedule-met : (rows : List Row) (f i t : ℕ) → 0 < scheduleOf rows f i t → (r : Row) × (r ∈ rows) × IsAt f i t r
 unfolding scheduleOf
 schedule-met rows f i t h = let w = sum-where-met (isAt f i t) rows h in (w .0, w .1, is-at f i t (w .0) (w .2))
+
+pub schedule-least : (rows : List Row) (f i t : ℕ) (r : Row) → r ∈ rows → IsAt f i t r → r .processors ≤ scheduleOf rows f i t
+unfolding scheduleOf
+schedule-least rows f i t r m at-r = sum-where-least (isAt f i t) rows r m (at-is f i t r at-r)
 
 -- "what job i of flow f has before slot t", added slot by slot
 pub sum-schedule : (rows : List Row) (f i t : ℕ) → sumTo (scheduleOf rows f i) t ≡ doneBefore rows f i t
@@ -217,11 +231,42 @@ used-in-use b (r ∷ rs) t h =
     others f i = sumWhere (isAt f i t) rs
 
 -- ---- finishes
-pub finish-le : (rows : List Row) (f n : ℕ) → ((r : Row) → r ∈ rows → r .slot < n) → finishOf rows f ≤ n
+-- every row of the flow stands before its finish
+pub finish-above : (rows : List Row) (f : ℕ) (r : Row) → r ∈ rows → r .flow ≡ f → r .slot < finishOf rows f
 unfolding finishOf
-finish-le [] f n h = omega arith
-finish-le (r ∷ rs) f n h = go (eqb (r .flow) f) (h r (first-in r rs)) (finish-le rs f n (λ x m. h x (List·Memᴰ·tail m)))
+finish-above [] f r m e = absurd (List·Memᴰ·not-nil m)
+finish-above (q ∷ qs) f r m e = go (List·Memᴰ·cases-cons m) (finish-above qs f r)
   where
-    go : (c : Bool) → r .slot < n → finishOf rs f ≤ n → max (if c then r .slot + 1 else 0) (finishOf rs f) ≤ n
-    go true l ih = omega arith
-    go false l ih = omega arith
+    go : (r ≡ q) ⊎ (r ∈ qs) → (r ∈ qs → r .flow ≡ f → r .slot < finishOf qs f) → r .slot < finishOf (q ∷ qs) f
+    go (inl s) ih = rw (← s, eq-eqb (r .flow) f e) (omega arith)
+    go (inr l) ih = omega (arith, ih l e)
+
+-- and it is the least such slot
+pub finish-least : (rows : List Row) (f n : ℕ) → ((r : Row) → r ∈ rows → r .flow ≡ f → r .slot < n) → finishOf rows f ≤ n
+unfolding finishOf
+finish-least [] f n h = omega arith
+finish-least (r ∷ rs) f n h = go (eqb (r .flow) f) refl (finish-least rs f n (λ x m. h x (List·Memᴰ·tail m)))
+  where
+    go : (c : Bool) → eqb (r .flow) f ≡ c → finishOf rs f ≤ n → finishOf (r ∷ rs) f ≤ n
+    go true e ih = rw e (omega (arith, h r (first-in r rs) (eqb-true (r .flow) f e)))
+    go false e ih = rw e (omega arith)
+
+-- "A flow ends by its deadline .. when its finish is at most that."
+pub finish-ends : (rows : List Row) (f d : ℕ) → finishOf rows f ≤ d → EndsBy (scheduleOf rows) f d
+unfolding EndsBy
+finish-ends rows f d h i t l =
+    schedule-none rows f i t (λ r m at-r. omega (arith, finish-above rows f r m (at-r .of-flow), at-r .of-slot))
+
+pub ends-finish : (rows : List Row) (f d : ℕ) → ((r : Row) → r ∈ rows → 0 < r .processors) → EndsBy (scheduleOf rows) f d → finishOf rows f ≤ d
+unfolding EndsBy
+ends-finish rows f d takes ends = finish-least rows f d (λ r m e. before r m e (lt-or-ge (r .slot) d))
+  where
+    before : (r : Row) → r ∈ rows → r .flow ≡ f → (r .slot < d) ⊎ (d ≤ r .slot) → r .slot < d
+    before r m e (inl l) = l
+    before r m e (inr l) =
+        absurd (omega (
+          arith,
+          takes r m,
+          ends (r .job) (r .slot) l,
+          schedule-least rows f (r .job) (r .slot) r m (record { of-flow = e; of-job = refl; of-slot = refl }),
+        ))
