@@ -1,9 +1,11 @@
 -- What follows from the rules.
 pub mod MarkedPlans
-
 -- laws that the proofs here and in the crates above cite
 pub mod Division
 pub mod Sums
 pub mod Walks
 pub mod Faults
 pub mod Fields
+-- the rules one by one
+pub mod Ideal
+pub mod PseudoJobs

@@ -1,0 +1,2 @@
+-- The definitions that the contracts of `chain` cite.
+pub mod Jobs
