@@ -4,18 +4,20 @@ use mathlib.Core.Path.{_≡_, refl, ap, sym, _∙_}
 use mathlib.Core.Bool.{Bool, true, false}
 use mathlib.Core.List.{List, [], _∷_, _++_}
 use Prim.Native.Nat.{ℕ, zero, suc, _+_, _*_, _-_, _<_, _≤_, max}
-use native.Mathlib.Nat.{zero-add, div-le-self}
+use native.Mathlib.Nat.{zero-add, not-suc-le-zero}
 use native.Mathlib.Numerals.{add-one}
 use native.Mathlib.Omega.{arith}
 use lib.ListN.{length, getD, set, replicate, length-append, List·getD-append}
 use lib.Seq.{set-at, append-snoc}
 use Rattle.rules.specs.Walks.{if_then_else_, maxTo, listFrom}
-use Rattle.rules.specs.Book.{Job, Flow, JobInRange, FlowInRange, jobCount, jobOf, noJob, hasBit}
-use Rattle.rules.specs.Ideal.{duration, startAfter, endsBelow}
-use Rattle.rules.proofs.Walks.{max-ext, max-least, list-length, list-at}
+use Rattle.rules.specs.Book.{Job, Flow, JobInRange, FlowInRange, jobCount, jobOf, noJob, hasBit, precedes}
+use Rattle.rules.specs.Ideal.{duration, startAfter, startOf, endOf, endsBelow}
+use Rattle.rules.proofs.Walks.{last-or, max-ext, max-least, list-length, list-at}
+use Rattle.rules.proofs.Ideal.{ends-length, end-is-start-plus-duration, start-is-largest-end, duration-is-least}
 use Rattle.book.specs.declared.FlowJobs.{FlowJobs}
 use Rattle.book.specs.Promise.{flowFrom}
-use Rattle.chain.specs.Jobs.{ChainInput, jobWith, jobOfValues, startAmong}
+use Rattle.chain.specs.declared.Lasting.{Lasting}
+use Rattle.chain.specs.Jobs.{ChainInput, jobWith, jobOfValues, LastsAs, startAmong}
 
 -- ---- a flow's values
 module _ (x : FlowJobs) where
@@ -50,3 +52,71 @@ start-none p ends = refl
 pub start-next : (p k s e r : ℕ) (ends : List ℕ) → s ≡ startAmong p ends k → e ≡ (if hasBit p k then getD ends k 0 else 0) → r ≡ max s e → r ≡ startAmong p ends (k + 1)
 unfolding startAmong maxTo
 start-next p k s e r ends es ee er = rw (add-one k) (er ∙ rw (es, ee) refl)
+
+choice-within : (b : Bool) (e most : ℕ) → e ≤ most → (if b then e else 0) ≤ most
+choice-within true e most h = h
+choice-within false e most h = omega arith
+
+-- a start is within any bound on the ends of lower jobs
+pub start-within : (w : Flow) (i most : ℕ) → ((k : ℕ) → k < i → endOf w k ≤ most) → startOf w i ≤ most
+start-within w i most h =
+    rw (start-is-largest-end w i)
+    (max-least (λ k. if precedes w k i then endOf w k else 0) i most (λ k l. choice-within (precedes w k i) (endOf w k) most (h k l)))
+
+-- ---- the ends of a flow's jobs, in an array of 64
+module _ (x : FlowJobs) (input : ChainInput x) where
+  -- a job lasts as many slots as its size has units, at most
+  pub duration-most : (i : ℕ) → i < x .count → duration (jobOf (flowFrom x) i) ≤ 1000000
+  duration-most i h =
+      let least = duration-is-least (jobOfValues x i) (input .cap-least i h) 1000000 (omega (arith, input .size-most i h, input .cap-least i h)) in
+      rw (job-at x i h) least
+
+  pub end-most : (n : ℕ) → n ≤ x .count → (i : ℕ) → i < n → endOf (flowFrom x) i ≤ 1000000 * n
+  end-most zero most i h = absurd (not-suc-le-zero h)
+  end-most (suc n) most i h =
+      let below = end-most n (omega arith) in
+      last-or i n h
+      (λ q. rw q (omega (arith, end-is-start-plus-duration (flowFrom x) n, start-within (flowFrom x) n (1000000 * n) below, duration-most n (omega arith))))
+      (λ l. omega (arith, below i l))
+
+  -- the ends that are not there yet do not count
+  pub start-from-array : (k : ℕ) (ends zeros : List ℕ) → k < x .count → ends ≡ endsBelow (flowFrom x) k ++ zeros →
+      startAmong (getD (x .predecessors) k 0) ends k ≡ startOf (flowFrom x) k
+  unfolding startAmong startOf startAfter
+  start-from-array k ends zeros h e =
+      rw (e, job-at x k h)
+      (max-ext
+      (λ i. if hasBit (getD (x .predecessors) k 0) i then getD (endsBelow (flowFrom x) k ++ zeros) i 0 else 0)
+      (λ i. if hasBit (getD (x .predecessors) k 0) i then getD (endsBelow (flowFrom x) k) i 0 else 0)
+      k
+      (λ i l. rw (List·getD-append (endsBelow (flowFrom x) k) zeros 0 i (rw (ends-length (flowFrom x) k) l)) refl))
+
+  pub ends-none : (n : ℕ) → n ≡ 0 → replicate 64 0 ≡ endsBelow (flowFrom x) n ++ replicate (64 - n) 0
+  unfolding endsBelow
+  ends-none n e = rw e refl
+
+  module _ (k s : ℕ) (l : Lasting) (ends : List ℕ) (h : k < x .count) (ee : ends ≡ endsBelow (flowFrom x) k ++ replicate (64 - k) 0)
+      (es : s ≡ startAmong (getD (x .predecessors) k 0) ends k) (el : LastsAs (jobOfValues x k) l) where
+    -- the start and the slots together are the end
+    end-from-array : s + l .slots ≡ endOf (flowFrom x) k
+    end-from-array =
+        omega (
+          arith,
+          es,
+          start-from-array k ends (replicate (64 - k) 0) h ee,
+          el .slots,
+          ap duration (job-at x k h),
+          end-is-start-plus-duration (flowFrom x) k,
+        )
+
+    pub end-fits : s + l .slots ≤ 64000000
+    end-fits = omega (arith, end-from-array, end-most (suc k) h k (omega arith), input .count-most)
+
+    -- the array after the end of job k is stored
+    pub ends-next : (n : ℕ) → n ≡ suc k → set ends k (s + l .slots) ≡ endsBelow (flowFrom x) n ++ replicate (64 - n) 0
+    unfolding endsBelow endOf startOf
+    ends-next n en =
+        let w = flowFrom x in
+        let room : 64 - k ≡ suc (64 - suc k) = omega (arith, input .count-most) in
+        rw (en, end-from-array, ee, room)
+        (set-at (endsBelow w k) 0 (replicate (64 - suc k) 0) _ k (ends-length w k) ∙ sym (append-snoc (endsBelow w k) _ (replicate (64 - suc k) 0)))

@@ -1,8 +1,9 @@
 use borrow.Author.Needs.{needs}
 use native.Mathlib.Omega.{arith}
-use Prim.Native.Nat.{ℕ, _<_}
+use Prim.Native.Nat.{ℕ, _-_, _<_}
 use borrow.Fn.Kinds.{In}
 use borrow.Fn.PlainCycle.{Measures, is, falls, and}
+use Rattle.chain.proofs.Starts.{ends-none, end-fits, ends-next}
 use Rattle.chain.proofs.ends.Reads as ends
 use Rattle.chain.proofs.ends.Kinds as ends-kinds
 use Rattle.chain.proofs.+ends.Lts-ends as ends-lts
@@ -12,7 +13,7 @@ use Rattle.chain.proofs.+ends.{statement}
 use Rattle.chain.proofs.+ends.Tie.{close}
 
 abbrev μ-ends : Measures 0 ends-kinds.ps ℕ
-μ-ends κs a = ?
+μ-ends κs a = a .1 .0
 
 abbrev ends-at : ℕ → In 0 ends-kinds.ps
 ends-at t = and 0 ends-kinds.ps (is 0 ends-kinds.ps μ-ends t) ends.Pre
@@ -29,7 +30,7 @@ ends-returns : (t : ℕ) → ends-lts.Need-returns (
   lasts-reads.Asked,
   lasts-reads.Learnt,
 ) (ends-at t) ends.Post
-ends-returns t c = search needs
+ends-returns t c = ends-none (c .before .args .t1) (c .before .pre .1 .0) (c .before .args .n) (c .if1 .taken)
 
 -- src/lib.rt:79:13
 ends-sub-k : (t : ℕ) → ends-lts.Need-sub-k (
@@ -139,7 +140,12 @@ ends-lasts-requires : (t : ℕ) → ends-lts.Need-lasts-requires (
   lasts-reads.Asked,
   lasts-reads.Learnt,
 ) (ends-at t) ends.Post
-ends-lasts-requires t c κs = search needs
+ends-lasts-requires t c κs =
+    let o = c .before .before .before .before .before .before in
+    let input = o .pre .1 .0 in
+    let k = o .args .n - 1 in
+    let h : k < o .args .t1 .count = omega arith in
+    (input .size-least k h, input .size-most k h, input .cap-least k h)
 
 -- src/lib.rt:83:14
 ends-add-all : (t : ℕ) → ends-lts.Need-add-all (
@@ -150,7 +156,21 @@ ends-add-all : (t : ℕ) → ends-lts.Need-add-all (
   lasts-reads.Asked,
   lasts-reads.Learnt,
 ) (ends-at t) ends.Post
-ends-add-all t c = search needs
+ends-add-all t c =
+    let o = c .before .before .before .before .before .before .before .before in
+    let most =
+    end-fits
+    (o .args .t1)
+    (o .pre .1 .0)
+    (o .args .n - 1)
+    (c .before .before .before .before .start-of .result)
+    (c .before .lasts .result)
+    (c .before .before .before .before .before .before .ends .result)
+    (omega arith)
+    (c .before .before .before .before .before .before .ends .ensures)
+    (c .before .before .before .before .start-of .ensures)
+    (c .before .lasts .ensures _) in
+    omega arith
 
 -- src/lib.rt:83:5
 ends-mul-all : (t : ℕ) → ends-lts.Need-mul-all (
@@ -183,7 +203,21 @@ ends-returns-2 : (t : ℕ) → ends-lts.Need-returns-2 (
   lasts-reads.Asked,
   lasts-reads.Learnt,
 ) (ends-at t) ends.Post
-ends-returns-2 t c = search needs
+ends-returns-2 t c =
+    let o = c .before .before .before .before .before .before .before .before in
+    ends-next
+    (o .args .t1)
+    (o .pre .1 .0)
+    (o .args .n - 1)
+    (c .before .before .before .before .start-of .result)
+    (c .before .lasts .result)
+    (c .before .before .before .before .before .before .ends .result)
+    (omega arith)
+    (c .before .before .before .before .before .before .ends .ensures)
+    (c .before .before .before .before .start-of .ensures)
+    (c .before .lasts .ensures _)
+    (o .args .n)
+    (omega arith)
 
 pub +ends-spec : {M : Type 1} → statement M
 +ends-spec = close μ-ends λ t. ends-lts.spec (
