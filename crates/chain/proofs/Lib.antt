@@ -1,3 +1,4 @@
 -- Laws that the proofs of several functions cite.
 pub mod Durations
 pub mod Starts
+pub mod Takes

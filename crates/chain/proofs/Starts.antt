@@ -11,9 +11,9 @@ use lib.ListN.{length, getD, set, replicate, length-append, List·getD-append}
 use lib.Seq.{set-at, append-snoc}
 use Rattle.rules.specs.Walks.{if_then_else_, maxTo, listFrom}
 use Rattle.rules.specs.Book.{Job, Flow, JobInRange, FlowInRange, jobCount, jobOf, noJob, hasBit, precedes}
-use Rattle.rules.specs.Ideal.{duration, startAfter, startOf, endOf, endsBelow}
+use Rattle.rules.specs.Ideal.{duration, startAfter, startOf, endOf, endsBelow, path}
 use Rattle.rules.proofs.Walks.{last-or, max-ext, max-least, list-length, list-at}
-use Rattle.rules.proofs.Ideal.{ends-length, end-is-start-plus-duration, start-is-largest-end, duration-is-least}
+use Rattle.rules.proofs.Ideal.{ends-length, ends-at, end-is-start-plus-duration, start-is-largest-end, duration-is-least}
 use Rattle.book.specs.declared.FlowJobs.{FlowJobs}
 use Rattle.book.specs.Promise.{flowFrom}
 use Rattle.chain.specs.declared.Lasting.{Lasting}
@@ -120,3 +120,22 @@ module _ (x : FlowJobs) (input : ChainInput x) where
         let room : 64 - k ≡ suc (64 - suc k) = omega (arith, input .count-most) in
         rw (en, end-from-array, ee, room)
         (set-at (endsBelow w k) 0 (replicate (64 - suc k) 0) _ k (ends-length w k) ∙ sym (append-snoc (endsBelow w k) _ (replicate (64 - suc k) 0)))
+
+-- ---- the largest end
+pub max-none : (ends : List ℕ) → maxTo (λ i. getD ends i 0) 0 ≡ 0
+unfolding maxTo
+max-none ends = refl
+
+pub max-next : (ends : List ℕ) (k s r : ℕ) → s ≡ maxTo (λ i. getD ends i 0) k → r ≡ max s (getD ends k 0) → r ≡ maxTo (λ i. getD ends i 0) (k + 1)
+unfolding maxTo
+max-next ends k s r es er = rw (add-one k) (er ∙ rw es refl)
+
+-- what the array holds is the end
+pub end-in-array : (w : Flow) (n i : ℕ) (ends zeros : List ℕ) → i < n → ends ≡ endsBelow w n ++ zeros → getD ends i 0 ≡ endOf w i
+end-in-array w n i ends zeros h e = rw (e, List·getD-append (endsBelow w n) zeros 0 i (rw (ends-length w n) h)) (ends-at w n i h)
+
+pub path-from-array : (x : FlowJobs) (ends zeros : List ℕ) → ends ≡ endsBelow (flowFrom x) (x .count) ++ zeros →
+    maxTo (λ i. getD ends i 0) (x .count) ≡ path (flowFrom x)
+unfolding path
+path-from-array x ends zeros e =
+    rw (count-of x) (max-ext (λ i. getD ends i 0) (endOf (flowFrom x)) (x .count) (λ i h. end-in-array (flowFrom x) (x .count) i ends zeros h e))
