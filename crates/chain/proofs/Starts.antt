@@ -11,7 +11,7 @@ use lib.ListN.{length, getD, set, replicate, length-append, List·getD-append}
 use lib.Seq.{set-at, append-snoc}
 use Rattle.rules.specs.Walks.{if_then_else_, maxTo, listFrom}
 use Rattle.rules.specs.Book.{Job, Flow, JobInRange, FlowInRange, jobCount, jobOf, noJob, hasBit, precedes}
-use Rattle.rules.specs.Ideal.{duration, startAfter, startOf, endOf, endsBelow, path}
+use Rattle.rules.specs.Ideal.{duration, lastTake, startAfter, startOf, endOf, endsBelow, path}
 use Rattle.rules.proofs.Walks.{last-or, max-ext, max-least, list-length, list-at}
 use Rattle.rules.proofs.Ideal.{ends-length, ends-at, end-is-start-plus-duration, start-is-largest-end, duration-is-least}
 use Rattle.book.specs.declared.FlowJobs.{FlowJobs}
@@ -139,3 +139,12 @@ pub path-from-array : (x : FlowJobs) (ends zeros : List ℕ) → ends ≡ endsBe
 unfolding path
 path-from-array x ends zeros e =
     rw (count-of x) (max-ext (λ i. getD ends i 0) (endOf (flowFrom x)) (x .count) (λ i h. end-in-array (flowFrom x) (x .count) i ends zeros h e))
+
+-- ---- starts and last takes, read off the ends
+module _ (x : FlowJobs) (i e : ℕ) (l : Lasting) (h : i < x .count) (at-end : e ≡ endOf (flowFrom x) i) (el : LastsAs (jobOfValues x i) l) where
+  -- the start stands the job's slots before its end
+  pub start-by-end : startOf (flowFrom x) i + l .slots ≡ e
+  start-by-end = omega (arith, at-end, el .slots, ap duration (job-at x i h), end-is-start-plus-duration (flowFrom x) i)
+
+  pub last-by-values : l .last ≡ lastTake (jobOf (flowFrom x) i)
+  last-by-values = el .last ∙ ap lastTake (sym (job-at x i h))

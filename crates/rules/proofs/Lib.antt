@@ -9,3 +9,4 @@ pub mod Fields
 -- the rules one by one
 pub mod Ideal
 pub mod PseudoJobs
+pub mod Shares
