@@ -3,3 +3,4 @@ pub mod Filled
 pub mod Durations
 pub mod Starts
 pub mod Takes
+pub mod Cuts

@@ -9,11 +9,12 @@ use native.Mathlib.Numerals.{add-one}
 use native.Mathlib.Omega.{arith}
 use lib.ListN.{length, getD, set, replicate, length-append, List·getD-append}
 use lib.Seq.{set-at, append-snoc}
-use Rattle.rules.specs.Walks.{if_then_else_, maxTo, listFrom}
+use Rattle.rules.specs.Walks.{if_then_else_, sumTo, maxTo, listFrom}
 use Rattle.rules.specs.Book.{Job, Flow, JobInRange, FlowInRange, jobCount, jobOf, noJob, hasBit, precedes}
-use Rattle.rules.specs.Ideal.{duration, lastTake, startAfter, startOf, endOf, endsBelow, path}
+use Rattle.rules.specs.Ideal.{duration, lastTake, startAfter, startOf, endOf, endsBelow, path, takeOf}
+use Rattle.rules.proofs.Sums.{sum-le}
 use Rattle.rules.proofs.Walks.{last-or, max-ext, max-least, list-length, list-at}
-use Rattle.rules.proofs.Ideal.{ends-length, ends-at, end-is-start-plus-duration, start-is-largest-end, duration-is-least}
+use Rattle.rules.proofs.Ideal.{ends-length, ends-at, end-is-start-plus-duration, start-is-largest-end, duration-is-least, duration-positive, size-left, take-within-cap, Sized}
 use Rattle.book.specs.declared.FlowJobs.{FlowJobs}
 use Rattle.book.specs.Promise.{flowFrom}
 use Rattle.chain.specs.declared.Lasting.{Lasting}
@@ -148,3 +149,42 @@ module _ (x : FlowJobs) (i e : ℕ) (l : Lasting) (h : i < x .count) (at-end : e
 
   pub last-by-values : l .last ≡ lastTake (jobOf (flowFrom x) i)
   last-by-values = el .last ∙ ap lastTake (sym (job-at x i h))
+
+-- ---- what the ranges give of one job
+last-take-positive : (j : Job) → 1 ≤ j .size → 1 ≤ j .cap → 1 ≤ lastTake j
+unfolding lastTake
+last-take-positive j some pos = omega (arith, size-left j pos (duration j - 1) (omega (arith, duration-positive j pos some)))
+
+module _ (x : FlowJobs) (input : ChainInput x) where
+  pub sized-of : Sized (flowFrom x)
+  sized-of =
+      record {
+        size-positive = λ i h. let l : i < x .count = omega (arith, h, count-of x) in rw (job-at x i l) (input .size-least i l);
+        cap-positive = λ i h. let l : i < x .count = omega (arith, h, count-of x) in rw (job-at x i l) (input .cap-least i l);
+      }
+
+  module _ (i : ℕ) (h : i < x .count) where
+    pub cap-at : getD (x .cap) i 0 ≡ jobOf (flowFrom x) i .cap
+    cap-at = rw (job-at x i h) refl
+
+    pub starts-before-end : startOf (flowFrom x) i < endOf (flowFrom x) i
+    starts-before-end =
+        let l : i < jobCount (flowFrom x) = rw (count-of x) h in
+        omega (
+          arith,
+          end-is-start-plus-duration (flowFrom x) i,
+          duration-positive (jobOf (flowFrom x) i) (sized-of .cap-positive i l) (sized-of .size-positive i l),
+        )
+
+    pub last-some : 1 ≤ lastTake (jobOf (flowFrom x) i)
+    last-some =
+        let l : i < jobCount (flowFrom x) = rw (count-of x) h in
+        last-take-positive (jobOf (flowFrom x) i) (sized-of .size-positive i l) (sized-of .cap-positive i l)
+
+    pub take-most : (u : ℕ) → takeOf (flowFrom x) i u ≤ 4096
+    take-most u =
+        omega (arith, take-within-cap (flowFrom x) i (omega (arith, cap-at, input .cap-least i h)) u, cap-at, input .cap-most i h)
+
+  -- a rate of n jobs
+  pub rate-most : (n t : ℕ) → n ≤ x .count → sumTo (λ i. takeOf (flowFrom x) i t) n ≤ 4096 * n
+  rate-most n t h = sum-le (λ i. takeOf (flowFrom x) i t) 4096 n (λ i l. take-most i (omega arith) t)
