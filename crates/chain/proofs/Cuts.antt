@@ -6,25 +6,23 @@ use mathlib.Core.Logic.{_⊎_, inl, inr}
 use mathlib.Core.Bool.{Bool, true, false}
 use mathlib.Core.List.{List, [], _∷_}
 use Prim.Native.Nat.{ℕ, zero, suc, _+_, _*_, _-_, _≤_, _<_}
-use native.Mathlib.Nat.{add-zero, not-suc-le-zero}
+use native.Mathlib.Nat.{not-suc-le-zero}
 use native.Mathlib.Numerals.{add-one}
 use native.Mathlib.Omega.{arith}
 use lib.ListN.{length, getD, set, replicate}
-use lib.Dec.{ltb, leb, eqb}
+use lib.Dec.{ltb, eqb}
 use borrow.Author.Tests.{eq-eqb, eqb-true, lt-ltb, le-ltb}
 use Rattle.rules.specs.Walks.{if_then_else_, sumTo, allTo}
 use Rattle.rules.specs.Book.{Flow, jobCount, jobOf}
-use Rattle.rules.specs.Ideal.{duration, lastTake, startOf, endOf, path, takeOf}
-use Rattle.rules.specs.PseudoJobs.{PseudoJob, unchanged, runs, chain, rate}
+use Rattle.rules.specs.Ideal.{lastTake, startOf, endOf, path, takeOf}
+use Rattle.rules.specs.PseudoJobs.{unchanged, runs, chain, rate}
 use Rattle.rules.proofs.Division.{lt-or-ge}
-use Rattle.rules.proofs.Sums.{sum-le}
 use Rattle.rules.proofs.Walks.{last-or, all-at, all-true}
 use Rattle.rules.proofs.Ideal.{Sized}
 use Rattle.rules.proofs.PseudoJobs.{run-step, chain-length}
 use Rattle.book.specs.declared.FlowJobs.{FlowJobs}
 use Rattle.book.specs.Promise.{flowFrom}
 use Rattle.chain.specs.declared.Ideal.{Ideal}
-use Rattle.chain.specs.declared.Run.{Run}
 use Rattle.chain.specs.Jobs.{ChainInput}
 use Rattle.chain.specs.Runs.{IdealOf, takeBetween, NextChange, FirstRun, RunAt, walk}
 use Rattle.chain.proofs.Starts.{count-of, cap-at, starts-before-end, last-some, take-most, rate-most}
@@ -140,12 +138,11 @@ module _ (x : FlowJobs) (y : Ideal) (input : ChainInput x) (ideal : IdealOf (flo
 
   -- what `until_change` asks of the job
   pub change-asked : (getD (y .starts) i 0 < getD (y .ends) i 0) × (1 ≤ getD (y .lasts) i 0) × (1 ≤ getD (x .cap) i 0)
-  change-asked =
-      (
-        omega (arith, ideal .starts i in-flow, ideal .ends i in-flow, starts-before-end x input i h),
-        omega (arith, ideal .lasts i in-flow, last-some x input i h),
-        input .cap-least i h,
-      )
+  change-asked = (
+    omega (arith, ideal .starts i in-flow, ideal .ends i in-flow, starts-before-end x input i h),
+    omega (arith, ideal .lasts i in-flow, last-some x input i h),
+    input .cap-least i h,
+  )
 
   take-is : (v : ℕ) → v ≡ takeAt t → v ≡ takeOf (flowFrom x) i t
   take-is v e = e ∙ take-by-values (flowFrom x) i _ _ _ _ (ideal .starts i in-flow) (ideal .ends i in-flow) (ideal .lasts i in-flow) (cap-at x input i h) t

@@ -5,7 +5,6 @@ use Prim.Native.Nat.{ℕ, zero, suc, _+_, _*_, _-_, _<_, _≤_}
 use native.Mathlib.Omega.{arith}
 use Rattle.rules.specs.Ideal.{quotientUp, duration, lastTake}
 use Rattle.rules.proofs.Division.{quotient-up-mul, quotient-up-eq}
-use Rattle.chain.specs.declared.Lasting.{Lasting}
 use Rattle.chain.specs.Jobs.{jobWith, LastsAs}
 
 -- the last take, where the duration is known

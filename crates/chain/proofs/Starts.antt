@@ -2,14 +2,14 @@
 -- held in an array of 64, gives the start and the end of the next job. Assumes nothing.
 use mathlib.Core.Path.{_≡_, refl, ap, sym, _∙_}
 use mathlib.Core.Bool.{Bool, true, false}
-use mathlib.Core.List.{List, [], _∷_, _++_}
+use mathlib.Core.List.{List, _++_}
 use Prim.Native.Nat.{ℕ, zero, suc, _+_, _*_, _-_, _<_, _≤_, max}
 use native.Mathlib.Nat.{zero-add, not-suc-le-zero}
 use native.Mathlib.Numerals.{add-one}
 use native.Mathlib.Omega.{arith}
-use lib.ListN.{length, getD, set, replicate, length-append, List·getD-append}
+use lib.ListN.{getD, set, replicate, List·getD-append}
 use lib.Seq.{set-at, append-snoc}
-use Rattle.rules.specs.Walks.{if_then_else_, sumTo, maxTo, listFrom}
+use Rattle.rules.specs.Walks.{if_then_else_, sumTo, maxTo}
 use Rattle.rules.specs.Book.{Job, Flow, JobInRange, FlowInRange, jobCount, jobOf, noJob, hasBit, precedes}
 use Rattle.rules.specs.Ideal.{duration, lastTake, startAfter, startOf, endOf, endsBelow, path, takeOf}
 use Rattle.rules.proofs.Sums.{sum-le}
@@ -18,7 +18,7 @@ use Rattle.rules.proofs.Ideal.{ends-length, ends-at, end-is-start-plus-duration
 use Rattle.book.specs.declared.FlowJobs.{FlowJobs}
 use Rattle.book.specs.Promise.{flowFrom}
 use Rattle.chain.specs.declared.Lasting.{Lasting}
-use Rattle.chain.specs.Jobs.{ChainInput, jobWith, jobOfValues, LastsAs, startAmong}
+use Rattle.chain.specs.Jobs.{ChainInput, jobOfValues, LastsAs, startAmong}
 
 -- ---- a flow's values
 module _ (x : FlowJobs) where

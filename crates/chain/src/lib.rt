@@ -2,14 +2,13 @@
 ghost use mathlib.Core.Path.{_≡_};
 ghost use mathlib.Core.List.{_++_};
 ghost use Prim.Native.Nat.{ℕ, _+_, _-_, _<_, _≤_, min, max};
-ghost use lib.ListN.{getD, replicate};
+ghost use lib.ListN.{replicate};
 ghost use Rattle.rules.specs.Walks.{if_then_else_};
 ghost use Rattle.rules.specs.Book.{hasBit};
 ghost use Rattle.rules.specs.Ideal.{endsBelow, path};
 ghost use Rattle.book.specs.Promise.{flowFrom};
 ghost use Rattle.chain.specs.Jobs.{ChainInput, jobWith, LastsAs, startAmong};
 ghost use Rattle.chain.specs.Runs.{IdealOf, takeBetween, NextChange, RunAt};
-
 use book::FlowJobs;
 
 // How many slots a job lasts, and what it takes in the last of them.

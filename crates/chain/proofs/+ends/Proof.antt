@@ -1,3 +1,5 @@
+-- `chain::ends` meets its contract, by recursion on the job number, which is the measure: the call below gives the ends of
+-- the lower jobs, and the end of job n - 1 is stored after them. Assumes nothing.
 use borrow.Author.Needs.{needs}
 use native.Mathlib.Omega.{arith}
 use Prim.Native.Nat.{ℕ, _-_, _<_}
@@ -21,125 +23,41 @@ ends-at t = and 0 ends-kinds.ps (is 0 ends-kinds.ps μ-ends t) ends.Pre
 abbrev ends-below : ℕ → In 0 ends-kinds.ps
 ends-below t = and 0 ends-kinds.ps (falls 0 ends-kinds.ps _<_ μ-ends t) ends.Pre
 
--- src/lib.rt:77:9
-ends-returns : (t : ℕ) → ends-lts.Need-returns (
-  ends-below t,
-  ends.Post,
-  start-of-reads.Asked,
-  start-of-reads.Learnt,
-  lasts-reads.Asked,
-  lasts-reads.Learnt,
-) (ends-at t) ends.Post
+-- what the calls inside are known to do
+abbrev claims : ℕ → ends-lts.Claims
+claims t = (ends-below t, ends.Post, start-of-reads.Asked, start-of-reads.Learnt, lasts-reads.Asked, lasts-reads.Learnt)
+
+ends-returns : (t : ℕ) → ends-lts.Need-returns (claims t) (ends-at t) ends.Post
 ends-returns t c = ends-none (c .before .args .t1) (c .before .pre .1 .0) (c .before .args .n) (c .if1 .taken)
 
--- src/lib.rt:79:13
-ends-sub-k : (t : ℕ) → ends-lts.Need-sub-k (
-  ends-below t,
-  ends.Post,
-  start-of-reads.Asked,
-  start-of-reads.Learnt,
-  lasts-reads.Asked,
-  lasts-reads.Learnt,
-) (ends-at t) ends.Post
+ends-sub-k : (t : ℕ) → ends-lts.Need-sub-k (claims t) (ends-at t) ends.Post
 ends-sub-k t c = search needs
 
--- src/lib.rt:80:19
-ends-ends-requires : (t : ℕ) → ends-lts.Need-ends-requires (
-  ends-below t,
-  ends.Post,
-  start-of-reads.Asked,
-  start-of-reads.Learnt,
-  lasts-reads.Asked,
-  lasts-reads.Learnt,
-) (ends-at t) ends.Post
+ends-ends-requires : (t : ℕ) → ends-lts.Need-ends-requires (claims t) (ends-at t) ends.Post
 ends-ends-requires t c κs = search needs
 
--- src/lib.rt:81:31
-ends-mul-start-of : (t : ℕ) → ends-lts.Need-mul-start-of (
-  ends-below t,
-  ends.Post,
-  start-of-reads.Asked,
-  start-of-reads.Learnt,
-  lasts-reads.Asked,
-  lasts-reads.Learnt,
-) (ends-at t) ends.Post
+ends-mul-start-of : (t : ℕ) → ends-lts.Need-mul-start-of (claims t) (ends-at t) ends.Post
 ends-mul-start-of t c = search needs
 
--- src/lib.rt:81:31
-ends-element-copy-out-start-of : (t : ℕ) → ends-lts.Need-element-copy-out-start-of (
-  ends-below t,
-  ends.Post,
-  start-of-reads.Asked,
-  start-of-reads.Learnt,
-  lasts-reads.Asked,
-  lasts-reads.Learnt,
-) (ends-at t) ends.Post
+ends-element-copy-out-start-of : (t : ℕ) → ends-lts.Need-element-copy-out-start-of (claims t) (ends-at t) ends.Post
 ends-element-copy-out-start-of t c = search needs
 
--- src/lib.rt:81:9
-ends-start-of-requires : (t : ℕ) → ends-lts.Need-start-of-requires (
-  ends-below t,
-  ends.Post,
-  start-of-reads.Asked,
-  start-of-reads.Learnt,
-  lasts-reads.Asked,
-  lasts-reads.Learnt,
-) (ends-at t) ends.Post
+ends-start-of-requires : (t : ℕ) → ends-lts.Need-start-of-requires (claims t) (ends-at t) ends.Post
 ends-start-of-requires t c κs = search needs
 
--- src/lib.rt:82:22
-ends-mul-lasts : (t : ℕ) → ends-lts.Need-mul-lasts (
-  ends-below t,
-  ends.Post,
-  start-of-reads.Asked,
-  start-of-reads.Learnt,
-  lasts-reads.Asked,
-  lasts-reads.Learnt,
-) (ends-at t) ends.Post
+ends-mul-lasts : (t : ℕ) → ends-lts.Need-mul-lasts (claims t) (ends-at t) ends.Post
 ends-mul-lasts t c = search needs
 
--- src/lib.rt:82:22
-ends-element-copy-out-lasts : (t : ℕ) → ends-lts.Need-element-copy-out-lasts (
-  ends-below t,
-  ends.Post,
-  start-of-reads.Asked,
-  start-of-reads.Learnt,
-  lasts-reads.Asked,
-  lasts-reads.Learnt,
-) (ends-at t) ends.Post
+ends-element-copy-out-lasts : (t : ℕ) → ends-lts.Need-element-copy-out-lasts (claims t) (ends-at t) ends.Post
 ends-element-copy-out-lasts t c = search needs
 
--- src/lib.rt:82:36
-ends-mul-lasts-2 : (t : ℕ) → ends-lts.Need-mul-lasts-2 (
-  ends-below t,
-  ends.Post,
-  start-of-reads.Asked,
-  start-of-reads.Learnt,
-  lasts-reads.Asked,
-  lasts-reads.Learnt,
-) (ends-at t) ends.Post
+ends-mul-lasts-2 : (t : ℕ) → ends-lts.Need-mul-lasts-2 (claims t) (ends-at t) ends.Post
 ends-mul-lasts-2 t c = search needs
 
--- src/lib.rt:82:36
-ends-element-copy-out-lasts-2 : (t : ℕ) → ends-lts.Need-element-copy-out-lasts-2 (
-  ends-below t,
-  ends.Post,
-  start-of-reads.Asked,
-  start-of-reads.Learnt,
-  lasts-reads.Asked,
-  lasts-reads.Learnt,
-) (ends-at t) ends.Post
+ends-element-copy-out-lasts-2 : (t : ℕ) → ends-lts.Need-element-copy-out-lasts-2 (claims t) (ends-at t) ends.Post
 ends-element-copy-out-lasts-2 t c = search needs
 
--- src/lib.rt:82:9
-ends-lasts-requires : (t : ℕ) → ends-lts.Need-lasts-requires (
-  ends-below t,
-  ends.Post,
-  start-of-reads.Asked,
-  start-of-reads.Learnt,
-  lasts-reads.Asked,
-  lasts-reads.Learnt,
-) (ends-at t) ends.Post
+ends-lasts-requires : (t : ℕ) → ends-lts.Need-lasts-requires (claims t) (ends-at t) ends.Post
 ends-lasts-requires t c κs =
     let o = c .before .before .before .before .before .before in
     let input = o .pre .1 .0 in
@@ -147,15 +65,7 @@ ends-lasts-requires t c κs =
     let h : k < o .args .t1 .count = omega arith in
     (input .size-least k h, input .size-most k h, input .cap-least k h)
 
--- src/lib.rt:83:14
-ends-add-all : (t : ℕ) → ends-lts.Need-add-all (
-  ends-below t,
-  ends.Post,
-  start-of-reads.Asked,
-  start-of-reads.Learnt,
-  lasts-reads.Asked,
-  lasts-reads.Learnt,
-) (ends-at t) ends.Post
+ends-add-all : (t : ℕ) → ends-lts.Need-add-all (claims t) (ends-at t) ends.Post
 ends-add-all t c =
     let o = c .before .before .before .before .before .before .before .before in
     let most =
@@ -172,37 +82,13 @@ ends-add-all t c =
     (c .before .lasts .ensures _) in
     omega arith
 
--- src/lib.rt:83:5
-ends-mul-all : (t : ℕ) → ends-lts.Need-mul-all (
-  ends-below t,
-  ends.Post,
-  start-of-reads.Asked,
-  start-of-reads.Learnt,
-  lasts-reads.Asked,
-  lasts-reads.Learnt,
-) (ends-at t) ends.Post
+ends-mul-all : (t : ℕ) → ends-lts.Need-mul-all (claims t) (ends-at t) ends.Post
 ends-mul-all t c = search needs
 
--- src/lib.rt:83:5
-ends-array-write-all : (t : ℕ) → ends-lts.Need-array-write-all (
-  ends-below t,
-  ends.Post,
-  start-of-reads.Asked,
-  start-of-reads.Learnt,
-  lasts-reads.Asked,
-  lasts-reads.Learnt,
-) (ends-at t) ends.Post
+ends-array-write-all : (t : ℕ) → ends-lts.Need-array-write-all (claims t) (ends-at t) ends.Post
 ends-array-write-all t c = search needs
 
--- src/lib.rt:72:1
-ends-returns-2 : (t : ℕ) → ends-lts.Need-returns-2 (
-  ends-below t,
-  ends.Post,
-  start-of-reads.Asked,
-  start-of-reads.Learnt,
-  lasts-reads.Asked,
-  lasts-reads.Learnt,
-) (ends-at t) ends.Post
+ends-returns-2 : (t : ℕ) → ends-lts.Need-returns-2 (claims t) (ends-at t) ends.Post
 ends-returns-2 t c =
     let o = c .before .before .before .before .before .before .before .before in
     ends-next
@@ -220,16 +106,7 @@ ends-returns-2 t c =
     (omega arith)
 
 pub +ends-spec : {M : Type 1} → statement M
-+ends-spec = close μ-ends λ t. ends-lts.spec (
-  ends-below t,
-  ends.Post,
-  start-of-reads.Asked,
-  start-of-reads.Learnt,
-  lasts-reads.Asked,
-  lasts-reads.Learnt,
-)
-    (ends-at t)
-    ends.Post
++ends-spec = close μ-ends λ t. ends-lts.spec (claims t) (ends-at t) ends.Post
     (ends-returns t)
     (ends-sub-k t)
     (ends-ends-requires t)

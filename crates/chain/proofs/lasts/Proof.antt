@@ -1,3 +1,4 @@
+-- `chain::lasts` meets its contract: the two laws of `Durations`, one for each arm, with the quotient and the rest. Assumes nothing.
 use Prim.Native.Nat.{_/_, _%_}
 use native.Mathlib.Nat.{div-add-mod', mod-lt, div-le-self}
 use native.Mathlib.Omega.{arith}
@@ -5,28 +6,21 @@ use Rattle.chain.proofs.Durations.{lasts-even, lasts-uneven}
 use borrow.Author.Needs.{needs}
 use Rattle.chain.proofs.lasts.Statement.{statement}
 use Rattle.chain.proofs.lasts.Tie as tie
-use Rattle.chain.proofs.lasts.Reads as reads
-use Rattle.chain.proofs.lasts.Lts as lts
 
--- src/lib.rt:25:17
 div-whole : tie.Need-div-whole
 div-whole c = search needs
 
--- src/lib.rt:26:16
 rem-rest : tie.Need-rem-rest
 rem-rest c = search needs
 
--- src/lib.rt:28:9
 returns : tie.Need-returns
 returns c p =
     let a = c .before .args in
     lasts-even (a .size) (a .cap) p (a .size / a .cap) (omega arith) (omega arith) (omega (arith, div-add-mod' (a .size) (a .cap)))
 
--- src/lib.rt:34:16
 add-t6 : tie.Need-add-t6
 add-t6 c = let a = c .before .args in omega (arith, div-le-self (a .size) (a .cap))
 
--- src/lib.rt:21:1
 returns-2 : tie.Need-returns-2
 returns-2 c p =
     let a = c .before .args in

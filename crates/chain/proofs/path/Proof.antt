@@ -1,3 +1,5 @@
+-- `chain::path` meets its contract. The loop's invariant: `largest` is the largest of the first k ends. The measure is what
+-- is left of the count. Assumes nothing.
 use borrow.Author.Needs.{needs}
 use mathlib.Core.Path.{_≡_, ap, sym, _∙_}
 use Prim.Native.Nat.{ℕ, _≤_, _-_}
@@ -7,9 +9,6 @@ use Rattle.rules.specs.Walks.{maxTo}
 use Rattle.chain.proofs.Starts.{max-none, max-next, path-from-array}
 use Rattle.chain.proofs.path.Statement.{statement}
 use Rattle.chain.proofs.path.Tie as tie
-use Rattle.chain.proofs.path.Reads as reads
-use Rattle.chain.proofs.path.Lts as lts
-use Rattle.chain.proofs.most.Reads as most-reads
 
 abbrev Inv-loop : tie.InvT-loop
 Inv-loop ends count largest₀ k₀ largest k = (k ≤ count) × (largest ≡ maxTo (λ i. getD ends i 0) k)
@@ -17,37 +16,29 @@ Inv-loop ends count largest₀ k₀ largest k = (k ≤ count) × (largest ≡ ma
 abbrev μ-loop : tie.MeasureT-loop
 μ-loop ends count largest₀ k₀ largest k = count - k
 
--- src/lib.rt:103:5
 loop-holds : tie.Need-loop-holds Inv-loop μ-loop
 loop-holds c = (omega arith, sym (max-none (c .args .t2)))
 
--- src/lib.rt:104:33
 mul-most : tie.Need-mul-most Inv-loop μ-loop
 mul-most c = search needs
 
--- src/lib.rt:104:33
 array-read-most : tie.Need-array-read-most Inv-loop μ-loop
 array-read-most c = search needs
 
--- src/lib.rt:104:9
 most-requires : tie.Need-most-requires Inv-loop μ-loop
 most-requires c κs = search needs
 
--- src/lib.rt:105:13
 add-k : tie.Need-add-k Inv-loop μ-loop
 add-k c = search needs
 
--- src/lib.rt:103:5
 loop-less : tie.Need-loop-less Inv-loop μ-loop
 loop-less c = search needs
 
--- src/lib.rt:103:5
 loop-again : tie.Need-loop-again Inv-loop μ-loop
 loop-again c =
     let l = c .before .before .loop in
     (omega arith, max-next (c .before .before .before .args .t2) (l .k) (l .largest) _ (l .inv .1) (c .most .ensures))
 
--- src/lib.rt:96:1
 returns : tie.Need-returns Inv-loop μ-loop
 returns c =
     let o = c .before .before in

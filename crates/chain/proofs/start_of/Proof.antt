@@ -1,16 +1,13 @@
+-- `chain::start_of` meets its contract. The loop's invariant: `start` is the largest end among the predecessors below k.
+-- The measure is what is left of n. Assumes nothing.
 use borrow.Author.Needs.{needs}
 use mathlib.Core.Path.{_≡_, ap, sym, _∙_}
 use Prim.Native.Nat.{ℕ, _≤_, _-_}
-use native.Mathlib.Numerals.{add-one}
 use native.Mathlib.Omega.{arith}
 use Rattle.chain.specs.Jobs.{startAmong}
 use Rattle.chain.proofs.Starts.{start-none, start-next}
 use Rattle.chain.proofs.start_of.Statement.{statement}
 use Rattle.chain.proofs.start_of.Tie as tie
-use Rattle.chain.proofs.start_of.Reads as reads
-use Rattle.chain.proofs.start_of.Lts as lts
-use Rattle.chain.proofs.end_if_before.Reads as end-if-before-reads
-use Rattle.chain.proofs.most.Reads as most-reads
 
 abbrev Inv-loop : tie.InvT-loop
 Inv-loop predecessors n ends start₀ k₀ start k = (k ≤ n) × (start ≡ startAmong predecessors ends k)
@@ -18,42 +15,33 @@ Inv-loop predecessors n ends start₀ k₀ start k = (k ≤ n) × (start ≡ sta
 abbrev μ-loop : tie.MeasureT-loop
 μ-loop predecessors n ends start₀ k₀ start k = n - k
 
--- src/lib.rt:64:5
 loop-holds : tie.Need-loop-holds Inv-loop μ-loop
 loop-holds c = (omega arith, sym (start-none (c .args .predecessors) (c .args .t1)))
 
--- src/lib.rt:65:43
 mul-end-if-before : tie.Need-mul-end-if-before Inv-loop μ-loop
 mul-end-if-before c = search needs
 
--- src/lib.rt:65:43
 array-read-end-if-before : tie.Need-array-read-end-if-before Inv-loop μ-loop
 array-read-end-if-before c = search needs
 
--- src/lib.rt:65:29
 end-if-before-requires : tie.Need-end-if-before-requires Inv-loop μ-loop
 end-if-before-requires c κs = search needs
 
--- src/lib.rt:65:9
 most-requires : tie.Need-most-requires Inv-loop μ-loop
 most-requires c κs = search needs
 
--- src/lib.rt:66:13
 add-k : tie.Need-add-k Inv-loop μ-loop
 add-k c = search needs
 
--- src/lib.rt:64:5
 loop-less : tie.Need-loop-less Inv-loop μ-loop
 loop-less c = search needs
 
--- src/lib.rt:64:5
 loop-again : tie.Need-loop-again Inv-loop μ-loop
 loop-again c =
     let a = c .before .before .before .before .args in
     let l = c .before .before .before .loop in
     (omega arith, start-next (a .predecessors) (l .k) (l .start) _ _ (a .t1) (l .inv .1) (c .before .end-if-before .ensures) (c .most .ensures))
 
--- src/lib.rt:58:1
 returns : tie.Need-returns Inv-loop μ-loop
 returns c =
     let a = c .before .before .args in
