@@ -3,23 +3,23 @@
 -- Assumes nothing.
 use mathlib.Core.Path.{_≡_, refl, sym, ap, _∙_}
 use mathlib.Core.Logic.{_⊎_, inl, inr}
-use mathlib.Core.Bool.{Bool, true, false}
+use mathlib.Core.Bool.{true, false}
 use mathlib.Core.List.{List, [], _∷_}
 use Prim.Native.Nat.{ℕ, zero, suc, _+_, _*_, _-_, _≤_, _<_}
 use native.Mathlib.Nat.{not-suc-le-zero}
 use native.Mathlib.Numerals.{add-one}
 use native.Mathlib.Omega.{arith}
 use lib.ListN.{length, getD, set, replicate}
-use lib.Dec.{ltb, eqb}
-use borrow.Author.Tests.{eq-eqb, eqb-true, lt-ltb, le-ltb}
-use Rattle.rules.specs.Walks.{if_then_else_, sumTo, allTo}
+use lib.Dec.{ltb}
+use borrow.Author.Tests.{lt-ltb, le-ltb}
+use Rattle.rules.specs.Walks.{if_then_else_, sumTo}
 use Rattle.rules.specs.Book.{Flow, jobCount, jobOf}
 use Rattle.rules.specs.Ideal.{lastTake, startOf, endOf, path, takeOf}
 use Rattle.rules.specs.PseudoJobs.{unchanged, runs, chain, rate}
 use Rattle.rules.proofs.Division.{lt-or-ge}
-use Rattle.rules.proofs.Walks.{last-or, all-at, all-true}
+use Rattle.rules.proofs.Walks.{last-or}
 use Rattle.rules.proofs.Ideal.{Sized}
-use Rattle.rules.proofs.PseudoJobs.{run-step, chain-length}
+use Rattle.rules.proofs.PseudoJobs.{unchanged-where-all-are, changed-where-one-is, run-step, chain-length}
 use Rattle.book.specs.declared.FlowJobs.{FlowJobs}
 use Rattle.book.specs.Promise.{flowFrom}
 use Rattle.chain.specs.declared.Ideal.{Ideal}
@@ -30,10 +30,12 @@ use Rattle.chain.proofs.Filled.{Filled, filled-none, filled-next}
 
 -- ---- one job, by its values
 module _ (w : Flow) (i start end last cap : ℕ) (es : start ≡ startOf w i) (ee : end ≡ endOf w i) (el : last ≡ lastTake (jobOf w i)) (ec : cap ≡ jobOf w i .cap) where
+  -- the take is that of the rules
   pub take-by-values : (u : ℕ) → takeBetween start end last cap u ≡ takeOf w i u
   unfolding takeBetween takeOf
   take-by-values u = rw (es, ee, el, ec) refl
 
+  -- and so is its next change
   pub change-by-values : (t limit n : ℕ) → NextChange (takeBetween start end last cap) t limit n → NextChange (takeOf w i) t limit n
   change-by-values t limit n c =
       record {
@@ -54,6 +56,7 @@ pub record RunSoFar (w : Flow) (t n width s : ℕ) (l : List ℕ) : Type 0 where
   pub changes : t + width < path w → (i : ℕ) × (i < n) × (takeOf w i (t + width) ≡ takeOf w i t → ⊥)
 
 module _ (w : Flow) (t : ℕ) where
+  -- before the first job the run may last to the path
   pub no-job-yet : (p : ℕ) → p ≡ path w → t < p → RunSoFar w t 0 (p - t) 0 (replicate 64 0)
   unfolding sumTo
   no-job-yet p e h =
@@ -66,6 +69,7 @@ module _ (w : Flow) (t : ℕ) where
         changes = λ l. absurd (omega arith);
       }
 
+  -- one more job shortens the run to where its take changes
   pub one-more-job : (n width r s v : ℕ) (l : List ℕ) → n < 64 → RunSoFar w t n width s l → v ≡ takeOf w n t → NextChange (takeOf w n) t width r →
       RunSoFar w t (n + 1) r (s + v) (set l n v)
   unfolding sumTo
@@ -86,19 +90,7 @@ module _ (w : Flow) (t : ℕ) where
           let k = so-far .changes (omega arith) in
           (k .0, omega (arith, k .1), λ q. k .2 (ap (λ (d : ℕ). takeOf w (k .0) (t + d)) e ∙ q))
 
-  -- a take that differs shows in the test over all jobs
-  changed : (u i : ℕ) → i < jobCount w → (takeOf w i u ≡ takeOf w i (u + 1) → ⊥) → unchanged w u ≡ false
-  unfolding unchanged
-  changed u i h ne = go (allTo (λ k. eqb (takeOf w k u) (takeOf w k (u + 1))) (jobCount w)) refl
-    where
-      go : (b : Bool) → allTo (λ k. eqb (takeOf w k u) (takeOf w k (u + 1))) (jobCount w) ≡ b → b ≡ false
-      go true e = absurd (ne (eqb-true _ _ (all-at _ (jobCount w) e i h)))
-      go false e = refl
-
-  same-takes : (u : ℕ) → ((i : ℕ) → i < jobCount w → takeOf w i u ≡ takeOf w i (u + 1)) → unchanged w u ≡ true
-  unfolding unchanged
-  same-takes u h = all-true _ (jobCount w) (λ i l. eq-eqb _ _ (h i l))
-
+  -- with all jobs counted in the run is the first one
   first-run : (width s : ℕ) (l : List ℕ) → RunSoFar w t (jobCount w) width s l → FirstRun w t width
   first-run zero s l so-far = absurd (omega (arith, so-far .some))
   first-run (suc m) s l so-far = record { some = so-far .some; within = so-far .within; step = step }
@@ -107,12 +99,12 @@ module _ (w : Flow) (t : ℕ) where
       next-slot i j = let e : t + j + 1 ≡ t + suc j = omega arith in ap (takeOf w i) e
 
       stays : (j : ℕ) → j < m → unchanged w (t + j) ≡ true
-      stays j h = same-takes (t + j) (λ i l. so-far .same i l j (omega arith) ∙ sym (next-slot i j ∙ so-far .same i l (suc j) (omega arith)))
+      stays j h = unchanged-where-all-are w (t + j) (λ i l. so-far .same i l j (omega arith) ∙ sym (next-slot i j ∙ so-far .same i l (suc j) (omega arith)))
 
       ends : (suc m ≡ path w - t → ⊥) → unchanged w (t + m) ≡ false
       ends ne =
           let k = so-far .changes (go (lt-or-ge (t + suc m) (path w))) in
-          changed (t + m) (k .0) (k .1) (λ q. k .2 (sym (next-slot (k .0) m) ∙ (sym q ∙ so-far .same (k .0) (k .1) m (omega arith))))
+          changed-where-one-is w (k .0) (t + m) (k .1) (λ q. k .2 (sym (next-slot (k .0) m) ∙ (sym q ∙ so-far .same (k .0) (k .1) m (omega arith))))
         where
           go : (t + suc m < path w) ⊎ (path w ≤ t + suc m) → t + suc m < path w
           go (inl h) = h
@@ -124,6 +116,7 @@ module _ (w : Flow) (t : ℕ) where
           let b : path w - t - suc m ≡ path w - (t + suc m) = omega arith in
           rw (a, b) at (run-step w m (path w - t) t (omega (arith, so-far .within)) stays ends)
 
+  -- .. with its takes and its rate
   pub all-jobs : (width s : ℕ) (l : List ℕ) → RunSoFar w t (jobCount w) width s l → RunAt w t (record { width = width; rate = s; takes = l })
   unfolding rate
   all-jobs width s l so-far = record { takes = so-far .takes .at; rate = so-far .rate; run = first-run width s l so-far }
@@ -148,6 +141,7 @@ module _ (x : FlowJobs) (y : Ideal) (input : ChainInput x) (ideal : IdealOf (flo
   take-is v e = e ∙ take-by-values (flowFrom x) i _ _ _ _ (ideal .starts i in-flow) (ideal .ends i in-flow) (ideal .lasts i in-flow) (cap-at x input i h) t
 
   module _ (width s v : ℕ) (l : List ℕ) (so-far : RunSoFar (flowFrom x) t i width s l) (ev : v ≡ takeAt t) where
+    -- a rate reaches 262,144
     pub rate-fits : s + v ≤ 262144
     rate-fits =
         omega (
@@ -159,6 +153,7 @@ module _ (x : FlowJobs) (y : Ideal) (input : ChainInput x) (ideal : IdealOf (flo
           input .count-most,
         )
 
+    -- one turn of the loop
     pub job-counted-in : (r : ℕ) → NextChange takeAt t width r → RunSoFar (flowFrom x) t (i + 1) r (s + v) (set l i v)
     job-counted-in r next =
         one-more-job

@@ -10,7 +10,7 @@ use native.Mathlib.Omega.{arith}
 use lib.ListN.{getD, length, length-append, List·getD-append}
 use lib.Seq.{getD-at}
 use lib.Dec.{ltb, leb, eqb}
-use borrow.Author.Tests.{lt-ltb, le-ltb, le-leb, lt-leb, eqb-true, eqb-false}
+use borrow.Author.Tests.{lt-ltb, le-ltb, le-leb, lt-leb, eq-eqb, ne-eqb}
 use Rattle.rules.specs.Walks.{if_then_else_, sumTo, maxTo}
 use Rattle.rules.specs.Book.{Job, Flow, jobCount, jobOf, precedes, FlowInRange}
 use Rattle.rules.specs.Ideal.{quotientUp, duration, lastTake, startAfter, endsBelow, startOf, endOf, path, takeOf}
@@ -107,9 +107,9 @@ module _ (j : Job) (pos : 1 ≤ j .cap) where
   last-take : (d : ℕ) → suc d ≡ duration j → lastTake j ≡ min (j .cap) (j .size - d * j .cap)
   unfolding lastTake
   last-take d e =
-      let q : duration j - 1 ≡ d = omega arith in
       let enough : j .size ≤ suc d * j .cap = rw e size-within-duration in
-      rw q (omega arith)
+      let before : (duration j - 1) * j .cap ≡ d * j .cap = ap (_* j .cap) (omega arith) in
+      omega arith
 
   no-take : (d : ℕ) → duration j ≤ d → 0 ≡ min (j .cap) (j .size - d * j .cap)
   no-take d h = omega (arith, size-within-duration, mul-le-mul-right (j .cap) h)
@@ -146,6 +146,14 @@ module _ (w : Flow) (i : ℕ) where
   unfolding takeOf
   take-running u h l = rw (le-ltb u (startOf w i) h, lt-leb (endOf w i) u l) refl
 
+  pub take-is-cap : (u : ℕ) → startOf w i ≤ u → u + 1 < endOf w i → takeOf w i u ≡ jobOf w i .cap
+  take-is-cap u h l =
+      take-running u h (omega arith) ∙ ap (λ (b : Bool). if b then lastTake (jobOf w i) else jobOf w i .cap) (ne-eqb (u + 1) (endOf w i) (λ q. omega arith))
+
+  pub take-is-last : (u : ℕ) → startOf w i ≤ u → u + 1 ≡ endOf w i → takeOf w i u ≡ lastTake (jobOf w i)
+  take-is-last u h q =
+      take-running u h (omega arith) ∙ ap (λ (b : Bool). if b then lastTake (jobOf w i) else jobOf w i .cap) (eq-eqb (u + 1) (endOf w i) q)
+
   pub take-only-from-start : (u : ℕ) → 0 < takeOf w i u → startOf w i ≤ u
   take-only-from-start u h = go (lt-or-ge u (startOf w i))
     where
@@ -163,17 +171,14 @@ module _ (w : Flow) (i : ℕ) where
   module _ (pos : 1 ≤ jobOf w i .cap) where
     -- rule 1 as one formula
     pub take-formula : (u : ℕ) → startOf w i ≤ u → takeOf w i u ≡ min (jobOf w i .cap) (jobOf w i .size - (u - startOf w i) * jobOf w i .cap)
-    take-formula u h = go (lt-or-ge u (endOf w i))
+    take-formula u h = go (lt-or-ge (u + 1) (endOf w i)) (lt-or-ge u (endOf w i))
       where
-        running : u < endOf w i → (b : Bool) → eqb (u + 1) (endOf w i) ≡ b →
-            (if b then lastTake (jobOf w i) else jobOf w i .cap) ≡ min (jobOf w i .cap) (jobOf w i .size - (u - startOf w i) * jobOf w i .cap)
-        running l true e = last-take (jobOf w i) pos (u - startOf w i) (omega (arith, eqb-true (u + 1) (endOf w i) e, end-is-start-plus-duration w i))
-        running l false e =
-            full-take (jobOf w i) pos (u - startOf w i) (omega (arith, eqb-false (u + 1) (endOf w i) e, end-is-start-plus-duration w i))
-
-        go : (u < endOf w i) ⊎ (endOf w i ≤ u) → takeOf w i u ≡ min (jobOf w i .cap) (jobOf w i .size - (u - startOf w i) * jobOf w i .cap)
-        go (inl l) = take-running u h l ∙ running l (eqb (u + 1) (endOf w i)) refl
-        go (inr l) = take-from-end u l ∙ no-take (jobOf w i) pos (u - startOf w i) (omega (arith, end-is-start-plus-duration w i))
+        go : (u + 1 < endOf w i) ⊎ (endOf w i ≤ u + 1) → (u < endOf w i) ⊎ (endOf w i ≤ u) →
+            takeOf w i u ≡ min (jobOf w i .cap) (jobOf w i .size - (u - startOf w i) * jobOf w i .cap)
+        go (inl m) o = take-is-cap u h m ∙ full-take (jobOf w i) pos (u - startOf w i) (omega (arith, end-is-start-plus-duration w i))
+        go (inr m) (inl l) =
+            take-is-last u h (omega arith) ∙ last-take (jobOf w i) pos (u - startOf w i) (omega (arith, end-is-start-plus-duration w i))
+        go (inr m) (inr l) = take-from-end u l ∙ no-take (jobOf w i) pos (u - startOf w i) (omega (arith, end-is-start-plus-duration w i))
 
     pub take-within-cap : (u : ℕ) → takeOf w i u ≤ jobOf w i .cap
     take-within-cap u = go (lt-or-ge u (startOf w i))

@@ -10,22 +10,14 @@ use native.Mathlib.Omega.{arith}
 use lib.ListN.{length}
 use lib.Dec.{eqb}
 use borrow.Author.Tests.{eqb-true, eqb-false, eq-eqb, ne-eqb}
-use Rattle.rules.specs.Walks.{if_then_else_, sumTo, allTo, bit, countTo}
+use Rattle.rules.specs.Walks.{if_then_else_, sumTo, bit, countTo}
 use Rattle.rules.specs.Book.{Flow, jobCount, jobOf}
-use Rattle.rules.specs.Ideal.{duration, startOf, endOf, path, takeOf}
+use Rattle.rules.specs.Ideal.{startOf, endOf, path, takeOf}
 use Rattle.rules.specs.PseudoJobs.{PseudoJob, unchanged, prepend, runs, chain, rate, work}
 use Rattle.rules.proofs.Division.{lt-or-ge}
 use Rattle.rules.proofs.Sums.{sum-ext, sum-first, sum-add, sum-mono, sum-swap, sum-const, sum-lt, le-sum, count-none, count-once}
-use Rattle.rules.proofs.Walks.{all-at, all-not}
-use Rattle.rules.proofs.Ideal.{
-  Sized,
-  end-is-start-plus-duration,
-  start-is-an-end,
-  path-is-an-end,
-  take-positive,
-  take-changes,
-  take-sum-path,
-}
+use Rattle.rules.proofs.Walks.{all-at, all-not, all-true}
+use Rattle.rules.proofs.Ideal.{Sized, start-is-an-end, path-is-an-end, take-positive, take-changes, take-sum-path}
 
 -- ---- lists of pseudo-jobs
 -- all of them have a property
@@ -51,6 +43,10 @@ unfolding sumOver
 sum-over-ext g h e [] = refl
 sum-over-ext g h e (p ∷ ps) = omega (arith, e p, sum-over-ext g h e ps)
 
+-- what they weigh: each its width times the weight of its first slot
+abbrev pub weigh : (ℕ → ℕ) → List PseudoJob → ℕ
+weigh g ps = sumOver (λ p. p .width * g (p .first)) ps
+
 -- they stand one after the other, from ideal slot u on
 abbrev pub Consecutive : ℕ → List PseudoJob → Type 0
 Consecutive u [] = Unit {0}
@@ -70,6 +66,12 @@ consecutive-within u (p ∷ ps) c = (
       (λ q h. (omega (arith, h .0), omega (arith, h .1))) ps (consecutive-within (u + p .width) ps (c .1)),
 )
 
+-- the later ones stand at later ideal slots
+pub consecutive-later : (u : ℕ) (p : PseudoJob) (ps : List PseudoJob) → Consecutive u (p ∷ ps) → Every (λ q. p .first + p .width ≤ q .first) ps
+consecutive-later u p ps c =
+    every-map (Within (u + p .width) (sumOver (λ q. q .width) ps)) (λ q. p .first + p .width ≤ q .first) (λ q h. omega (arith, c .0, h .0)) ps
+    (consecutive-within (u + p .width) ps (c .1))
+
 -- a run of slots with the same takes
 pub record Run (w : Flow) (p : PseudoJob) : Type 0 where
   pub width-positive : 0 < p .width
@@ -80,6 +82,14 @@ abbrev pub Maximal : Flow → List PseudoJob → Type 0
 Maximal w [] = Unit {0}
 Maximal w (p ∷ []) = Unit {0}
 Maximal w (p ∷ q ∷ ps) = ((u : ℕ) → u + 1 ≡ p .first + p .width → unchanged w u ≡ false) × Maximal w (q ∷ ps)
+
+-- a sum from slot u on, its first slot split off
+sum-from : (g : ℕ → ℕ) (u n : ℕ) → sumTo (λ t. g (u + t)) (suc n) ≡ g u + sumTo (λ t. g (u + 1 + t)) n
+sum-from g u n =
+    let one : g (u + 0) ≡ g u = ap g (add-zero u) in
+    let shift : sumTo (λ t. g (u + 1 + t)) n ≡ sumTo (λ t. g (u + suc t)) n =
+    sum-ext (λ t. g (u + 1 + t)) (λ t. g (u + suc t)) n (λ t l. ap g (omega arith)) in
+    omega (arith, sum-first (λ t. g (u + t)) n)
 
 module _ (w : Flow) where
   -- ---- one slot before the runs
@@ -188,24 +198,25 @@ module _ (w : Flow) where
   runs-length zero u = refl
   runs-length (suc n) u =
       let ih : length (runs w (suc n) (u + 1)) ≡ suc (countTo (λ t. not (unchanged w (u + 1 + t))) n) = runs-length n (u + 1) in
-      let shift : countTo (λ t. not (unchanged w (u + 1 + t))) n ≡ countTo (λ t. not (unchanged w (u + suc t))) n =
-      sum-ext (λ t. bit (not (unchanged w (u + 1 + t)))) (λ t. bit (not (unchanged w (u + suc t)))) n
-      (λ t l. ap (λ (x : ℕ). bit (not (unchanged w x))) (omega arith)) in
-      let one : bit (not (unchanged w (u + 0))) ≡ bit (not (unchanged w u)) = ap (λ (x : ℕ). bit (not (unchanged w x))) (add-zero u) in
-      omega (
-        arith,
-        prepend-length u (runs w (suc n) (u + 1)) (omega (arith, ih)),
-        ih,
-        shift,
-        one,
-        sum-first (λ t. bit (not (unchanged w (u + t)))) n,
-      )
+      omega (arith, prepend-length u (runs w (suc n) (u + 1)) (omega (arith, ih)), ih, sum-from (λ t. bit (not (unchanged w t))) u n)
 
   -- ---- takes along a run
   pub unchanged-take : (i u : ℕ) → i < jobCount w → unchanged w u ≡ true → takeOf w i u ≡ takeOf w i (u + 1)
   unfolding unchanged
   unchanged-take i u l e =
       eqb-true (takeOf w i u) (takeOf w i (u + 1)) (all-at (λ k. eqb (takeOf w k u) (takeOf w k (u + 1))) (jobCount w) e i l)
+
+  pub unchanged-where-all-are : (u : ℕ) → ((i : ℕ) → i < jobCount w → takeOf w i u ≡ takeOf w i (u + 1)) → unchanged w u ≡ true
+  unfolding unchanged
+  unchanged-where-all-are u h =
+      all-true (λ i. eqb (takeOf w i u) (takeOf w i (u + 1))) (jobCount w) (λ i l. eq-eqb (takeOf w i u) (takeOf w i (u + 1)) (h i l))
+
+  pub changed-where-one-is : (i u : ℕ) → i < jobCount w → (takeOf w i u ≡ takeOf w i (u + 1) → ⊥) → unchanged w u ≡ false
+  changed-where-one-is i u l ne = go (unchanged w u) refl
+    where
+      go : (b : Bool) → unchanged w u ≡ b → unchanged w u ≡ false
+      go true e = absurd (ne (unchanged-take i u l e))
+      go false e = e
 
   -- at every slot of a run the takes are those at its first
   pub take-along-run : (p : PseudoJob) → Run w p → (i j : ℕ) → i < jobCount w → j < p .width → takeOf w i (p .first + j) ≡ takeOf w i (p .first)
@@ -222,10 +233,7 @@ module _ (w : Flow) where
   unchanged-rate : (u : ℕ) → unchanged w u ≡ true → slotRate u ≡ slotRate (u + 1)
   unchanged-rate u e = sum-ext (λ i. takeOf w i u) (λ i. takeOf w i (u + 1)) (jobCount w) (λ i l. unchanged-take i u l e)
 
-  -- ---- what the runs weigh: each its width times the weight of its first slot
-  abbrev pub weigh : (ℕ → ℕ) → List PseudoJob → ℕ
-  weigh g ps = sumOver (λ p. p .width * g (p .first)) ps
-
+  -- ---- what the runs weigh
   prepend-weigh : (g : ℕ → ℕ) (u : ℕ) (ps : List PseudoJob) → Consecutive (u + 1) ps → (unchanged w u ≡ true → g u ≡ g (u + 1)) →
       weigh g (prepend w u ps) ≡ g u + weigh g ps
   unfolding prepend sumOver
@@ -243,16 +251,11 @@ module _ (w : Flow) where
   unfolding runs sumOver sumTo
   runs-weigh g steady zero u = refl
   runs-weigh g steady (suc n) u =
-      let shift : sumTo (λ t. g (u + 1 + t)) n ≡ sumTo (λ t. g (u + suc t)) n =
-      sum-ext (λ t. g (u + 1 + t)) (λ t. g (u + suc t)) n (λ t l. ap g (omega arith)) in
-      let one : g (u + 0) ≡ g u = ap g (add-zero u) in
       omega (
         arith,
         prepend-weigh g u (runs w n (u + 1)) (runs-consecutive n (u + 1)) (steady u),
         runs-weigh g steady n (u + 1),
-        shift,
-        one,
-        sum-first (λ t. g (u + t)) n,
+        sum-from g u n,
       )
 
   pub chain-weigh : (g : ℕ → ℕ) → ((u : ℕ) → unchanged w u ≡ true → g u ≡ g (u + 1)) → weigh g (chain w) ≡ sumTo g (path w)

@@ -3,7 +3,6 @@
 -- shares that stay within takes, that sum to what is given, and a form without division for one slot. Assumes nothing.
 use mathlib.Core.Path.{_≡_, refl, sym, ap, _∙_}
 use mathlib.Core.Logic.{_⊎_, inl, inr}
-use mathlib.Core.Bool.{Bool, true, false}
 use mathlib.Core.List.{List, [], _∷_, _++_}
 use Prim.Native.Nat.{ℕ, zero, suc, _+_, _*_, _-_, _/_, _%_, _≤_, _<_, min, max}
 use native.Mathlib.Nat.{
@@ -11,36 +10,35 @@ use native.Mathlib.Nat.{
   mod-lt,
   mul-le-mul-right,
   le-of-eq,
+  le-of-lt,
   add-div-right,
   add-mod-right,
   mul-div-cancel,
   mul-mod-left,
-  not-suc-le-zero,
-  zero-sub,
-  sub-zero,
-  max-eq-left,
-  max-eq-right,
-  le-of-lt,
-  min-zero,
-  add-zero,
-  add-comm,
   zero-div,
   zero-mod,
   div-eq-of-lt,
   mod-eq-of-lt,
+  not-suc-le-zero,
+  zero-sub,
+  sub-zero,
+  add-zero,
+  add-comm,
+  min-zero,
+  max-eq-left,
+  max-eq-right,
 }
 use native.Mathlib.Omega.{arith}
 use lib.ListN.{length, length-append, length-replicate, take, drop, replicate}
-use lib.Seq.{take-add, take-append-le, take-append-add, take-all, take-nil}
-use lib.Dec.{eqb}
+use lib.Seq.{take-add, take-nil}
 use borrow.Author.Tests.{eq-eqb, ne-eqb}
-use Rattle.rules.specs.Walks.{sumTo, bit, joinFrom}
+use Rattle.rules.specs.Walks.{sumTo, joinFrom}
 use Rattle.rules.specs.Book.{Flow, jobCount}
 use Rattle.rules.specs.Ideal.{takeOf}
 use Rattle.rules.specs.PseudoJobs.{PseudoJob, rate, work}
 use Rattle.rules.specs.Placing.{slotUnits, units, unitsOf, share}
 use Rattle.rules.proofs.Division.{lt-or-ge, div-mod-mono}
-use Rattle.rules.proofs.Sums.{sum-ext, sum-add, sum-scale, sum-const, sum-up, sum-zero}
+use Rattle.rules.proofs.Sums.{sum-ext, sum-add, sum-scale, sum-const, sum-up}
 use Rattle.rules.proofs.Walks.{last-or, join-snoc, join-length}
 
 -- the units of a slot of the run that come before those of job i
@@ -265,6 +263,10 @@ module _ (w : Flow) (p : PseudoJob) where
         ap (unitsOf i) (take-add x n (units w p)),
         units-of-append i (take x (units w p)) (take n (drop x (units w p))),
       )
+
+  pub share-of-nothing : (i x : ℕ) → share w p i x 0 ≡ 0
+  unfolding share unitsOf
+  share-of-nothing i x = refl
 
   -- no job has more than its take in a slot that uses at most as many units as the rate: no job can pass its cap
   pub share-within-take : (i x n : ℕ) → 0 < rate w p → x + n ≤ work w p → n ≤ rate w p → i < jobCount w → share w p i x n ≤ takeOf w i (p .first)
