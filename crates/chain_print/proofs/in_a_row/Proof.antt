@@ -1,51 +1,46 @@
+-- `chain_print::in_a_row` meets its contract: its jobs are all of one size and cap. The measure is what is left of the count.
+-- Assumes nothing.
 use borrow.Author.Needs.{needs}
-use native.Mathlib.Omega.{arith}
+use Prim.Native.Nat.{_≤_, _-_}
+use Rattle.chain_print.proofs.Inputs.{equal-jobs}
 use Rattle.chain_print.proofs.in_a_row.Statement.{statement}
 use Rattle.chain_print.proofs.in_a_row.Tie as tie
-use Rattle.chain_print.proofs.in_a_row.Reads as reads
-use Rattle.chain_print.proofs.in_a_row.Lts as lts
 
 abbrev Inv-loop : tie.InvT-loop
-Inv-loop count size cap predecessors₀ i₀ predecessors i = ?
+Inv-loop count size cap predecessors₀ i₀ predecessors i = 1 ≤ i
 
 abbrev μ-loop : tie.MeasureT-loop
-μ-loop count size cap predecessors₀ i₀ predecessors i = ?
+μ-loop count size cap predecessors₀ i₀ predecessors i = count - i
 
--- src/main.rt:60:5
 loop-holds : tie.Need-loop-holds Inv-loop μ-loop
 loop-holds c = search needs
 
--- src/main.rt:61:36
 sub-predecessors : tie.Need-sub-predecessors Inv-loop μ-loop
 sub-predecessors c = search needs
 
--- src/main.rt:61:27
 shl-predecessors : tie.Need-shl-predecessors Inv-loop μ-loop
 shl-predecessors c = search needs
 
--- src/main.rt:61:9
 mul-predecessors : tie.Need-mul-predecessors Inv-loop μ-loop
 mul-predecessors c = search needs
 
--- src/main.rt:61:9
 array-write-predecessors : tie.Need-array-write-predecessors Inv-loop μ-loop
 array-write-predecessors c = search needs
 
--- src/main.rt:62:13
 add-i : tie.Need-add-i Inv-loop μ-loop
 add-i c = search needs
 
--- src/main.rt:60:5
 loop-less : tie.Need-loop-less Inv-loop μ-loop
 loop-less c = search needs
 
--- src/main.rt:60:5
 loop-again : tie.Need-loop-again Inv-loop μ-loop
 loop-again c = search needs
 
--- src/main.rt:54:1
 returns : tie.Need-returns Inv-loop μ-loop
-returns c = search needs
+returns c =
+    let o = c .before .before in
+    let a = o .args in
+    equal-jobs 4096 (a .count) (a .size) (a .cap) (c .before .loop .predecessors) (o .pre .0) (o .pre .1) (o .pre .2) (o .pre .3) (o .pre .4)
 
 pub in-a-row-spec : {M : Type 1} → statement M
 in-a-row-spec =

@@ -1,88 +1,67 @@
+-- `chain_print::print_run` meets its contract. The loop's invariant: i is at most the count. The measure is what is left of it.
+-- Assumes nothing.
 use borrow.Author.Needs.{needs}
-use native.Mathlib.Omega.{arith}
+use Prim.Native.Nat.{_≤_, _-_}
 use Rattle.chain_print.proofs.print_run.Statement.{statement}
 use Rattle.chain_print.proofs.print_run.Tie as tie
-use Rattle.chain_print.proofs.print_run.Reads as reads
-use Rattle.chain_print.proofs.print_run.Lts as lts
-use Rattle.chain_print.proofs.print_number.Reads as print-number-reads
-use Rattle.chain_print.proofs.print_take.Reads as print-take-reads
-use Rattle.io.proofs.write_all.Reads as write-all-reads
 
 abbrev Inv-loop : tie.InvT-loop
-Inv-loop first count run i₀ t9 i = ?
+Inv-loop first count run i₀ t9 i = i ≤ count
 
 abbrev μ-loop : tie.MeasureT-loop
-μ-loop first count run i₀ t9 i = ?
+μ-loop first count run i₀ t9 i = count - i
 
--- src/main.rt:25:18
 slice-aggregate-print-number : tie.Need-slice-aggregate-print-number Inv-loop μ-loop
 slice-aggregate-print-number c = search needs
 
--- src/main.rt:25:5
 print-number-requires : tie.Need-print-number-requires Inv-loop μ-loop
 print-number-requires c κs = search needs
 
--- src/main.rt:26:18
 slice-aggregate-print-number-2 : tie.Need-slice-aggregate-print-number-2 Inv-loop μ-loop
 slice-aggregate-print-number-2 c = search needs
 
--- src/main.rt:26:30
 cast-print-number : tie.Need-cast-print-number Inv-loop μ-loop
 cast-print-number c = search needs
 
--- src/main.rt:26:5
 print-number-requires-2 : tie.Need-print-number-requires-2 Inv-loop μ-loop
 print-number-requires-2 c κs = search needs
 
--- src/main.rt:27:18
 slice-aggregate-print-number-3 : tie.Need-slice-aggregate-print-number-3 Inv-loop μ-loop
 slice-aggregate-print-number-3 c = search needs
 
--- src/main.rt:27:29
 cast-print-number-2 : tie.Need-cast-print-number-2 Inv-loop μ-loop
 cast-print-number-2 c = search needs
 
--- src/main.rt:27:5
 print-number-requires-3 : tie.Need-print-number-requires-3 Inv-loop μ-loop
 print-number-requires-3 c κs = search needs
 
--- src/main.rt:29:5
 loop-holds : tie.Need-loop-holds Inv-loop μ-loop
 loop-holds c = search needs
 
--- src/main.rt:30:23
 mul-print-take : tie.Need-mul-print-take Inv-loop μ-loop
 mul-print-take c = search needs
 
--- src/main.rt:30:23
 element-copy-out-print-take : tie.Need-element-copy-out-print-take Inv-loop μ-loop
 element-copy-out-print-take c = search needs
 
--- src/main.rt:30:9
 print-take-requires : tie.Need-print-take-requires Inv-loop μ-loop
 print-take-requires c κs = search needs
 
--- src/main.rt:31:13
 add-i : tie.Need-add-i Inv-loop μ-loop
 add-i c = search needs
 
--- src/main.rt:29:5
 loop-less : tie.Need-loop-less Inv-loop μ-loop
 loop-less c = search needs
 
--- src/main.rt:29:5
 loop-again : tie.Need-loop-again Inv-loop μ-loop
 loop-again c = search needs
 
--- src/main.rt:33:34
 slice-aggregate-write-all : tie.Need-slice-aggregate-write-all Inv-loop μ-loop
 slice-aggregate-write-all c = search needs
 
--- src/main.rt:33:5
 write-all-requires : tie.Need-write-all-requires Inv-loop μ-loop
 write-all-requires c κs = search needs
 
--- src/main.rt:22:1
 returns : tie.Need-returns Inv-loop μ-loop
 returns c = search needs
 
