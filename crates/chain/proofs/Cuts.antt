@@ -23,9 +23,10 @@ use Rattle.rules.proofs.PseudoJobs.{unchanged-where-all-are, changed-where-one-
 use Rattle.book.specs.declared.FlowJobs.{FlowJobs}
 use Rattle.book.specs.Promise.{flowFrom}
 use Rattle.chain.specs.declared.Ideal.{Ideal}
+use Rattle.chain.specs.declared.Run.{Run}
 use Rattle.chain.specs.Jobs.{ChainInput}
 use Rattle.chain.specs.Runs.{IdealOf, takeBetween, NextChange, FirstRun, RunAt, walk}
-use Rattle.chain.proofs.Starts.{count-of, cap-at, starts-before-end, last-some, take-most, rate-most}
+use Rattle.chain.proofs.Starts.{count-of, sized-of, cap-at, starts-before-end, last-some, take-most, rate-most}
 use Rattle.chain.proofs.Filled.{Filled, filled-none, filled-next}
 
 -- ---- one job, by its values
@@ -119,7 +120,7 @@ module _ (w : Flow) (t : ℕ) where
   -- .. with its takes and its rate
   pub all-jobs : (width s : ℕ) (l : List ℕ) → RunSoFar w t (jobCount w) width s l → RunAt w t (record { width = width; rate = s; takes = l })
   unfolding rate
-  all-jobs width s l so-far = record { takes = so-far .takes .at; rate = so-far .rate; run = first-run width s l so-far }
+  all-jobs width s l so-far = record { takes = so-far .takes .at; no-more = so-far .takes .rest; rate = so-far .rate; run = first-run width s l so-far }
 
 -- ---- one job by the arrays' values
 module _ (x : FlowJobs) (y : Ideal) (input : ChainInput x) (ideal : IdealOf (flowFrom x) y) (t i : ℕ) (h : i < x .count) where
@@ -199,3 +200,10 @@ walk-is-chain w sized width first =
     let z : path w - 0 ≡ path w = omega arith in
     let most : length (runs w (path w - 0) 0) ≤ 2 * jobCount w = rw z (chain-length w sized) in
     walk-is-runs w width first (2 * jobCount w) 0 most ∙ ap (λ (n : ℕ). runs w n 0) z
+
+-- walking a flow's values from 0 by the widths of `run_at` gives exactly the chain, in at most 2 × n steps
+pub walk-by-runs-is-chain : (x : FlowJobs) → ChainInput x → (r : ℕ → Run) → ((t : ℕ) → t < path (flowFrom x) → RunAt (flowFrom x) t (r t)) →
+    walk (λ t. r t .width) (path (flowFrom x)) (2 * x .count) 0 ≡ chain (flowFrom x)
+walk-by-runs-is-chain x input r each =
+    let w = flowFrom x in
+    ap (λ (n : ℕ). walk (λ t. r t .width) (path w) (2 * n) 0) (sym (count-of x)) ∙ walk-is-chain w (sized-of x input) (λ t. r t .width) (λ t h. each t h .run)

@@ -22,10 +22,12 @@ use Rattle.chain.specs.Jobs.{ChainInput, jobOfValues, LastsAs, startAmon
 
 -- ---- a flow's values
 module _ (x : FlowJobs) where
+  -- as many jobs
   pub count-of : jobCount (flowFrom x) ≡ x .count
   unfolding flowFrom
   count-of = list-length _ (x .count) 0
 
+  -- .. and the same ones
   pub job-at : (i : ℕ) → i < x .count → jobOf (flowFrom x) i ≡ jobOfValues x i
   unfolding flowFrom jobOf
   job-at i h = list-at (jobOfValues x) (x .count) 0 i noJob h ∙ ap (jobOfValues x) (zero-add i)
@@ -72,6 +74,7 @@ module _ (x : FlowJobs) (input : ChainInput x) where
       let least = duration-is-least (jobOfValues x i) (input .cap-least i h) 1000000 (omega (arith, input .size-most i h, input .cap-least i h)) in
       rw (job-at x i h) least
 
+  -- n jobs have ended after 1,000,000 slots each, at the latest
   pub end-most : (n : ℕ) → n ≤ x .count → (i : ℕ) → i < n → endOf (flowFrom x) i ≤ 1000000 * n
   end-most zero most i h = absurd (not-suc-le-zero h)
   end-most (suc n) most i h =
@@ -79,6 +82,13 @@ module _ (x : FlowJobs) (input : ChainInput x) where
       last-or i n h
       (λ q. rw q (omega (arith, end-is-start-plus-duration (flowFrom x) n, start-within (flowFrom x) n (1000000 * n) below, duration-most n (omega arith))))
       (λ l. omega (arith, below i l))
+
+  -- a path reaches 64,000,000
+  pub path-most : path (flowFrom x) ≤ 64000000
+  unfolding path
+  path-most =
+      max-least (endOf (flowFrom x)) (jobCount (flowFrom x)) 64000000
+      (λ i h. omega (arith, end-most (x .count) (omega arith) i (omega (arith, h, count-of x)), input .count-most))
 
   -- the ends that are not there yet do not count
   pub start-from-array : (k : ℕ) (ends zeros : List ℕ) → k < x .count → ends ≡ endsBelow (flowFrom x) k ++ zeros →

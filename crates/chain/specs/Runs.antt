@@ -43,6 +43,7 @@ pub record FirstRun (w : Flow) (t width : ℕ) : Type 0 where
 -- the pseudo-job that begins at ideal slot t, with its takes and its rate
 pub record RunAt (w : Flow) (t : ℕ) (r : Run) : Type 0 where
   pub takes : (i : ℕ) → i < jobCount w → getD (r .takes) i 0 ≡ takeOf w i t
+  pub no-more : (i : ℕ) → jobCount w ≤ i → getD (r .takes) i 0 ≡ 0
   pub rate : r .rate ≡ rate w (record { first = t; width = r .width })
   pub run : FirstRun w t (r .width)
 
