@@ -1,6 +1,5 @@
 -- What follows from the rules.
 pub mod MarkedPlans
-
 -- laws that the proofs here and in the crates above cite
 pub mod Division
 pub mod Sums
