@@ -6,3 +6,6 @@ pub mod Sums
 pub mod Walks
 pub mod Faults
 pub mod Fields
+-- what a book that passes has
+pub mod Passing
+

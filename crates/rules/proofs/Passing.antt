@@ -1,0 +1,229 @@
+-- What a book that passes its tests has: a head in range, flows whose heads and jobs pass, no bytes left over, and so values in range.
+-- Each test of a chain of refusals is taken apart by `test-passed`, each walk by `fault-pass`. Assumes nothing.
+use mathlib.Core.Path.{_≡_, refl, ap, _∙_}
+use Prim.Native.Nat.{ℕ, zero, suc, _+_, _*_, _^_, _≤_, _<_}
+use mathlib.Core.Bool.{Bool, true, false, not, _||_, true≢false}
+use mathlib.Core.List.{List}
+use native.Mathlib.Omega.{arith}
+use lib.ListN.{length}
+use lib.Dec.{ltb, eqb}
+use borrow.Author.Tests.{ltb-false, leb-false, eqb-true, not-false}
+use Rattle.rules.specs.declared.Verdict.{Verdict}
+use Rattle.rules.specs.declared.Verdict.the-variants.{Pass, Refused}
+use Rattle.rules.specs.Walks.{if_then_else_}
+use Rattle.rules.specs.Fields.{byte, field}
+use Rattle.rules.specs.Answers.{firstFault}
+use Rattle.rules.specs.Limits.{outside, mostProcessors, mostFlows, mostDeadline, mostJobs, mostSize}
+use Rattle.rules.specs.Book.{Book, flowCount, jobCount, noFlow, noJob, flowOf, jobOf, JobInRange, FlowInRange, InRange}
+use Rattle.rules.specs.Reading.{bookHead, flowHead, jobRecord, flowStart, jobStart, jobAt, flowAt, bookOf, flowHeadFault, jobFault, flowFault, leftoverFault, bookFault, readingOf, readBook}
+use Rattle.rules.specs.Reading.Reading.{read}
+use Rattle.rules.proofs.Walks.{list-length, list-at}
+use Rattle.rules.proofs.Faults.{not-pass, both-pass, fault-pass}
+
+-- ---- the values of the book that bytes hold
+pub flow-count : (s : List ℕ) → flowCount (bookOf s) ≡ byte s 7
+unfolding bookOf
+flow-count s = list-length (λ f. flowAt s (flowStart s f)) (byte s 7) 0
+
+pub flow-of-book : (s : List ℕ) (f : ℕ) → f < byte s 7 → flowOf (bookOf s) f ≡ flowAt s (flowStart s f)
+unfolding bookOf flowOf
+flow-of-book s f h =
+    let e : 0 + f ≡ f = omega arith in
+    list-at (λ g. flowAt s (flowStart s g)) (byte s 7) 0 f noFlow h ∙ ap (λ g. flowAt s (flowStart s g)) e
+
+pub job-count : (s : List ℕ) (at : ℕ) → jobCount (flowAt s at) ≡ byte s (at + 2)
+unfolding flowAt
+job-count s at = list-length (λ i. jobAt s (jobStart at i)) (byte s (at + 2)) 0
+
+pub job-of-flow : (s : List ℕ) (at i : ℕ) → i < byte s (at + 2) → jobOf (flowAt s at) i ≡ jobAt s (jobStart at i)
+unfolding flowAt jobOf
+job-of-flow s at i h =
+    let e : 0 + i ≡ i = omega arith in
+    list-at (λ k. jobAt s (jobStart at k)) (byte s (at + 2)) 0 i noJob h ∙ ap (λ k. jobAt s (jobStart at k)) e
+
+pub deadline-of-flow : (s : List ℕ) (at : ℕ) → flowAt s at .deadline ≡ field 2 s at
+unfolding flowAt
+deadline-of-flow s at = refl
+
+pub processors-of-book : (s : List ℕ) → bookOf s .processors ≡ field 2 s 5
+unfolding bookOf
+processors-of-book s = refl
+
+-- ---- tests that pass
+-- a test that would refuse did not, and what comes after it passes
+pub test-passed : (t : Bool) (n f j : ℕ) (v : Verdict) → (if t then Refused n f j else v) ≡ Pass → (t ≡ false) × (v ≡ Pass)
+test-passed true n f j v e = not-pass n f j e
+test-passed false n f j v e = (refl, e)
+
+pub neither-true : (a b : Bool) → (a || b) ≡ false → (a ≡ false) × (b ≡ false)
+neither-true true b e = absurd (true≢false e)
+neither-true false b e = (refl, e)
+
+pub not-outside : (least most n : ℕ) → outside least most n ≡ false → (least ≤ n) × (n ≤ most)
+not-outside least most n e =
+    let both = neither-true (ltb n least) (ltb most n) e in
+    (ltb-false n least (both .0), ltb-false most n (both .1))
+
+-- the head of a flow, at `at`, that passes
+pub record FlowHeadPasses (s : List ℕ) (at : ℕ) : Type 0 where
+  pub flow-head-whole : at + flowHead ≤ length s
+  pub deadline-from : 1 ≤ field 2 s at
+  pub deadline-to : field 2 s at ≤ mostDeadline
+  pub jobs-from : 1 ≤ byte s (at + 2)
+  pub jobs-to : byte s (at + 2) ≤ mostJobs
+
+pub flow-head-passes : (s : List ℕ) (f at : ℕ) → flowHeadFault s f at ≡ Pass → FlowHeadPasses s at
+unfolding flowHeadFault
+flow-head-passes s f at e =
+    let short = test-passed _ _ _ _ _ e in
+    let deadline = test-passed _ _ _ _ _ (short .1) in
+    let count = test-passed _ _ _ _ _ (deadline .1) in
+    let d = not-outside 1 mostDeadline (field 2 s at) (deadline .0) in
+    let c = not-outside 1 mostJobs (byte s (at + 2)) (count .0) in
+    record {
+      flow-head-whole = ltb-false (length s) (at + flowHead) (short .0);
+      deadline-from = d .0;
+      deadline-to = d .1;
+      jobs-from = c .0;
+      jobs-to = c .1;
+    }
+
+-- the record of job i, at `at`, that passes
+pub record JobPasses (s : List ℕ) (i at : ℕ) : Type 0 where
+  pub job-whole : at + jobRecord ≤ length s
+  pub job-in-range : JobInRange (field 2 s 5) i (jobAt s at)
+
+pub job-passes : (s : List ℕ) (f i at : ℕ) → jobFault s f i at ≡ Pass → JobPasses s i at
+unfolding jobFault jobAt
+job-passes s f i at e =
+    let short = test-passed _ _ _ _ _ e in
+    let size = test-passed _ _ _ _ _ (short .1) in
+    let cap = test-passed _ _ _ _ _ (size .1) in
+    let bits = test-passed _ _ _ _ _ (cap .1) in
+    let z = not-outside 1 mostSize (field 4 s at) (size .0) in
+    let c = not-outside 1 (field 2 s 5) (field 2 s (at + 4)) (cap .0) in
+    record {
+      job-whole = ltb-false (length s) (at + jobRecord) (short .0);
+      job-in-range = record {
+        size-least = z .0;
+        size-most = z .1;
+        cap-least = c .0;
+        cap-most = c .1;
+        predecessors-below = leb-false (2 ^ i) (field 8 s (at + 6)) (bits .0);
+      };
+    }
+
+-- in a flow that passes the head passes and every job
+pub flow-fault-parts : (s : List ℕ) (f at : ℕ) → flowFault s f at ≡ Pass →
+    (flowHeadFault s f at ≡ Pass) × ((i : ℕ) → i < byte s (at + 2) → jobFault s f i (jobStart at i) ≡ Pass)
+unfolding flowFault
+flow-fault-parts s f at e =
+    let jobs : ℕ → Verdict = λ i. jobFault s f i (jobStart at i) in
+    let both = both-pass (flowHeadFault s f at) (firstFault jobs (byte s (at + 2))) e in
+    (both .0, fault-pass jobs (byte s (at + 2)) (both .1))
+
+-- a flow, at `at`, that passes: its head, each of its jobs, and so all its bytes
+pub record FlowPasses (s : List ℕ) (at : ℕ) : Type 0 where
+  pub head : FlowHeadPasses s at
+  pub each : (i : ℕ) → i < byte s (at + 2) → JobPasses s i (jobStart at i)
+  pub flow-whole : at + flowHead + jobRecord * byte s (at + 2) ≤ length s
+
+pub flow-passes : (s : List ℕ) (f at : ℕ) → flowFault s f at ≡ Pass → FlowPasses s at
+flow-passes s f at e = record { head = head; each = each; flow-whole = go (byte s (at + 2)) refl }
+  where
+    head : FlowHeadPasses s at
+    head = flow-head-passes s f at (flow-fault-parts s f at e .0)
+
+    each : (i : ℕ) → i < byte s (at + 2) → JobPasses s i (jobStart at i)
+    each i h = job-passes s f i (jobStart at i) (flow-fault-parts s f at e .1 i h)
+
+    go : (n : ℕ) → byte s (at + 2) ≡ n → at + flowHead + jobRecord * byte s (at + 2) ≤ length s
+    go zero q = omega (arith, head .flow-head-whole)
+    go (suc n) q = omega (arith, each n (omega arith) .job-whole)
+
+pub flow-in-range : (s : List ℕ) (at : ℕ) → FlowPasses s at → FlowInRange (field 2 s 5) (flowAt s at)
+flow-in-range s at p =
+    record {
+      deadline-least = rw (deadline-of-flow s at) (p .head .deadline-from);
+      deadline-most = rw (deadline-of-flow s at) (p .head .deadline-to);
+      jobs-least = rw (job-count s at) (p .head .jobs-from);
+      jobs-most = rw (job-count s at) (p .head .jobs-to);
+      each-job = λ i h.
+          let l : i < byte s (at + 2) = rw (job-count s at) at h in
+          rw (job-of-flow s at i l) (p .each i l .job-in-range);
+    }
+
+-- a book that passes: its head, each of its flows, and no bytes left over
+pub record BookPasses (s : List ℕ) : Type 0 where
+  pub head-whole : bookHead ≤ length s
+  pub length-field : field 4 s 0 ≡ length s
+  pub version-one : byte s 4 ≡ 1
+  pub processors-from : 1 ≤ field 2 s 5
+  pub processors-to : field 2 s 5 ≤ mostProcessors
+  pub flows-to : byte s 7 ≤ mostFlows
+  pub each-passes : (f : ℕ) → f < byte s 7 → flowFault s f (flowStart s f) ≡ Pass
+  pub nothing-left : flowStart s (byte s 7) ≡ length s
+
+pub nothing-left-over : (s : List ℕ) → leftoverFault s ≡ Pass → flowStart s (byte s 7) ≡ length s
+unfolding leftoverFault
+nothing-left-over s e = go (eqb (flowStart s (byte s 7)) (length s)) refl e
+  where
+    go : (t : Bool) → eqb (flowStart s (byte s 7)) (length s) ≡ t → (if t then Pass else Refused 5 255 255) ≡ Pass → flowStart s (byte s 7) ≡ length s
+    go true q p = eqb-true (flowStart s (byte s 7)) (length s) q
+    go false q p = not-pass 5 255 255 p
+
+pub book-passes : (s : List ℕ) → bookFault s ≡ Pass → BookPasses s
+unfolding bookFault
+book-passes s e =
+    let length-test = test-passed _ _ _ _ _ e in
+    let version-test = test-passed _ _ _ _ _ (length-test .1) in
+    let processors-test = test-passed _ _ _ _ _ (version-test .1) in
+    let flows-test = test-passed _ _ _ _ _ (processors-test .1) in
+    let walk = both-pass (firstFault (λ f. flowFault s f (flowStart s f)) (byte s 7)) (leftoverFault s) (flows-test .1) in
+    let both = neither-true (ltb (length s) bookHead) (not (eqb (field 4 s 0) (length s))) (length-test .0) in
+    let p = not-outside 1 mostProcessors (field 2 s 5) (processors-test .0) in
+    record {
+      head-whole = ltb-false (length s) bookHead (both .0);
+      length-field = eqb-true (field 4 s 0) (length s) (not-false _ (both .1));
+      version-one = eqb-true (byte s 4) 1 (not-false _ (version-test .0));
+      processors-from = p .0;
+      processors-to = p .1;
+      flows-to = ltb-false mostFlows (byte s 7) (flows-test .0);
+      each-passes = fault-pass (λ f. flowFault s f (flowStart s f)) (byte s 7) (walk .0);
+      nothing-left = nothing-left-over s (walk .1);
+    }
+
+-- each flow of a book that passes
+pub flow-of-passing : (s : List ℕ) → bookFault s ≡ Pass → (f : ℕ) → f < byte s 7 → FlowPasses s (flowStart s f)
+flow-of-passing s e f h = flow-passes s f (flowStart s f) (book-passes s e .each-passes f h)
+
+-- "A book passes its checks when no test that comes before 11 turns it down": its values are in range
+pub pass-in-range : (s : List ℕ) → bookFault s ≡ Pass → InRange (bookOf s)
+pass-in-range s e =
+    let p = book-passes s e in
+    record {
+      processors-least = rw (processors-of-book s) (p .processors-from);
+      processors-most = rw (processors-of-book s) (p .processors-to);
+      flows-most = rw (flow-count s) (p .flows-to);
+      each-flow = λ f h.
+          let l : f < byte s 7 = rw (flow-count s) at h in
+          rw (flow-of-book s f l, processors-of-book s) (flow-in-range s (flowStart s f) (flow-of-passing s e f l));
+    }
+
+-- ---- a book that is read
+pub read-passes : (s : List ℕ) (b : Book) → readBook s ≡ read b → (bookFault s ≡ Pass) × (b ≡ bookOf s)
+unfolding readBook
+read-passes s b e = go (bookFault s) refl e
+  where
+    go : (v : Verdict) → bookFault s ≡ v → readingOf v (bookOf s) ≡ read b → (bookFault s ≡ Pass) × (b ≡ bookOf s)
+    go Pass q r = (q, cc)
+    go (Refused n f j) q r = absurd (let z : _≡_ {A = ℕ} 0 1 = cc in omega arith)
+
+pub read-in-range : (s : List ℕ) (b : Book) → readBook s ≡ read b → InRange b
+read-in-range s b e =
+    let p = read-passes s b e in
+    rw (p .1) (pass-in-range s (p .0))
+
+pub pass-reads : (s : List ℕ) → bookFault s ≡ Pass → readBook s ≡ read (bookOf s)
+unfolding readBook
+pass-reads s e = rw e refl
