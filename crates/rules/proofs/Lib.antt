@@ -8,4 +8,3 @@ pub mod Faults
 pub mod Fields
 -- what a book that passes has
 pub mod Passing
-
