@@ -8,3 +8,5 @@ pub mod Faults
 pub mod Fields
 -- what a book that passes has
 pub mod Passing
+-- service order lists every flow once, sorted
+pub mod ServiceOrder

@@ -1,13 +1,13 @@
 -- What a book that passes its tests has: a head in range, flows whose heads and jobs pass, no bytes left over, and so values in range.
 -- Each test of a chain of refusals is taken apart by `test-passed`, each walk by `fault-pass`. Assumes nothing.
-use mathlib.Core.Path.{_≡_, refl, ap, _∙_}
+use mathlib.Core.Path.{_≡_, refl, ap, ap₂, _∙_}
 use Prim.Native.Nat.{ℕ, zero, suc, _+_, _*_, _^_, _≤_, _<_}
 use mathlib.Core.Bool.{Bool, true, false, not, _||_, true≢false}
 use mathlib.Core.List.{List}
 use native.Mathlib.Omega.{arith}
 use lib.ListN.{length}
 use lib.Dec.{ltb, eqb}
-use borrow.Author.Tests.{ltb-false, leb-false, eqb-true, not-false}
+use borrow.Author.Tests.{ltb-false, leb-false, eqb-true, not-false, le-ltb, lt-leb, eq-eqb}
 use Rattle.rules.specs.declared.Verdict.{Verdict}
 use Rattle.rules.specs.declared.Verdict.the-variants.{Pass, Refused}
 use Rattle.rules.specs.Walks.{if_then_else_}
@@ -18,7 +18,7 @@ use Rattle.rules.specs.Book.{Book, flowCount, jobCount, noFlow, noJob, f
 use Rattle.rules.specs.Reading.{bookHead, flowHead, jobRecord, flowStart, jobStart, jobAt, flowAt, bookOf, flowHeadFault, jobFault, flowFault, leftoverFault, bookFault, readingOf, readBook}
 use Rattle.rules.specs.Reading.Reading.{read}
 use Rattle.rules.proofs.Walks.{list-length, list-at}
-use Rattle.rules.proofs.Faults.{not-pass, both-pass, fault-pass}
+use Rattle.rules.proofs.Faults.{not-pass, both-pass, fault-pass, all-pass}
 
 -- ---- the values of the book that bytes hold
 pub flow-count : (s : List ℕ) → flowCount (bookOf s) ≡ byte s 7
@@ -227,3 +227,41 @@ read-in-range s b e =
 pub pass-reads : (s : List ℕ) → bookFault s ≡ Pass → readBook s ≡ read (bookOf s)
 unfolding readBook
 pass-reads s e = rw e refl
+
+-- ---- the other way round: bytes that have all this pass
+pub test-passes : (t : Bool) (n f j : ℕ) (v : Verdict) → t ≡ false → v ≡ Pass → (if t then Refused n f j else v) ≡ Pass
+test-passes t n f j v e d = rw (e, d) refl
+
+pub inside-passes : (least most n : ℕ) → least ≤ n → n ≤ most → outside least most n ≡ false
+inside-passes least most n p q = ap₂ _||_ (le-ltb n least p) (le-ltb most n q)
+
+pub flow-head-no-fault : (s : List ℕ) (f at : ℕ) → FlowHeadPasses s at → flowHeadFault s f at ≡ Pass
+unfolding flowHeadFault
+flow-head-no-fault s f at p =
+    test-passes _ _ _ _ _ (le-ltb (length s) (at + flowHead) (p .flow-head-whole))
+    (test-passes _ _ _ _ _ (inside-passes 1 mostDeadline (field 2 s at) (p .deadline-from) (p .deadline-to))
+    (test-passes _ _ _ _ _ (inside-passes 1 mostJobs (byte s (at + 2)) (p .jobs-from) (p .jobs-to)) refl))
+
+pub job-no-fault : (s : List ℕ) (f i at : ℕ) → JobPasses s i at → jobFault s f i at ≡ Pass
+unfolding jobFault jobAt
+job-no-fault s f i at p =
+    let r = p .job-in-range in
+    test-passes _ _ _ _ _ (le-ltb (length s) (at + jobRecord) (p .job-whole))
+    (test-passes _ _ _ _ _ (inside-passes 1 mostSize (field 4 s at) (r .size-least) (r .size-most))
+    (test-passes _ _ _ _ _ (inside-passes 1 (field 2 s 5) (field 2 s (at + 4)) (r .cap-least) (r .cap-most))
+    (test-passes _ _ _ _ _ (lt-leb (2 ^ i) (field 8 s (at + 6)) (r .predecessors-below)) refl)))
+
+pub flow-no-fault : (s : List ℕ) (f at : ℕ) → FlowPasses s at → flowFault s f at ≡ Pass
+unfolding flowFault
+flow-no-fault s f at p =
+    let jobs : ℕ → Verdict = λ i. jobFault s f i (jobStart at i) in
+    rw (flow-head-no-fault s f at (p .head)) (all-pass jobs (byte s (at + 2)) (λ i l. job-no-fault s f i (jobStart at i) (p .each i l)))
+
+pub book-no-fault : (s : List ℕ) → BookPasses s → bookFault s ≡ Pass
+unfolding bookFault leftoverFault
+book-no-fault s p =
+    test-passes _ _ _ _ _ (ap₂ _||_ (le-ltb (length s) bookHead (p .head-whole)) (ap not (eq-eqb (field 4 s 0) (length s) (p .length-field))))
+    (test-passes _ _ _ _ _ (ap not (eq-eqb (byte s 4) 1 (p .version-one)))
+    (test-passes _ _ _ _ _ (inside-passes 1 mostProcessors (field 2 s 5) (p .processors-from) (p .processors-to))
+    (test-passes _ _ _ _ _ (le-ltb mostFlows (byte s 7) (p .flows-to))
+    (rw (all-pass (λ f. flowFault s f (flowStart s f)) (byte s 7) (p .each-passes), eq-eqb (flowStart s (byte s 7)) (length s) (p .nothing-left)) refl))))
