@@ -2,3 +2,4 @@
 pub mod Stores
 pub mod Records
 pub mod Stands
+pub mod Filled
