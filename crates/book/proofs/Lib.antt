@@ -3,3 +3,4 @@ pub mod Stores
 pub mod Records
 pub mod Stands
 pub mod Filled
+pub mod Loaded
