@@ -8,11 +8,7 @@ use mathlib.Core.List.{List}
 use lib.ListN.{length, getD, set, length-set}
 use lib.Seq.{getD-set-same, getD-set-other}
 use Rattle.rules.proofs.Walks.{last-or}
-
--- the first n of the 64 elements are g 0 .. g (n - 1)
-pub record Filled (g : ℕ → ℕ) (l : List ℕ) (n : ℕ) : Type 0 where
-  pub size : length l ≡ 64
-  pub values : (k : ℕ) → k < n → getD l k 0 ≡ g k
+use Rattle.book.specs.Arrays.{Filled}
 
 pub filled-none : (g : ℕ → ℕ) (l : List ℕ) → length l ≡ 64 → Filled g l 0
 filled-none g l e = record { size = e; values = λ k h. absurd (not-suc-le-zero h) }

@@ -4,3 +4,4 @@ pub mod Records
 pub mod Stands
 pub mod Filled
 pub mod Loaded
+pub mod Served
