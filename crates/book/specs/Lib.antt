@@ -1,2 +1,4 @@
--- The reader's promise.
+-- The reader's promise, and what its records and arrays read as.
 pub mod Promise
+pub mod Records
+pub mod Arrays
