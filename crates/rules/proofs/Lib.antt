@@ -1,5 +1,6 @@
 -- What follows from the rules.
 pub mod MarkedPlans
+pub mod Demands
 pub mod Demand3Values
 pub mod Demand3
 pub mod Refusals
