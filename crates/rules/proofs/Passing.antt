@@ -1,6 +1,6 @@
 -- What a book that passes its tests has: a head in range, flows whose heads and jobs pass, no bytes left over, and so values in range.
 -- Each test of a chain of refusals is taken apart by `test-passed`, each walk by `fault-pass`. Assumes nothing.
-use mathlib.Core.Path.{_≡_, refl, ap, ap₂, _∙_}
+use mathlib.Core.Path.{_≡_, refl, ap, ap₂}
 use Prim.Native.Nat.{ℕ, zero, suc, _+_, _*_, _^_, _≤_, _<_}
 use mathlib.Core.Bool.{Bool, true, false, not, _||_, true≢false}
 use mathlib.Core.List.{List}
@@ -17,7 +17,7 @@ use Rattle.rules.specs.Limits.{outside, mostProcessors, mostFlows, mostD
 use Rattle.rules.specs.Book.{Book, flowCount, jobCount, noFlow, noJob, flowOf, jobOf, JobInRange, FlowInRange, InRange}
 use Rattle.rules.specs.Reading.{bookHead, flowHead, jobRecord, flowStart, jobStart, jobAt, flowAt, bookOf, flowHeadFault, jobFault, flowFault, leftoverFault, bookFault, readingOf, readBook}
 use Rattle.rules.specs.Reading.Reading.{read}
-use Rattle.rules.proofs.Walks.{list-length, list-at}
+use Rattle.rules.proofs.Walks.{list-length, list-at-zero}
 use Rattle.rules.proofs.Faults.{not-pass, both-pass, fault-pass, all-pass}
 
 -- ---- the values of the book that bytes hold
@@ -27,9 +27,7 @@ flow-count s = list-length (λ f. flowAt s (flowStart s f)) (byte s 7) 0
 
 pub flow-of-book : (s : List ℕ) (f : ℕ) → f < byte s 7 → flowOf (bookOf s) f ≡ flowAt s (flowStart s f)
 unfolding bookOf flowOf
-flow-of-book s f h =
-    let e : 0 + f ≡ f = omega arith in
-    list-at (λ g. flowAt s (flowStart s g)) (byte s 7) 0 f noFlow h ∙ ap (λ g. flowAt s (flowStart s g)) e
+flow-of-book s f h = list-at-zero (λ g. flowAt s (flowStart s g)) (byte s 7) f noFlow h
 
 pub job-count : (s : List ℕ) (at : ℕ) → jobCount (flowAt s at) ≡ byte s (at + 2)
 unfolding flowAt
@@ -37,9 +35,7 @@ job-count s at = list-length (λ i. jobAt s (jobStart at i)) (byte s (at + 2)) 0
 
 pub job-of-flow : (s : List ℕ) (at i : ℕ) → i < byte s (at + 2) → jobOf (flowAt s at) i ≡ jobAt s (jobStart at i)
 unfolding flowAt jobOf
-job-of-flow s at i h =
-    let e : 0 + i ≡ i = omega arith in
-    list-at (λ k. jobAt s (jobStart at k)) (byte s (at + 2)) 0 i noJob h ∙ ap (λ k. jobAt s (jobStart at k)) e
+job-of-flow s at i h = list-at-zero (λ k. jobAt s (jobStart at k)) (byte s (at + 2)) i noJob h
 
 pub deadline-of-flow : (s : List ℕ) (at : ℕ) → flowAt s at .deadline ≡ field 2 s at
 unfolding flowAt

@@ -4,11 +4,13 @@ use Prim.Native.Nat.{ℕ, zero, suc, _+_, _*_, _-_, _≤_, _<_, max}
 use mathlib.Core.Bool.{Bool, true, false, _||_, _&&_, and-eq-true-iff, false≢true}
 use mathlib.Core.List.{List, [], _∷_, _++_, append-assoc, append-nil}
 use mathlib.Core.Logic.{⊎-elim, _⊎_, inl, inr}
-use native.Mathlib.Nat.{add-zero, le-of-suc-le-suc, not-suc-le-zero, eq-or-lt-of-le, lt-suc-self}
+use native.Mathlib.Nat.{add-zero, zero-add, le-of-suc-le-suc, not-suc-le-zero, eq-or-lt-of-le, lt-suc-self}
 use native.Mathlib.Omega.{arith}
 use lib.ListN.{getD, length, length-append}
+use lib.Seq.{ext-getD}
 use Rattle.rules.specs.Walks.{sumTo, maxTo, anyTo, allTo, listFrom, joinFrom}
 use Rattle.rules.proofs.Division.{lt-or-ge}
+use Rattle.rules.proofs.Sums.{sum-ext}
 
 -- k is the last number below n + 1, or below n
 pub last-or : {X : Type 0} (k n : ℕ) → k < suc n → (k ≡ n → X) → (k < n → X) → X
@@ -148,3 +150,19 @@ pub join-length {ℓ} : {A : Type ℓ} (g : ℕ → List A) (n s : ℕ) → leng
 unfolding sumTo joinFrom
 join-length g zero s = refl
 join-length g (suc n) s = rw (join-snoc g n s, length-append) (ap (_+ length (g (s + n))) (join-length g n s))
+
+-- ---- one start further, and walks from 0
+pub next-start : (s i : ℕ) → s + suc i ≡ s + 1 + i
+next-start s i = omega arith
+
+pub list-at-zero {ℓ} : {A : Type ℓ} (g : ℕ → A) (n i : ℕ) (d : A) → i < n → getD (listFrom g n 0) i d ≡ g i
+list-at-zero g n i d h = list-at g n 0 i d h ∙ ap g (zero-add i)
+
+-- a list is what a walk makes of its elements
+pub list-of {ℓ} : {A : Type ℓ} (g : ℕ → A) (n : ℕ) (xs : List A) (d : A) → n ≡ length xs → ((i : ℕ) → i < length xs → g i ≡ getD xs i d) → listFrom g n 0 ≡ xs
+list-of g n xs d e h =
+    let as-many : length (listFrom g n 0) ≡ length xs = list-length g n 0 ∙ e in
+    ext-getD d (listFrom g n 0) xs as-many (λ i l. list-at-zero g n i d (omega arith) ∙ h i (omega arith))
+
+pub join-length-zero {ℓ} : {A : Type ℓ} (g : ℕ → List A) (n : ℕ) → length (joinFrom g n 0) ≡ sumTo (λ k. length (g k)) n
+join-length-zero g n = join-length g n 0 ∙ sum-ext (λ k. length (g (0 + k))) (λ k. length (g k)) n (λ k l. ap (λ i. length (g i)) (zero-add k))
