@@ -1,11 +1,14 @@
-# run: what can be run so far. test: the gate. bench: ratios measured in one run.
+# run: builds the program and plans book A. test: the gate. bench: ratios measured in one run, never a pass or fail.
 .PHONY: run test bench
 
 run:
-	rt check
+	rt check plan
+	target/bin/plan < crates/plan/stdin
 
 test:
 	.ci/run
 
 bench:
-	@echo "nothing to measure yet: the exported calls land with the table check and the planner"
+	rt staticlib flowplan
+	cd tests && cargo run --release --offline --quiet --bin bench_check
+	cd tests && cargo run --release --offline --quiet --bin bench_plan

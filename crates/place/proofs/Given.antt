@@ -1,19 +1,18 @@
 -- One slot of the pseudo-job in service: what the code gives is what rule 4 gives, whether rows come of it or not. Assumes nothing.
 use mathlib.Core.Path.{_≡_, refl, sym, ap, _∙_}
-use Prim.Native.Nat.{ℕ, zero, suc, _+_, _*_, _-_, _≤_, _<_, min}
+use Prim.Native.Nat.{ℕ, _+_, _*_, _-_, _≤_, _<_, min}
 use native.Mathlib.Omega.{arith}
-use mathlib.Core.List.{List, [], _∷_, _++_}
+use mathlib.Core.List.{List, _∷_}
 use lib.ListN.{length}
 use lib.Seq.{sets}
 use Rattle.rules.specs.Limits.{slots}
 use Rattle.rules.specs.Fields.{field, bytesOf}
-use Rattle.rules.specs.Book.{Flow, Book, jobCount, flowOf}
+use Rattle.rules.specs.Book.{jobCount}
 use Rattle.rules.specs.Reading.{bookOf}
 use Rattle.rules.specs.PseudoJobs.{PseudoJob, rate, work}
-use Rattle.rules.specs.Rows.{Row, usedIn}
+use Rattle.rules.specs.Rows.{usedIn}
 use Rattle.rules.specs.Placing.{share, given, freeProcessors}
 use Rattle.place.specs.declared.Current.{Current}
-use Rattle.place.specs.declared.Served.{Served}
 use Rattle.place.specs.Output.{Put}
 use Rattle.place.specs.Service.{Serving, currentFlow, pseudoJob, jobRows}
 use Rattle.place.specs.Flows.{standing, Beside, UnderwayBy, SlotServed}
@@ -31,7 +30,13 @@ module _ (s : List ℕ) (c : Current) (a : List ℕ) (v : Serving s c a) where
   pub slot-rows-within : (slot done n : ℕ) → length (jobRows (currentFlow s c) (c .flow) slot (pseudoJob c) done n) ≤ 64
   slot-rows-within slot done n =
       rw (← rows-below-all (currentFlow s c) (c .flow) slot (pseudoJob c) done n)
-      (omega (arith, slot-rows-few slot (c .flow) (λ i. share (currentFlow s c) (pseudoJob c) i done n) (jobCount (currentFlow s c)), v .jobs, jobs-within s c a v))
+      (omega (
+        arith,
+        slot-rows-few slot (c .flow) (λ i. share (currentFlow s c) (pseudoJob c) i done n) (jobCount (currentFlow s c)),
+        v
+            .jobs,
+        jobs-within s c a v,
+      ))
 
   module _ (at done slot total used : ℕ) (out area : List ℕ) (all : total ≡ c .width * c .rate) (so-far : done ≤ work (currentFlow s c) (pseudoJob c))
       (inside : slot < slots) (read : used ≡ field 2 area (2 * slot)) where
@@ -63,7 +68,8 @@ module _ (s : List ℕ) (c : Current) (a : List ℕ) (v : Serving s c a) where
 
     -- a slot whose rows are put and counted in
     pub served-some : (n : ℕ) (out′ area′ : List ℕ) (next : ℕ) → n ≡ give →
-        Put out at (jobRows (currentFlow s c) (c .flow) slot (pseudoJob c) done n) out′ next → area′ ≡ sets area (2 * slot) (bytesOf 2 (used + n)) →
+        Put out at (jobRows (currentFlow s c) (c .flow) slot (pseudoJob c) done n) out′ next → area′ ≡ sets area (2 * slot)
+        (bytesOf 2 (used + n)) →
         SlotServed s c at done slot out area out′ area′ (record { next = next; give = n })
     served-some n out′ area′ next e put stored = record {
       give-within = omega (arith, give-within-work);

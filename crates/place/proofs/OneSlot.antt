@@ -1,20 +1,20 @@
 -- Rows that stand in one slot: one for each of the jobs below m that has processors there, g i of them for job i. They use the sum of g in
 -- their slot and nothing in another, and the flow's finish is one slot later. Assumes nothing.
-use mathlib.Core.Path.{_≡_, refl, sym, ap, _∙_}
+use mathlib.Core.Path.{_≡_, refl, sym, _∙_}
 use mathlib.Core.Logic.{_⊎_, inl, inr}
-use Prim.Native.Nat.{ℕ, zero, suc, _+_, _*_, _-_, _≤_, _<_, max}
+use Prim.Native.Nat.{ℕ, zero, suc, _+_, _-_, _≤_, _<_, max}
 use native.Mathlib.Nat.{not-suc-le-zero}
 use native.Mathlib.Omega.{arith}
-use mathlib.Core.Bool.{Bool, true, false}
 use mathlib.Core.List.{List, [], _∷_, _++_}
 use lib.ListN.{length, length-append}
 use lib.Dec.{eqb}
 use borrow.Author.Tests.{eq-eqb, ne-eqb}
-use Rattle.rules.specs.Walks.{if_then_else_, sumTo, joinFrom}
-use Rattle.rules.specs.Rows.{Row, rowFor, sumWhere, usedIn, finishOf}
+use Rattle.rules.specs.Walks.{sumTo, joinFrom}
+use Rattle.rules.specs.Rows.{Row, rowFor, usedIn, finishOf}
 use Rattle.rules.proofs.Division.{lt-or-ge}
 use Rattle.rules.proofs.Sums.{sum-ext, sum-nothing}
 use Rattle.rules.proofs.Walks.{join-last}
+use Rattle.place.proofs.Output.{row-for-none}
 use Rattle.rules.proofs.FlowRows.{sum-where-join, row-counts, row-does-not-count}
 
 pub finish-nothing : (f : ℕ) → finishOf [] f ≡ 0
@@ -41,10 +41,6 @@ row-few : (t f i n : ℕ) → length (rowFor t f i n) ≤ 1
 unfolding rowFor
 row-few t f i zero = omega arith
 row-few t f i (suc n) = omega arith
-
-row-none : (t f i n : ℕ) → n ≡ 0 → rowFor t f i n ≡ []
-unfolding rowFor
-row-none t f i n e = rw e refl
 
 -- ---- the rows of the jobs below m
 unfoldable pub rowsOfSlot : ℕ → ℕ → (ℕ → ℕ) → ℕ → List Row
@@ -78,7 +74,8 @@ module _ (t f : ℕ) (g : ℕ → ℕ) where
   pub slot-rows-finish-le : (m : ℕ) → finishOf (rowsOfSlot t f g m) f ≤ suc t
   slot-rows-finish-le zero = rw slot-rows-none (omega (arith, finish-nothing f))
   slot-rows-finish-le (suc m) =
-      rw (slot-rows-next m, finish-append (rowsOfSlot t f g m) (rowFor t f m (g m)) f) (omega (arith, slot-rows-finish-le m, row-finish-le t f m (g m)))
+      rw (slot-rows-next m, finish-append (rowsOfSlot t f g m) (rowFor t f m (g m)) f)
+      (omega (arith, slot-rows-finish-le m, row-finish-le t f m (g m)))
 
   -- where some job has processors
   pub slot-rows-finish : (m : ℕ) → 0 < sumTo g m → finishOf (rowsOfSlot t f g m) f ≡ suc t
@@ -94,4 +91,4 @@ module _ (t f : ℕ) (g : ℕ → ℕ) where
 
   pub slot-rows-nothing : (m : ℕ) → ((i : ℕ) → i < m → g i ≡ 0) → rowsOfSlot t f g m ≡ []
   slot-rows-nothing zero z = slot-rows-none
-  slot-rows-nothing (suc m) z = rw (slot-rows-next m, slot-rows-nothing m (λ i l. z i (omega arith)), row-none t f m (g m) (z m (omega arith))) refl
+  slot-rows-nothing (suc m) z = rw (slot-rows-next m, slot-rows-nothing m (λ i l. z i (omega arith)), row-for-none t f m (g m) (z m (omega arith))) refl

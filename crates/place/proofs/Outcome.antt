@@ -17,7 +17,7 @@ use Rattle.rules.specs.Rows.{Row, lateFlows, workUsed, workZero}
 use Rattle.rules.specs.Placing.{Plan, planned, infeasible, placeFirst, plan}
 use Rattle.rules.specs.Planner.{PlanOutcome, planOutcome, planReading, planCall}
 use Rattle.rules.specs.Table.{tableHead, tableLength, tableBytes}
-use Rattle.rules.proofs.WorkArea.{used-none, used-cleared}
+use Rattle.rules.proofs.WorkArea.{cleared-twice}
 use Rattle.book.specs.declared.Index.{Index}
 use Rattle.book.specs.Promise.{Indexed}
 use Rattle.place.specs.declared.planner.Whole.{Whole}
@@ -36,10 +36,6 @@ use Rattle.place.proofs.FirstFlows.{few-flows, place-most}
 zero-rest : (n : ℕ) (area : List ℕ) → drop (2 * n) (workZero n area) ≡ drop (2 * n) area
 unfolding workZero
 zero-rest n area = drop-at (replicate (2 * n) 0) (drop (2 * n) area) (2 * n) (length-replicate (2 * n) 0)
-
--- an area that is cleared twice is cleared
-pub zero-twice : (n : ℕ) (area : List ℕ) → workZero n (workZero n area) ≡ workZero n area
-zero-twice n area = ap (workZero n) (sym (used-none n area)) ∙ used-cleared n [] area
 
 -- the use of rows asks nothing of an area but what is past its slots
 used-by-rest : (n : ℕ) (rows : List Row) (a c : List ℕ) → workZero n a ≡ workZero n c → workUsed n rows a ≡ workUsed n rows c
@@ -156,7 +152,7 @@ asked-cleared s x order area area′ i o l e = record {
   in-order = o;
   within = omega (arith, i .flows);
   long-enough = l;
-  zero = e ∙ sym (zero-twice slots area) ∙ ap (workZero slots) (sym e);
+  zero = e ∙ sym (cleared-twice slots area) ∙ ap (workZero slots) (sym e);
 }
 
 no-bytes : (part out : List ℕ) → length part ≡ 0 → part ++ out ≡ out
@@ -173,7 +169,7 @@ counted s x order out area part part′ area₁ area₂ area₃ r a e l f d = re
   fits = λ rows p.
       omega (arith, few-flows a, place-most b (x .flows) rows part area₁ part′ area₂ (r .finish) (tableLength b rows) (omega arith) (omega (arith, few-flows a)) (f .when-planned rows (ap (placeFirst b) q ∙ p)));
   output-kept = no-bytes part′ out l;
-  area-zero = d ∙ f .cleared ∙ ap (workZero slots) e ∙ zero-twice slots area;
+  area-zero = d ∙ f .cleared ∙ ap (workZero slots) e ∙ cleared-twice slots area;
 }
   where
     b : Book
@@ -209,4 +205,4 @@ module _ (s out area out′ area′ : List ℕ) (ended : Ended) (k : Counted (bo
   leaves-after answer out″ area″ h =
       subst (λ (o : PlanOutcome). Leaves o answer out″ area″)
       (ap (λ (o : List ℕ). planOutcome (bookOf s) o area′ (plan (bookOf s))) (k .output-kept)
-      ∙ outcome-by-rest (bookOf s) out area′ area (plan (bookOf s)) (ap (workZero slots) (k .area-zero) ∙ zero-twice slots area)) h
+      ∙ outcome-by-rest (bookOf s) out area′ area (plan (bookOf s)) (ap (workZero slots) (k .area-zero) ∙ cleared-twice slots area)) h

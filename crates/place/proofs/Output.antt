@@ -1,7 +1,7 @@
 -- Rows put into an output, one after the other. Assumes nothing.
-use mathlib.Core.Path.{_≡_, refl, sym, ap, _∙_}
+use mathlib.Core.Path.{_≡_, refl, sym, _∙_}
 use Prim.Native.Nat.{ℕ, zero, suc, _+_, _*_, _≤_, _<_}
-use native.Mathlib.Nat.{not-suc-le-zero, add-zero, add-assoc}
+use native.Mathlib.Nat.{add-zero}
 use native.Mathlib.Omega.{arith}
 use mathlib.Core.Bool.{Bool, true, false}
 use mathlib.Core.List.{List, [], _∷_, _++_}
@@ -28,7 +28,8 @@ unfolding rowFor
 row-for-none t f i n e = rw e refl
 
 -- a row that fits, one that does not, and none
-pub put-fits : (out : List ℕ) (at t f i n : ℕ) → (n ≡ 0 → ⊥) → at + 6 ≤ length out → Put out at (rowFor t f i n) (sets out at (rowBytes (row t f i n))) (at + 6)
+pub put-fits : (out : List ℕ) (at t f i n : ℕ) → (n ≡ 0 → ⊥) → at + 6 ≤ length out →
+    Put out at (rowFor t f i n) (sets out at (rowBytes (row t f i n))) (at + 6)
 unfolding putRows putRow
 put-fits out at t f i n ne l = record { output = rw (row-for-some t f i n ne, le-leb (at + 6) (length out) l) refl; place = rw (row-for-some t f i n ne) refl }
 
@@ -65,7 +66,8 @@ put-length out at [] = refl
 put-length out at (r ∷ rs) = put-length (putRow out at r) (at + 6) rs ∙ put-row-length out at r
 
 -- rows put after rows
-pub put-more : (out out′ out″ : List ℕ) (at next next′ : ℕ) (xs ys : List Row) → Put out at xs out′ next → Put out′ next ys out″ next′ → Put out at (xs ++ ys) out″ next′
+pub put-more : (out out′ out″ : List ℕ) (at next next′ : ℕ) (xs ys : List Row) → Put out at xs out′ next → Put out′ next ys out″ next′ →
+    Put out at (xs ++ ys) out″ next′
 put-more out out′ out″ at next next′ xs ys p q =
     record {
       output = q .output ∙ rw (p .output, p .place) (sym (put-append out at xs ys));

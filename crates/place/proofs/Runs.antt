@@ -2,16 +2,15 @@
 -- goes on to the next in the slot after. Assumes nothing.
 use mathlib.Core.Path.{_≡_, refl, sym, ap, subst, _∙_}
 use mathlib.Core.Logic.{_⊎_, inl, inr}
-use Prim.Native.Nat.{ℕ, zero, suc, _+_, _*_, _-_, _≤_, _<_, min}
+use Prim.Native.Nat.{ℕ, suc, _+_, _*_, _-_, _≤_, _<_}
 use native.Mathlib.Nat.{mul-le-mul-right}
 use native.Mathlib.Omega.{arith}
-use mathlib.Core.List.{List, [], _∷_, _++_}
+use mathlib.Core.List.{List, _∷_}
 use lib.ListN.{length}
 use Rattle.rules.specs.Limits.{slots}
-use Rattle.rules.specs.Book.{Flow, Book, flowOf}
 use Rattle.rules.specs.Reading.{bookOf}
 use Rattle.rules.specs.PseudoJobs.{PseudoJob, rate, work}
-use Rattle.rules.specs.Placing.{Progress, given, afterSlot, freeProcessors}
+use Rattle.rules.specs.Placing.{Progress, given, freeProcessors}
 use Rattle.place.specs.declared.Current.{Current}
 use Rattle.place.specs.declared.Served.{Served}
 use Rattle.place.specs.Service.{Serving, currentFlow, pseudoJob}
@@ -32,7 +31,8 @@ module _ (s : List ℕ) (c : Current) (a : List ℕ) (v : Serving s c a) (x : Be
       UnderwayBy s c x slot (standing (pseudoJob c ∷ ps) 0) out area next → RunSoFar s c x ps slot 0 out area next
   run-begins slot out area next some u = record { going-on = λ l. u; over = λ e. absurd (omega arith) }
 
-  pub run-goes-on : (slot done : ℕ) (out area out′ area′ : List ℕ) (next : ℕ) (r : Served) → slot < slots → done < work (currentFlow s c) (pseudoJob c) →
+  pub run-goes-on : (slot done : ℕ) (out area out′ area′ : List ℕ) (next : ℕ) (r : Served) → slot < slots →
+      done < work (currentFlow s c) (pseudoJob c) →
       RunSoFar s c x ps slot done out area next → SlotServed s c next done slot out area out′ area′ r →
       RunSoFar s c x ps (slot + 1) (done + r .give) out′ area′ (r .next)
   run-goes-on slot done out area out′ area′ next r inside left so-far served =
@@ -48,9 +48,11 @@ module _ (s : List ℕ) (c : Current) (a : List ℕ) (v : Serving s c a) (x : Be
             subst (λ (g : Progress). UnderwayBy s c x (suc slot) g out′ area′ (r .next))
             (after-slot-goes-on w (c .flow) slot p ps done free (omega arith) ∙ ap (λ (n : ℕ). standing (p ∷ ps) (done + n)) (sym e)) after;
         over = λ q. record {
-          under = subst (λ (g : Progress). UnderwayBy s c x (suc slot) g out′ area′ (r .next)) (after-slot-finishes w (c .flow) slot p ps done free (omega arith)) after;
+          under = subst (λ (g : Progress). UnderwayBy s c x (suc slot) g out′ area′ (r .next))
+              (after-slot-finishes w (c .flow) slot p ps done free (omega arith)) after;
           finish =
-              slot-finish (bookOf s) (c .flow) x slot p ps done out area next (omega (arith, v .processors, processors-within s c a v)) inside u
+              slot-finish (bookOf s) (c .flow) x slot p ps done out area next (omega (arith, v .processors, processors-within s c a v))
+              inside u
               (omega (arith, v .rate, v .rate-positive)) (omega arith) (omega arith);
         };
       })
@@ -70,7 +72,8 @@ pub record RunKept (s : List ℕ) (c : Current) (from limit at : ℕ) (out₀ ar
   pub nothing-yet : slot ≡ from → done ≡ 0
   pub out-length : length out ≡ length out₀
   pub area-length : length area ≡ length area₀
-  pub so-far : (x : Beside) (ps : List PseudoJob) → UnderwayBy s c x from (standing (pseudoJob c ∷ ps) 0) out₀ area₀ at → RunSoFar s c x ps slot done out area next
+  pub so-far : (x : Beside) (ps : List PseudoJob) → UnderwayBy s c x from (standing (pseudoJob c ∷ ps) 0) out₀ area₀ at →
+      RunSoFar s c x ps slot done out area next
 
 module _ (s : List ℕ) (c : Current) (a : List ℕ) (v : Serving s c a) (from limit at : ℕ) (out₀ area₀ : List ℕ) where
   some-work : 0 < work (currentFlow s c) (pseudoJob c)
@@ -104,7 +107,8 @@ module _ (s : List ℕ) (c : Current) (a : List ℕ) (v : Serving s c a) (from l
     }
 
     pub run-kept-stops : limit ≤ slot → done < work (currentFlow s c) (pseudoJob c) →
-        (x : Beside) (ps : List PseudoJob) → UnderwayBy s c x from (standing (pseudoJob c ∷ ps) 0) out₀ area₀ at → WorkLeft (bookOf s) (c .flow) x limit out area
+        (x : Beside) (ps : List PseudoJob) → UnderwayBy s c x from (standing (pseudoJob c ∷ ps) 0) out₀ area₀ at → WorkLeft (bookOf s)
+        (c .flow) x limit out area
     run-kept-stops l left x ps u = run-stops s c a v x ps slot done limit out area next (omega (arith, k .slot-to)) left (k .so-far x ps u)
 
     pub run-kept-done : work (currentFlow s c) (pseudoJob c) ≤ done → RunPlaced s c from at limit out₀ area₀ out area slot next

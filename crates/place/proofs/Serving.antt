@@ -1,12 +1,9 @@
 -- The ranges of what the code holds of a pseudo-job in service: they are those of a book that passes. Assumes nothing.
-use mathlib.Core.Path.{_≡_, sym}
-use Prim.Native.Nat.{ℕ, _+_, _*_, _≤_, _<_}
-use native.Mathlib.Nat.{le-trans, mul-le-mul-left}
+use Prim.Native.Nat.{ℕ, _≤_, _<_}
 use native.Mathlib.Omega.{arith}
 use mathlib.Core.List.{List}
 use lib.ListN.{getD}
-use Rattle.rules.specs.Walks.{sumTo}
-use Rattle.rules.specs.Book.{Flow, Book, flowCount, jobCount, flowOf, jobOf, InRange, FlowInRange}
+use Rattle.rules.specs.Book.{jobCount, InRange, FlowInRange}
 use Rattle.rules.specs.Ideal.{takeOf}
 use Rattle.rules.specs.Reading.{bookOf}
 use Rattle.rules.specs.PseudoJobs.{rate}
@@ -14,7 +11,7 @@ use Rattle.rules.proofs.Sums.{sum-le}
 use Rattle.rules.proofs.Ideal.{take-within-cap}
 use Rattle.rules.proofs.Passing.{pass-in-range}
 use Rattle.place.specs.declared.Current.{Current}
-use Rattle.place.specs.Service.{Serving, currentFlow, pseudoJob}
+use Rattle.place.specs.Service.{Serving, currentFlow}
 
 module _ (s : List ℕ) (c : Current) (a : List ℕ) (v : Serving s c a) where
   book-in-range : InRange (bookOf s)
@@ -43,4 +40,9 @@ module _ (s : List ℕ) (c : Current) (a : List ℕ) (v : Serving s c a) where
   pub rate-within : c .rate ≤ 262144
   unfolding rate
   rate-within =
-      omega (arith, v .rate, sum-le (λ i. takeOf (currentFlow s c) i (c .first)) 4096 (jobCount (currentFlow s c)) take-of-within, flow-in-range .jobs-most)
+      omega (
+        arith,
+        v .rate,
+        sum-le (λ i. takeOf (currentFlow s c) i (c .first)) 4096 (jobCount (currentFlow s c)) take-of-within,
+        flow-in-range .jobs-most,
+      )

@@ -1,11 +1,11 @@
 -- The rows of one slot, as a loop over the jobs puts them: those of the jobs below j. Assumes nothing.
 use mathlib.Core.Path.{_≡_, refl, sym, ap, subst, _∙_}
-use Prim.Native.Nat.{ℕ, zero, suc, _+_, _*_, _-_, _%_, _≤_, _<_, min, max}
-use native.Mathlib.Nat.{zero-add, mod-lt}
+use Prim.Native.Nat.{ℕ, suc, _+_, _-_, _%_, _≤_, _<_, min, max}
+use native.Mathlib.Nat.{mod-lt}
 use native.Mathlib.Omega.{arith}
-use mathlib.Core.List.{List, [], _∷_, _++_}
-use lib.ListN.{length, length-append, getD}
-use Rattle.rules.specs.Walks.{sumTo, joinFrom}
+use mathlib.Core.List.{List}
+use lib.ListN.{getD}
+use Rattle.rules.specs.Walks.{sumTo}
 use Rattle.rules.specs.Book.{Flow, jobCount}
 use Rattle.rules.specs.Ideal.{takeOf}
 use Rattle.rules.specs.PseudoJobs.{PseudoJob, rate, work}
@@ -75,7 +75,8 @@ module _ (s : List ℕ) (c : Current) (a : List ℕ) (v : Serving s c a) (done g
   -- what its row asks
   pub row-asked : (t at next j off : ℕ) (out out′ : List ℕ) → at + 384 < 4294967296 → j < c .jobs → off ≡ offset w p j →
       Put out at (rowsBelow w (c .flow) t p done give j) out′ next →
-      (next < 4294967296) × (done % c .rate < c .rate) × (give ≤ c .rate) × (off + getD a j 0 ≤ c .rate) × (c .rate ≤ 262144) × (getD a j 0 ≤ 4096)
+      (next < 4294967296) × (done % c .rate < c .rate) × (give ≤ c .rate) × (off + getD a j 0 ≤ c .rate) × (c .rate ≤ 262144) ×
+      (getD a j 0 ≤ 4096)
   row-asked t at next j off out out′ room l e put = (
     omega (arith, put .place, slot-rows-few t (c .flow) (λ i. share w p i done give) j, jobs-within s c a v),
     mod-lt done (v .rate-positive),
@@ -93,7 +94,7 @@ module _ (s : List ℕ) (c : Current) (a : List ℕ) (v : Serving s c a) (done g
   row-put t at next next′ j off out out′ out″ l e put row = (
     omega (arith, v .takes j l, offset-next w p j),
     rw (one-more j, slot-rows-next t (c .flow) (λ i. share w p i done give) j)
-    (put-more out out′ out″ at next next′ (rowsBelow w (c .flow) t p done give j) (rowFor t (c .flow) j (share w p j done give)) put
-    (subst (λ n. Put out′ next (rowFor t (c .flow) j n) out″ next′)
-    (ap (λ (o : ℕ). overlaps (done % c .rate) give o (getD a j 0) (c .rate)) e ∙ share-is-overlaps j l) row)),
+        (put-more out out′ out″ at next next′ (rowsBelow w (c .flow) t p done give j) (rowFor t (c .flow) j (share w p j done give)) put
+        (subst (λ n. Put out′ next (rowFor t (c .flow) j n) out″ next′)
+        (ap (λ (o : ℕ). overlaps (done % c .rate) give o (getD a j 0) (c .rate)) e ∙ share-is-overlaps j l) row)),
   )

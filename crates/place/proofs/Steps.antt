@@ -1,20 +1,18 @@
 -- One slot of a flow's placing, as a loop over slots takes it: what the progress and the rows are after one slot more, what the rows of the
 -- first slots use, how many they are and when they end. Assumes nothing.
-use mathlib.Core.Path.{_≡_, refl, sym, ap, _∙_}
+use mathlib.Core.Path.{_≡_, refl, ap}
 use mathlib.Core.Logic.{_⊎_, inl, inr}
 use Prim.Native.Nat.{ℕ, zero, suc, _+_, _*_, _-_, _≤_, _<_}
-use native.Mathlib.Nat.{add-zero, add-suc, zero-add}
+use native.Mathlib.Nat.{add-zero, add-suc}
 use native.Mathlib.Omega.{arith}
-use mathlib.Core.Bool.{Bool, true, false}
 use mathlib.Core.List.{List, [], _∷_, _++_, append-nil}
 use lib.ListN.{length, length-append}
-use lib.Dec.{eqb}
 use borrow.Author.Tests.{eq-eqb, ne-eqb}
-use Rattle.rules.specs.Walks.{if_then_else_, joinFrom}
+use Rattle.rules.specs.Walks.{joinFrom}
 use Rattle.rules.specs.Book.{Flow, jobCount}
 use Rattle.rules.specs.PseudoJobs.{PseudoJob, work}
 use Rattle.rules.specs.Rows.{Row, usedIn, finishOf}
-use Rattle.rules.specs.Placing.{Progress, share, given, afterSlot, slotRows, progress, flowRows}
+use Rattle.rules.specs.Placing.{share, given, afterSlot, slotRows, progress, flowRows}
 use Rattle.rules.proofs.Division.{lt-or-ge}
 use Rattle.place.proofs.OneSlot.{rowsOfSlot, finish-nothing, finish-append, slot-rows-few, slot-rows-finish-le}
 use Rattle.place.specs.Flows.{standing}
@@ -23,22 +21,11 @@ use Rattle.rules.proofs.FlowRows.{grid-used, grid-not-used}
 use Rattle.rules.proofs.Greedy.{given-in-le-free}
 use Rattle.rules.proofs.PlacedFlow.{shareIn, placed-together}
 use Rattle.rules.proofs.PlannedRows.{flow-rows-grid}
-use Rattle.rules.proofs.Walks.{join-ext, join-last}
+use Rattle.rules.proofs.Walks.{join-last}
 
 -- the rows of flow f in slot t
 unfoldable pub rowsIn : Flow → ℕ → (ℕ → ℕ) → ℕ → List Row
 rowsIn w f free t = slotRows w f t (progress w free t .left) (progress w free t .done) (free t)
-
--- ---- what the placing of the first t slots depends on
-pub progress-ext : (w : Flow) (free other : ℕ → ℕ) (t : ℕ) → ((u : ℕ) → u < t → free u ≡ other u) → progress w free t ≡ progress w other t
-unfolding progress
-progress-ext w free other zero e = refl
-progress-ext w free other (suc t) e = rw (progress-ext w free other t (λ u l. e u (omega arith)), e t (omega arith)) refl
-
-pub flow-rows-ext : (w : Flow) (f : ℕ) (free other : ℕ → ℕ) (n : ℕ) → ((u : ℕ) → u < n → free u ≡ other u) → flowRows w f free n ≡ flowRows w f other n
-unfolding flowRows
-flow-rows-ext w f free other n e =
-    join-ext _ _ n 0 (λ t l. rw zero-add (let p = progress-ext w free other t (λ u m. e u (omega arith)) in rw (p, e t l) refl))
 
 -- ---- the rows of one slot
 module _ (w : Flow) (f t : ℕ) where
@@ -79,7 +66,8 @@ module _ (w : Flow) (f : ℕ) (free : ℕ → ℕ) where
   unfolding flowRows rowsIn
   flow-rows-next t = join-last _ t
 
-  pub rows-in-standing : (t : ℕ) (left : List PseudoJob) (done : ℕ) → progress w free t ≡ standing left done → rowsIn w f free t ≡ slotRows w f t left done (free t)
+  pub rows-in-standing : (t : ℕ) (left : List PseudoJob) (done : ℕ) → progress w free t ≡ standing left done →
+      rowsIn w f free t ≡ slotRows w f t left done (free t)
   unfolding rowsIn
   rows-in-standing t left done e = rw e refl
 
@@ -93,7 +81,8 @@ module _ (w : Flow) (f : ℕ) (free : ℕ → ℕ) where
   unfolding slotRows
   no-more-rows t zero done e = rw add-zero refl
   no-more-rows t (suc k) done e =
-      rw (add-suc, flow-rows-next (t + k), rows-in-standing (t + k) [] done (stays-finished t k done e), append-nil) (no-more-rows t k done e)
+      rw (add-suc, flow-rows-next (t + k), rows-in-standing (t + k) [] done (stays-finished t k done e), append-nil)
+      (no-more-rows t k done e)
 
   -- ---- what the rows of the first n slots use, how many they are, and when they end
   rows-in-few : (t : ℕ) → length (rowsIn w f free t) ≤ jobCount w

@@ -1,19 +1,16 @@
 -- A flow on its way, one slot more: what the area holds in the slot is the use of the flows before, and after the slot's rows are put and
 -- counted in, the flow stands where rule 4 says. Assumes nothing.
 use mathlib.Core.Path.{_≡_, refl, sym, ap, _∙_}
-use mathlib.Core.Logic.{_⊎_, inl, inr}
-use Prim.Native.Nat.{ℕ, zero, suc, _+_, _*_, _-_, _≤_, _<_, min, max}
+use Prim.Native.Nat.{ℕ, suc, _+_, _*_, _-_, _≤_, _<_}
 use native.Mathlib.Omega.{arith}
 use mathlib.Core.List.{List, [], _∷_, _++_, append-assoc, append-nil}
-use lib.ListN.{length}
 use lib.Seq.{sets}
-use Rattle.rules.specs.Walks.{sumTo}
 use Rattle.rules.specs.Limits.{slots}
 use Rattle.rules.specs.Fields.{field, bytesOf}
-use Rattle.rules.specs.Book.{Flow, Book, jobCount, flowOf, InRange}
+use Rattle.rules.specs.Book.{Flow, Book, jobCount, flowOf}
 use Rattle.rules.specs.PseudoJobs.{PseudoJob, rate, work}
-use Rattle.rules.specs.Rows.{Row, usedIn, finishOf, workUsed}
-use Rattle.rules.specs.Placing.{Progress, share, given, afterSlot, slotRows, progress, flowRows, freeProcessors}
+use Rattle.rules.specs.Rows.{usedIn, finishOf, workUsed}
+use Rattle.rules.specs.Placing.{given, afterSlot, progress, freeProcessors}
 use Rattle.rules.proofs.FlowRows.{used-append}
 use Rattle.rules.proofs.Shares.{share-of-nothing, shares-sum}
 use Rattle.rules.proofs.WorkArea.{used-pair, used-more}
@@ -21,9 +18,9 @@ use Rattle.place.specs.Output.{Put}
 use Rattle.place.specs.Service.{jobRows}
 use Rattle.place.specs.Flows.{standing, Beside, rowsUpTo, Underway}
 use Rattle.place.proofs.OneSlot.{finish-append, slot-rows-used, slot-rows-elsewhere, slot-rows-finish, slot-rows-nothing}
-use Rattle.place.proofs.Output.{put-none, put-more}
+use Rattle.place.proofs.Output.{put-more}
 use Rattle.place.proofs.SlotRows.{rows-below-all}
-use Rattle.place.proofs.Steps.{rowsIn, flow-rows-next, rows-in-standing, slot-rows-served, own-rows-earlier, own-finish-le}
+use Rattle.place.proofs.Steps.{flow-rows-next, rows-in-standing, slot-rows-served, own-rows-earlier, own-finish-le}
 
 -- the rows of a slot that gives n units
 module _ (w : Flow) (f t : ℕ) (p : PseudoJob) (done n : ℕ) where
@@ -60,7 +57,8 @@ module _ (b : Book) (f : ℕ) (x : Beside) (t : ℕ) (p : PseudoJob) (ps : List 
   rows-next =
       flow-rows-next w f (freeProcessors b (x .rows)) t
       ∙ ap (rowsUpTo b f x t ++_)
-      (rows-in-standing w f (freeProcessors b (x .rows)) t (p ∷ ps) done (u .stands) ∙ slot-rows-served w f t p ps done free ∙ rows-below-all w f t p done (given w p done free))
+      (rows-in-standing w f (freeProcessors b (x .rows)) t (p ∷ ps) done (u .stands) ∙ slot-rows-served w f t p ps done free ∙
+      rows-below-all w f t p done (given w p done free))
 
   stands-next : progress w (freeProcessors b (x .rows)) (suc t) ≡ afterSlot w (p ∷ ps) done free
   unfolding progress
@@ -88,7 +86,8 @@ module _ (b : Book) (f : ℕ) (x : Beside) (t : ℕ) (p : PseudoJob) (ps : List 
   -- a slot that gives nothing
   pub slot-passed : given w p done free ≡ 0 → Underway b f x (suc t) (afterSlot w (p ∷ ps) done free) out area at
   slot-passed e =
-      let all : rowsUpTo b f x (suc t) ≡ rowsUpTo b f x t = rows-next ∙ rw (job-rows-nothing w f t p done (given w p done free) e) (append-nil (rowsUpTo b f x t)) in
+      let all : rowsUpTo b f x (suc t) ≡ rowsUpTo b f x t = rows-next ∙ rw (job-rows-nothing w f t p done (given w p done free) e)
+      (append-nil (rowsUpTo b f x t)) in
       record { within = u .within; stands = stands-next; area-used = rw all (u .area-used); put = rw all (u .put) }
 
   -- where the slot gives something, it is the flow's last used slot so far

@@ -2,19 +2,19 @@
 -- routines leave behind. Assumes nothing.
 use mathlib.Core.Path.{_≡_}
 use Prim.Native.Nat.{ℕ, suc, _+_, _*_, _-_, _<_, _≤_}
-use mathlib.Core.List.{List, [], _∷_, _++_}
+use mathlib.Core.List.{List, _∷_, _++_}
 use lib.ListN.{length}
 use Rattle.rules.specs.Limits.{slots}
-use Rattle.rules.specs.Book.{Flow, Book, flowOf}
+use Rattle.rules.specs.Book.{Book, flowOf}
 use Rattle.rules.specs.Reading.{bookOf}
 use Rattle.rules.specs.PseudoJobs.{PseudoJob, work}
 use Rattle.rules.specs.Rows.{Row, usedIn, finishOf, workUsed}
-use Rattle.rules.specs.Placing.{Progress, given, afterSlot, progress, flowRows, freeProcessors, slotsFor, Plan, planned, infeasible, placeFlow}
+use Rattle.rules.specs.Placing.{Progress, given, afterSlot, progress, flowRows, freeProcessors, slotsFor, planned, infeasible, placeFlow}
 use Rattle.place.specs.declared.Current.{Current}
 use Rattle.place.specs.declared.Served.{Served}
 use Rattle.place.specs.declared.Placed.{Placed}
 use Rattle.place.specs.declared.Placed.the-variants.{To, Infeasible}
-use Rattle.place.specs.Output.{putRows, Put}
+use Rattle.place.specs.Output.{Put}
 use Rattle.place.specs.Service.{currentFlow, pseudoJob}
 
 -- where a flow stands: the pseudo-jobs left, and the units done of the first of them
@@ -71,13 +71,15 @@ pub record RunPlaced (s : List ℕ) (c : Current) (from at limit : ℕ) (out are
   pub slot-after : from < slot
   pub slot-within : slot ≤ limit
   pub next-within : next ≤ at + 384 * (slot - from)
-  pub finished : (x : Beside) (ps : List PseudoJob) → UnderwayBy s c x from (standing (pseudoJob c ∷ ps) 0) out area at → RunDone s c x ps slot out′ area′ next
+  pub finished : (x : Beside) (ps : List PseudoJob) → UnderwayBy s c x from (standing (pseudoJob c ∷ ps) 0) out area at →
+      RunDone s c x ps slot out′ area′ next
 
 -- what the placing of a pseudo-job from slot `from` on answers
 abbrev pub RunAnswer : List ℕ → Current → ℕ → ℕ → ℕ → List ℕ → List ℕ → List ℕ → List ℕ → Placed → Type 0
 RunAnswer s c from at limit out area out′ area′ (To slot next) = RunPlaced s c from at limit out area out′ area′ slot next
 RunAnswer s c from at limit out area out′ area′ Infeasible =
-    (x : Beside) (ps : List PseudoJob) → UnderwayBy s c x from (standing (pseudoJob c ∷ ps) 0) out area at → WorkLeft (bookOf s) (c .flow) x limit out′ area′
+    (x : Beside) (ps : List PseudoJob) → UnderwayBy s c x from (standing (pseudoJob c ∷ ps) 0) out area at →
+    WorkLeft (bookOf s) (c .flow) x limit out′ area′
 
 -- ---- one flow
 -- the rows of flow f beside those of the flows before it

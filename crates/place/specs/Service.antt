@@ -3,10 +3,9 @@ use mathlib.Core.Path.{_≡_}
 use Prim.Native.Nat.{ℕ, _+_, _-_, _<_, _≤_, min, max}
 use mathlib.Core.List.{List}
 use lib.ListN.{length, getD}
-use Rattle.rules.specs.declared.Verdict.{Verdict}
 use Rattle.rules.specs.declared.Verdict.the-variants.{Pass}
 use Rattle.rules.specs.Walks.{joinFrom}
-use Rattle.rules.specs.Book.{Flow, Book, flowCount, jobCount, flowOf}
+use Rattle.rules.specs.Book.{Flow, flowCount, jobCount, flowOf}
 use Rattle.rules.specs.Reading.{bookOf, bookFault}
 use Rattle.rules.specs.Ideal.{takeOf}
 use Rattle.rules.specs.PseudoJobs.{PseudoJob, rate}

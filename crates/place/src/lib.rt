@@ -11,7 +11,6 @@ ghost use Rattle.book.specs.Promise.{FlowStands};
 ghost use Rattle.place.specs.Flows.{SlotServed, RunAnswer, FlowPlaced};
 ghost use Rattle.place.specs.Output.{Put};
 ghost use Rattle.place.specs.Service.{Serving, currentFlow, pseudoJob, jobRows, overlaps};
-
 use book::bytes;
 
 pub mod late;
@@ -45,7 +44,8 @@ pub fn share_of(o: u32, give: u32, offset: u32, take: u32, rate: u32) -> u32
     requires { ⌜ (o < rate) × (give ≤ rate) × (offset + take ≤ rate) × (rate ≤ 262144) ⌝ }
     ensures { λ r. ⌜ r ≡ overlaps o give offset take rate ⌝ }
 {
-    overlap(o, o + give, offset, offset + take) + overlap(o, o + give, offset + rate, offset + rate + take)
+    overlap(o, o + give, offset, offset + take)
+        + overlap(o, o + give, offset + rate, offset + rate + take)
 }
 
 // The row of a job that has processors, where the output has room for it; the place after it.
@@ -64,7 +64,18 @@ pub fn put_row(out: &mut [u8], at: usize, slot: u16, flow: u8, job: u8, processo
 }
 
 // The row of a job for its share of the units that a slot uses; a job that takes nothing has none.
-pub fn put_share(out: &mut [u8], at: usize, slot: u16, flow: u8, job: u8, o: u32, give: u32, offset: u32, take: u32, rate: u32) -> usize
+pub fn put_share(
+    out: &mut [u8],
+    at: usize,
+    slot: u16,
+    flow: u8,
+    job: u8,
+    o: u32,
+    give: u32,
+    offset: u32,
+    take: u32,
+    rate: u32,
+) -> usize
     requires { ⌜ (at < 4294967296) × (o < rate) × (give ≤ rate) × (offset + take ≤ rate) × (rate ≤ 262144) × (take ≤ 4096) ⌝ }
     ensures { λ r. ⌜ Put (now (out .entry)) at (rowFor slot flow job (overlaps o give offset take rate)) (now (out .exit)) r ⌝ }
 {
@@ -76,7 +87,16 @@ pub fn put_share(out: &mut [u8], at: usize, slot: u16, flow: u8, job: u8, o: u32
 }
 
 // The rows of one slot, which uses `give` units after the first `done`; the place after them.
-pub fn put_slot(book: &[u8], takes: &[u32], out: &mut [u8], at: usize, c: Current, done: u64, give: u32, slot: usize) -> usize
+pub fn put_slot(
+    book: &[u8],
+    takes: &[u32],
+    out: &mut [u8],
+    at: usize,
+    c: Current,
+    done: u64,
+    give: u32,
+    slot: usize,
+) -> usize
     requires { ⌜ Serving (now book) c (now takes) × (done + give ≤ work (currentFlow (now book) c) (pseudoJob c)) × (give ≤ c .rate) × (slot < 8192) × (at + 384 < 4294967296) ⌝ }
     ensures { λ r. ⌜ Put (now (out .entry)) at (jobRows (currentFlow (now (book .entry)) c) (c .flow) slot (pseudoJob c) done give) (now (out .exit)) r ⌝ }
 {
@@ -88,7 +108,18 @@ pub fn put_slot(book: &[u8], takes: &[u32], out: &mut [u8], at: usize, c: Curren
     let mut j: usize = 0;
     while j < jobs {
         let take = takes[j];
-        next = put_share(out, next, slot as u16, flow, j as u8, o, give, offset, take, c.rate);
+        next = put_share(
+            out,
+            next,
+            slot as u16,
+            flow,
+            j as u8,
+            o,
+            give,
+            offset,
+            take,
+            c.rate,
+        );
         offset = offset + take;
         j = j + 1;
     }
@@ -129,7 +160,16 @@ pub fn work_of(width: u32, rate: u32) -> u64
 }
 
 // Rule 4 in one slot: the pseudo-job in service, of whose units `done` are given, gets its processors.
-pub fn serve_slot(book: &[u8], takes: &[u32], out: &mut [u8], area: &mut [u8], at: usize, c: Current, done: u64, slot: usize) -> Served
+pub fn serve_slot(
+    book: &[u8],
+    takes: &[u32],
+    out: &mut [u8],
+    area: &mut [u8],
+    at: usize,
+    c: Current,
+    done: u64,
+    slot: usize,
+) -> Served
     requires { ⌜ Serving (now book) c (now takes) × (workBytes ≤ length (now area)) × (done ≤ work (currentFlow (now book) c) (pseudoJob c)) × (slot < 8192) × (at + 384 < 4294967296) ⌝ }
     ensures { λ r. ⌜ SlotServed (now (book .entry)) c at done slot (now (out .entry)) (now (area .entry)) (now (out .exit)) (now (area .exit)) r ⌝ }
 {
@@ -144,7 +184,16 @@ pub fn serve_slot(book: &[u8], takes: &[u32], out: &mut [u8], area: &mut [u8], a
 }
 
 // Rule 4 for the pseudo-job in service: slot after slot from `from` on, until its work is done; rule 6 where the limit is reached before.
-pub fn place_run(book: &[u8], takes: &[u32], out: &mut [u8], area: &mut [u8], at: usize, c: Current, from: usize, limit: usize) -> Placed
+pub fn place_run(
+    book: &[u8],
+    takes: &[u32],
+    out: &mut [u8],
+    area: &mut [u8],
+    at: usize,
+    c: Current,
+    from: usize,
+    limit: usize,
+) -> Placed
     requires { ⌜ Serving (now book) c (now takes) × (workBytes ≤ length (now area)) × (from ≤ limit) × (limit ≤ 8192) × (at + 384 * (8192 - from) < 4294967296) ⌝ }
     ensures { λ r. ⌜ RunAnswer (now (book .entry)) c from at limit (now (out .entry)) (now (area .entry)) (now (out .exit)) (now (area .exit)) r ⌝ }
 {
@@ -165,7 +214,15 @@ pub fn place_run(book: &[u8], takes: &[u32], out: &mut [u8], area: &mut [u8], at
 }
 
 // Rules 4 to 6 for flow f, which starts at `start`: its pseudo-jobs one after the other, each from the slot after the one before it.
-pub fn place_flow(book: &[u8], out: &mut [u8], area: &mut [u8], at: usize, start: usize, f: usize, processors: u16) -> Placed
+pub fn place_flow(
+    book: &[u8],
+    out: &mut [u8],
+    area: &mut [u8],
+    at: usize,
+    start: usize,
+    f: usize,
+    processors: u16,
+) -> Placed
     requires { ⌜ FlowStands (now book) f start × (processors ≡ bookOf (now book) .processors) × (workBytes ≤ length (now area)) × (at + 3145728 < 4294967296) ⌝ }
     ensures { λ r. ⌜ ((rows : List Row) (bytes : List ℕ) → now (area .entry) ≡ workUsed slots rows bytes → ((t : ℕ) → usedIn rows t ≤ processors) → FlowPlaced (bookOf (now (book .entry))) f rows bytes (now (out .entry)) at (now (out .exit)) (now (area .exit)) r) ⌝ }
 {

@@ -27,6 +27,7 @@ pub mod RowOrder
 pub mod RowSums
 pub mod ScheduleRows
 pub mod FlowRows
+pub mod RowsSoFar
 pub mod WorkArea
 -- placing, what it guarantees, and what a refusal proves
 pub mod Greedy

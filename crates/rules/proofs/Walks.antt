@@ -170,3 +170,8 @@ join-length-zero g n = join-length g n 0 ∙ sum-ext (λ k. length (g (0 + k))) 
 -- the last of lists joined from 0 on
 pub join-last {ℓ} : {A : Type ℓ} (g : ℕ → List A) (n : ℕ) → joinFrom g (suc n) 0 ≡ joinFrom g n 0 ++ g n
 join-last g n = join-snoc g n 0 ∙ ap (λ k. joinFrom g n 0 ++ g k) (zero-add n)
+
+pub any-ext : (q p : ℕ → Bool) (n : ℕ) → ((k : ℕ) → k < n → q k ≡ p k) → anyTo q n ≡ anyTo p n
+unfolding anyTo
+any-ext q p zero h = refl
+any-ext q p (suc n) h = rw (any-ext q p n (λ k l. h k (omega arith)), h n (omega arith)) refl

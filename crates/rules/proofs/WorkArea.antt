@@ -7,6 +7,7 @@ use native.Mathlib.Omega.{arith}
 use mathlib.Core.List.{List, [], _∷_, _++_, append-assoc}
 use lib.ListN.{length, take, drop, replicate, length-append, length-drop, length-replicate}
 use lib.Seq.{sets, sets-eq, take-at, drop-at}
+use borrow.Author.Tests.{eq-eqb, ne-eqb}
 use Rattle.rules.specs.Walks.{sumTo, joinFrom}
 use Rattle.rules.specs.Fields.{field, bytesOf}
 use Rattle.rules.specs.Rows.{Row, sumWhere, usedIn, workUsed, workZero}
@@ -90,3 +91,33 @@ used-more n t x rows more area l e z =
     ∙ rw (first, last, here) refl
     ∙ sym (sets-between (pairs (usedIn rows) t 0) (bytesOf 2 (usedIn rows t)) (bytesOf 2 (usedIn rows t + x)) (pairs (usedIn rows) (n - suc t) (suc t) ++ drop (2 * n) area) (2 * t) (pairs-length (usedIn rows) t 0) (bytes-length 2 (usedIn rows t) ∙ sym (bytes-length 2 (usedIn rows t + x))))
     ∙ ap (λ y. sets y (2 * t) (bytesOf 2 (usedIn rows t + x))) (sym (around n rows area t l))
+
+row-used : (r : Row) → usedIn (r ∷ []) (r .slot) ≡ r .processors
+unfolding usedIn sumWhere
+row-used r = rw (eq-eqb (r .slot) (r .slot) refl) (omega arith)
+
+row-not-used : (r : Row) (u : ℕ) → (u ≡ r .slot → ⊥) → usedIn (r ∷ []) u ≡ 0
+unfolding usedIn sumWhere
+row-not-used r u ne = rw (ne-eqb (r .slot) u (λ q. ne (sym q))) (omega arith)
+
+-- one row more: the pair of its slot holds its processors too
+pub used-row : (n : ℕ) (rows : List Row) (r : Row) (area : List ℕ) → r .slot < n →
+    workUsed n (rows ++ r ∷ []) area ≡ sets (workUsed n rows area) (2 * r .slot) (bytesOf 2 (usedIn rows (r .slot) + r .processors))
+used-row n rows r area l = used-more n (r .slot) (r .processors) rows (r ∷ []) area l (row-used r) (row-not-used r)
+
+-- ---- a cleared area: clearing it again changes nothing, and rows counted over it are counted over the area that it was
+cleared-past : (n : ℕ) (area : List ℕ) → drop (2 * n) (workZero n area) ≡ drop (2 * n) area
+unfolding workZero
+cleared-past n area = drop-at (replicate (2 * n) 0) (drop (2 * n) area) (2 * n) (length-replicate (2 * n) 0)
+
+pub cleared-twice : (n : ℕ) (area : List ℕ) → workZero n (workZero n area) ≡ workZero n area
+unfolding workZero
+cleared-twice n area = ap (λ (l : List ℕ). replicate (2 * n) 0 ++ l) (cleared-past n area)
+
+pub used-over-cleared : (n : ℕ) (rows : List Row) (area : List ℕ) → workUsed n rows (workZero n area) ≡ workUsed n rows area
+unfolding workUsed
+used-over-cleared n rows area = ap (λ (l : List ℕ). pairs (usedIn rows) n 0 ++ l) (cleared-past n area)
+
+pub cleared-length : (n : ℕ) (area : List ℕ) → 2 * n ≤ length area → length (workZero n area) ≡ length area
+unfolding workZero
+cleared-length n area h = simp (length-append, length-drop, length-replicate) (omega arith)

@@ -4,14 +4,10 @@ use native.Mathlib.Omega.{arith}
 use borrow.Author.Needs.{needs}
 use Rattle.place.proofs.work_of.Statement.{statement}
 use Rattle.place.proofs.work_of.Tie as tie
-use Rattle.place.proofs.work_of.Reads as reads
-use Rattle.place.proofs.work_of.Lts as lts
 
--- src/lib.rt:121:5
 mul-result : tie.Need-mul-result
 mul-result c = omega (arith, mul-le-mul-right {m = c .args .width} {n = 4294967295} (c .args .rate) (omega arith))
 
--- src/lib.rt:118:1
 returns : tie.Need-returns
 returns c = search needs
 

@@ -1,0 +1,26 @@
+// The calls that a dispatcher in C makes. Thin: each hands its slices to the proved core and has the core's contract. Neither has a
+// `requires`: every sequence of bytes is taken.
+ghost use mathlib.Core.Path.{_≡_};
+ghost use Rattle.rules.specs.Check.{CheckOutcome, checkCall};
+ghost use Rattle.rules.specs.Planner.{PlanOutcome, planCall};
+use rules::CheckAnswer;
+use rules::PlanAnswer;
+
+// The check of a table against a book.
+#[no_mangle]
+pub extern "C" fn flowplan_check(book: &[u8], table: &[u8], work: &mut [u8]) -> CheckAnswer
+    ensures answer { λ r. ⌜ r ≡ checkCall (now (book .entry)) (now (table .entry)) (now (work .entry)) .answer ⌝ }
+    ensures area { λ r. ⌜ now (work .exit) ≡ checkCall (now (book .entry)) (now (table .entry)) (now (work .entry)) .area ⌝ }
+{
+    table_check::check_table(book, table, work)
+}
+
+// The plan of a book.
+#[no_mangle]
+pub extern "C" fn flowplan_plan(book: &[u8], output: &mut [u8], work: &mut [u8]) -> PlanAnswer
+    ensures answer { λ r. ⌜ r ≡ planCall (now (book .entry)) (now (output .entry)) (now (work .entry)) .answer ⌝ }
+    ensures output { λ r. ⌜ now (output .exit) ≡ planCall (now (book .entry)) (now (output .entry)) (now (work .entry)) .output ⌝ }
+    ensures area { λ r. ⌜ now (work .exit) ≡ planCall (now (book .entry)) (now (output .entry)) (now (work .entry)) .area ⌝ }
+{
+    place::planner::plan_book(book, output, work)
+}

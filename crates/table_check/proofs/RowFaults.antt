@@ -1,0 +1,211 @@
+-- A row's verdict, test by test: what the tests in the walk say of it. The tests of 15 and 16, of 17 and 18, and of 19 stand one after the other,
+-- each group counting where those before it pass. Assumes nothing.
+use mathlib.Core.Path.{_≡_, refl, sym, ap, _∙_, subst}
+use Prim.Native.Nat.{ℕ, zero, suc, _+_, _*_, _-_, _/_, _≤_, _<_}
+use mathlib.Core.Bool.{Bool, true, false, not, _&&_, _||_, true≢false}
+use mathlib.Core.Logic.{_⊎_, inl, inr, ⊎-elim}
+use mathlib.Core.List.{List, [], _∷_, _++_}
+use native.Mathlib.Omega.{arith}
+use lib.ListN.{length, getD, take}
+use lib.Dec.{ltb, leb, eqb}
+use borrow.Author.Tests.{lt-ltb, le-ltb, le-leb, lt-leb, eq-eqb, ne-eqb, ltb-true, ltb-false, leb-true, leb-false, eqb-true, eqb-false, not-false}
+use Rattle.rules.specs.declared.Verdict.{Verdict}
+use Rattle.rules.specs.declared.Verdict.the-variants.{Pass, Refused}
+use Rattle.rules.specs.Walks.{if_then_else_, anyTo}
+use Rattle.rules.specs.Limits.{slots}
+use Rattle.rules.specs.Answers.{firstFault}
+use Rattle.rules.specs.Book.{Job, Flow, Book, flowCount, jobCount, flowOf, jobOf, hasBit, precedes, InRange}
+use Rattle.rules.specs.Rows.{Row, usedIn, doneBefore, finishOf}
+use Rattle.rules.specs.Check.{noRow, rises, lacksPredecessor, rowFault}
+use Rattle.rules.proofs.Walks.{any-ext}
+use Rattle.rules.proofs.Faults.{fault-pass}
+use Rattle.rules.proofs.Passing.{test-passed, neither-true}
+use Rattle.table_check.specs.Tally.{rowKey, leastKey, place, earlyNumber, lateNumber, lacksAt, Tally}
+use Rattle.table_check.proofs.Keys.{KeyFits, rises-key}
+use Rattle.table_check.proofs.Tallies.{Counts, finish-most}
+
+-- ---- the verdict by its five tests
+abbrev verdictBy : (out falls over crowded lacks : Bool) → ℕ → ℕ → Verdict
+verdictBy out falls over crowded lacks f j =
+    if out then Refused 15 f j
+    else if falls then Refused 16 f j
+    else if over then Refused 17 f j
+    else if crowded then Refused 18 f j
+    else if lacks then Refused 19 f j
+    else Pass
+
+-- "row's slot above 8,191, flow or job not in the book, or 0 processors"
+abbrev outOfBook : Book → Row → Bool
+outOfBook b r = leb slots (r .slot) || leb (flowCount b) (r .flow) || leb (jobCount (flowOf b (r .flow))) (r .job) || eqb (r .processors) 0
+
+-- the tests of a row that is in the book
+or-false : (s : Bool) → (s || false) ≡ s
+or-false true = refl
+or-false false = refl
+
+or-true : (s j p : Bool) → (s || true || j || p) ≡ true
+or-true true j p = refl
+or-true false j p = refl
+
+out-of-known : (b : Book) (r : Row) → r .flow < flowCount b →
+    outOfBook b r ≡ (leb slots (r .slot) || leb (jobCount (flowOf b (r .flow))) (r .job) || eqb (r .processors) 0)
+out-of-known b r h = rw (lt-leb (flowCount b) (r .flow) h, or-false (leb slots (r .slot))) refl
+
+pub in-book-of : (b : Book) (r : Row) → outOfBook b r ≡ false → (r .slot < slots) × (r .flow < flowCount b) × (r .job < jobCount (flowOf b (r .flow)))
+in-book-of b r e =
+    let s = leb slots (r .slot) in
+    let f = leb (flowCount b) (r .flow) in
+    let j = leb (jobCount (flowOf b (r .flow))) (r .job) in
+    let some = neither-true (s || f || j) (eqb (r .processors) 0) e in
+    let job-test = neither-true (s || f) j (some .0) in
+    let flow-test = neither-true s f (job-test .0) in (
+      leb-false slots (r .slot) (flow-test .0),
+      leb-false (flowCount b) (r .flow) (flow-test .1),
+      leb-false (jobCount (flowOf b (r .flow))) (r .job) (job-test .1),
+    )
+
+key-fits : (b : Book) (r : Row) → InRange b → outOfBook b r ≡ false → KeyFits r
+key-fits b r h e =
+    let i = in-book-of b r e in
+    record {
+      flow-fits = omega (arith, h .flows-most, i .1);
+      slot-fits = i .0;
+      job-fits = omega (arith, h .each-flow (r .flow) (i .1) .jobs-most, i .2);
+    }
+
+-- what 15 and 16 leave of row k, which is r
+pub record EarlyPassed (b : Book) (rows : List Row) (k : ℕ) (r : Row) : Type 0 where
+  pub inside : outOfBook b r ≡ false
+  pub rising : rises b rows k ≡ true
+  pub after-least : leastKey b rows k ≤ rowKey b r
+
+-- what 17 and 18 leave of it
+pub record LatePassed (b : Book) (soFar : List Row) (r : Row) : Type 0 where
+  pub cap-kept : ltb (jobOf (flowOf b (r .flow)) (r .job) .cap) (r .processors) ≡ false
+  pub room-kept : ltb (b .processors) (usedIn soFar (r .slot) + r .processors) ≡ false
+
+module _ (b : Book) (rows : List Row) (k : ℕ) (r : Row) (at-k : getD rows k noRow ≡ r) where
+  by-tests : rowFault b rows k
+      ≡ verdictBy (outOfBook b r) (not (rises b rows k)) (ltb (jobOf (flowOf b (r .flow)) (r .job) .cap) (r .processors))
+      (ltb (b .processors) (usedIn (take k rows) (r .slot) + r .processors)) (lacksPredecessor b (take k rows) r) (r .flow) (r .job)
+  unfolding rowFault
+  by-tests = rw (← at-k) refl
+
+  -- a row that passes has a key
+  pub passed-fits : InRange b → rowFault b rows k ≡ Pass → KeyFits r
+  passed-fits h e = key-fits b r h (test-passed _ _ _ _ _ (sym by-tests ∙ e) .0)
+
+module _ (b : Book) (rows : List Row) (k : ℕ) (r : Row) (at-k : getD rows k noRow ≡ r) where
+  tests : rowFault b rows k
+      ≡ verdictBy (outOfBook b r) (not (rises b rows k)) (ltb (jobOf (flowOf b (r .flow)) (r .job) .cap) (r .processors))
+      (ltb (b .processors) (usedIn (take k rows) (r .slot) + r .processors)) (lacksPredecessor b (take k rows) r) (r .flow) (r .job)
+  tests = by-tests b rows k r at-k
+
+  pub flow-unknown : flowCount b ≤ r .flow → rowFault b rows k ≡ Refused 15 (r .flow) (r .job)
+  flow-unknown h =
+      let out : outOfBook b r ≡ true =
+      rw (le-leb (flowCount b) (r .flow) h) (or-true (leb slots (r .slot)) (leb (jobCount (flowOf b (r .flow))) (r .job)) (eqb (r .processors) 0)) in
+      tests ∙ rw out refl
+
+  -- 15 and 16
+  module _ (range : InRange b) (passed : firstFault (rowFault b rows) k ≡ Pass) (least key n : ℕ) (least-is : least ≡ leastKey b rows k)
+      (key-is : key ≡ rowKey b r) (known : r .flow < flowCount b) (n-is : n ≡ earlyNumber (jobCount (flowOf b (r .flow))) least key r) where
+    n-by-tests : n ≡ (if outOfBook b r then 15 else if ltb key least then 16 else 0)
+    unfolding earlyNumber
+    n-by-tests = n-is ∙ ap (λ (t : Bool). if t then 15 else if ltb key least then 16 else 0) (sym (out-of-known b r known))
+
+    rises-by-key : outOfBook b r ≡ false → rises b rows k ≡ leb least key
+    rises-by-key e = rises-at-key ∙ rw (at-k, least-is, key-is) refl
+      where
+        rises-at-key : rises b rows k ≡ leb (leastKey b rows k) (rowKey b (getD rows k noRow))
+        rises-at-key =
+            rises-key b rows k (λ j h. earlier j (fault-pass (rowFault b rows) k passed j h)) (subst KeyFits (sym at-k) (key-fits b r range e))
+          where
+            earlier : (j : ℕ) → rowFault b rows j ≡ Pass → KeyFits (getD rows j noRow)
+            earlier j d = passed-fits b rows j (getD rows j noRow) refl range d
+
+    pub early-fault : (n ≡ 0 → ⊥) → rowFault b rows k ≡ Refused n (r .flow) (r .job)
+    early-fault h = go (outOfBook b r) refl (ltb key least) refl
+      where
+        go : (t : Bool) → outOfBook b r ≡ t → (u : Bool) → ltb key least ≡ u → rowFault b rows k ≡ Refused n (r .flow) (r .job)
+        go true e u d = tests ∙ rw (e, n-by-tests, e) refl
+        go false e true d =
+            let falls : rises b rows k ≡ false = rises-by-key e ∙ lt-leb least key (ltb-true key least d) in
+            tests ∙ rw (e, falls, n-by-tests, e, d) refl
+        go false e false d = absurd (h (n-by-tests ∙ rw (e, d) refl))
+
+    least-le : least ≤ key → leastKey b rows k ≤ rowKey b r
+    least-le h = rw (least-is, key-is) at h
+
+    pub early-passed : n ≡ 0 → EarlyPassed b rows k r
+    early-passed h = go (outOfBook b r) refl (ltb key least) refl
+      where
+        go : (t : Bool) → outOfBook b r ≡ t → (u : Bool) → ltb key least ≡ u → EarlyPassed b rows k r
+        go true e u d = absurd (let z : n ≡ 15 = n-by-tests ∙ rw e refl in omega arith)
+        go false e true d = absurd (let z : n ≡ 16 = n-by-tests ∙ rw (e, d) refl in omega arith)
+        go false e false d = record { inside = e; rising = rises-by-key e ∙ le-leb least key (ltb-false key least d); after-least = least-le (ltb-false key least d) }
+
+  -- 17 and 18
+  module _ (early : EarlyPassed b rows k r) (used cap n : ℕ) (used-is : used ≡ usedIn (take k rows) (r .slot))
+      (cap-is : cap ≡ jobOf (flowOf b (r .flow)) (r .job) .cap) (n-is : n ≡ lateNumber cap used (b .processors) r) where
+    n-by-late : n ≡ (if ltb (jobOf (flowOf b (r .flow)) (r .job) .cap) (r .processors) then 17
+        else if ltb (b .processors) (usedIn (take k rows) (r .slot) + r .processors) then 18 else 0)
+    unfolding lateNumber
+    n-by-late = n-is ∙ rw (used-is, cap-is) refl
+
+    pub late-fault : (n ≡ 0 → ⊥) → rowFault b rows k ≡ Refused n (r .flow) (r .job)
+    late-fault h = go (ltb (jobOf (flowOf b (r .flow)) (r .job) .cap) (r .processors)) refl
+        (ltb (b .processors) (usedIn (take k rows) (r .slot) + r .processors)) refl
+      where
+        go : (t : Bool) → ltb (jobOf (flowOf b (r .flow)) (r .job) .cap) (r .processors) ≡ t →
+            (u : Bool) → ltb (b .processors) (usedIn (take k rows) (r .slot) + r .processors) ≡ u → rowFault b rows k ≡ Refused n (r .flow) (r .job)
+        go true e u d = tests ∙ rw (early .inside, early .rising, e, n-by-late, e) refl
+        go false e true d = tests ∙ rw (early .inside, early .rising, e, d, n-by-late, e, d) refl
+        go false e false d = absurd (h (n-by-late ∙ rw (e, d) refl))
+
+    pub late-passed : n ≡ 0 → LatePassed b (take k rows) r
+    late-passed h = go (ltb (jobOf (flowOf b (r .flow)) (r .job) .cap) (r .processors)) refl
+        (ltb (b .processors) (usedIn (take k rows) (r .slot) + r .processors)) refl
+      where
+        go : (t : Bool) → ltb (jobOf (flowOf b (r .flow)) (r .job) .cap) (r .processors) ≡ t →
+            (u : Bool) → ltb (b .processors) (usedIn (take k rows) (r .slot) + r .processors) ≡ u → LatePassed b (take k rows) r
+        go true e u d = absurd (let z : n ≡ 17 = n-by-late ∙ rw e refl in omega arith)
+        go false e true d = absurd (let z : n ≡ 18 = n-by-late ∙ rw (e, d) refl in omega arith)
+        go false e false d = record { cap-kept = e; room-kept = d }
+
+  -- 19
+  module _ (early : EarlyPassed b rows k r) (late : LatePassed b (take k rows) r) where
+    pub lacks-fault : lacksPredecessor b (take k rows) r ≡ true → rowFault b rows k ≡ Refused 19 (r .flow) (r .job)
+    lacks-fault e = tests ∙ rw (early .inside, early .rising, late .cap-kept, late .room-kept, e) refl
+
+    pub row-passes : lacksPredecessor b (take k rows) r ≡ false → rowFault b rows k ≡ Pass
+    row-passes e = tests ∙ rw (early .inside, early .rising, late .cap-kept, late .room-kept, e) refl
+
+-- a row that these tests leave can be counted
+pub passed-counts : (b : Book) (rows : List Row) (k : ℕ) (r : Row) (least : ℕ) → least ≡ leastKey b rows k → r .processors < 65536 →
+    EarlyPassed b rows k r → LatePassed b (take k rows) r → Counts b (take k rows) least r
+passed-counts b rows k r least e few early late =
+    let i = in-book-of b r (early .inside) in
+    record {
+      flow-in = i .1;
+      job-in = i .2;
+      slot-in = i .0;
+      after-least = rw e (early .after-least);
+      processors-few = few;
+      room = ltb-false (b .processors) (usedIn (take k rows) (r .slot) + r .processors) (late .room-kept);
+    }
+
+-- 19 as the walk tests it: by the slots from which jobs are complete
+pub lacks-by-ready : (b : Book) (area : List ℕ) (soFar : List Row) (least : ℕ) (totals ready finish work : List ℕ) (r : Row) →
+    InRange b → Tally b area soFar least totals ready finish work → Counts b soFar least r →
+    lacksPredecessor b soFar r
+    ≡ anyTo (λ m. lacksAt (jobOf (flowOf b (r .flow)) (r .job) .predecessors) m (r .slot) (getD ready (place (r .flow) m) 0)) (r .job)
+unfolding lacksPredecessor lacksAt
+lacks-by-ready b area soFar least totals ready finish work r range tally counts =
+    let f = r .flow in
+    let p = jobOf (flowOf b f) (r .job) .predecessors in
+    any-ext (λ m. hasBit p m && ltb (doneBefore soFar f m (r .slot)) (jobOf (flowOf b f) m .size))
+    (λ m. hasBit p m && ltb (r .slot) (getD ready (place f m) 0)) (r .job)
+    (λ m h. ap (λ (t : Bool). hasBit p m && t)
+    (tally .complete f m (r .slot) (counts .flow-in) (omega (arith, counts .job-in))
+    (finish-most b range area soFar least totals ready finish work tally r counts) (counts .slot-in)))

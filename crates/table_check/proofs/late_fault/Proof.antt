@@ -1,0 +1,24 @@
+-- `table_check::late_fault` meets its contract. The sum stays in 16 bits because the cap is tested first. Assumes nothing.
+use borrow.Author.Needs.{needs}
+use borrow.Author.Tests.{lt-ltb, le-ltb}
+use Rattle.table_check.specs.Tally.{lateNumber}
+use Rattle.table_check.proofs.late_fault.Statement.{statement}
+use Rattle.table_check.proofs.late_fault.Tie as tie
+
+returns : tie.Need-returns
+unfolding lateNumber
+returns c = simp (lt-ltb _ _ (c .if1 .taken))
+
+add-if2 : tie.Need-add-if2
+add-if2 c = search needs
+
+returns-2 : tie.Need-returns-2
+unfolding lateNumber
+returns-2 c = simp (le-ltb _ _ (c .before .before .if1 .left), lt-ltb _ _ (c .if2 .taken))
+
+returns-3 : tie.Need-returns-3
+unfolding lateNumber
+returns-3 c = simp (le-ltb _ _ (c .before .before .if1 .left), le-ltb _ _ (c .if2 .left))
+
+pub late-fault-spec : {M : Type 1} → statement M
+late-fault-spec = tie.close (tie.spec returns add-if2 returns-2 returns-3)

@@ -1,0 +1,137 @@
+/*
+ * Plans a book, checks the plan and hands out processors slot by slot:
+ *
+ *     dispatcher [BOOK]
+ *
+ * Without an argument it takes the marked book A. The exit status is 0 when the
+ * book was planned, 1 when it was refused and 2 when something else failed.
+ */
+#include <stdint.h>
+#include <stdio.h>
+#include <stdlib.h>
+
+#include "flowplan.h"
+
+static const uint8_t book_a[] = {
+    0x00, 0x00, 0x00, 0x38, 0x01, 0x00, 0x03, 0x02, /* 56 bytes, P 3, 2 flows */
+    0x00, 0x05, 0x02,                               /* flow 0: deadline 5, 2 jobs */
+    0x00, 0x00, 0x00, 0x05, 0x00, 0x02,             /* size 5, cap 2 */
+    0x00, 0x00, 0x00, 0x00, 0x00, 0x00, 0x00, 0x00, /* free */
+    0x00, 0x00, 0x00, 0x04, 0x00, 0x03,             /* size 4, cap 3 */
+    0x00, 0x00, 0x00, 0x00, 0x00, 0x00, 0x00, 0x01, /* after job 0 */
+    0x00, 0x03, 0x01,                               /* flow 1: deadline 3, 1 job */
+    0x00, 0x00, 0x00, 0x05, 0x00, 0x02,             /* size 5, cap 2 */
+    0x00, 0x00, 0x00, 0x00, 0x00, 0x00, 0x00, 0x00  /* free */
+};
+
+static unsigned be16(const uint8_t *bytes)
+{
+    return (unsigned)bytes[0] << 8 | bytes[1];
+}
+
+static int refused(unsigned number, unsigned flow, unsigned job)
+{
+    printf("refused %u flow %u job %u\n", number, flow, job);
+    return 1;
+}
+
+/* The rows of one flow that are still to be handed out. */
+struct stream {
+    const uint8_t *next;
+    const uint8_t *end;
+};
+
+/*
+ * Hands out the processors of an accepted table. Its rows stand flow by flow in
+ * service order, each flow's by slot, so the next row of each flow is enough.
+ */
+static void hand_out(const uint8_t *table, size_t length, const uint8_t *work)
+{
+    struct stream streams[64];
+    unsigned flows = table[7], served = 0, last = 0;
+
+    for (unsigned flow = 0; flow < flows; flow++) {
+        unsigned finish = be16(table + 8 + 2 * flow);
+        printf("flow %u ends at %u\n", flow, finish);
+        if (finish > last)
+            last = finish;
+    }
+    for (const uint8_t *row = table + 8 + 2 * flows; row < table + length; row += 6) {
+        if (served == 0 || row[2] != streams[served - 1].next[2])
+            streams[served++].next = row;
+        streams[served - 1].end = row + 6;
+    }
+    for (unsigned slot = 0; slot < last; slot++) {
+        printf("slot %u: %u in use\n", slot, be16(work + 2 * slot));
+        for (struct stream *flow = streams; flow < streams + served; flow++)
+            for (; flow->next < flow->end && be16(flow->next) == slot; flow->next += 6)
+                printf("  flow %u job %u: %u\n", (unsigned)flow->next[2],
+                       (unsigned)flow->next[3], be16(flow->next + 4));
+    }
+}
+
+/* Plans, checks and hands out; `output` is grown until the table fits. */
+static int dispatch(const uint8_t *book, size_t book_len)
+{
+    static uint8_t work[FLOWPLAN_WORK_BYTES];
+    size_t room = 65536;
+    uint8_t *output = NULL;
+    struct flowplan_plan_answer plan;
+
+    for (;;) {
+        uint8_t *larger = realloc(output, room);
+        if (larger == NULL) {
+            fprintf(stderr, "no memory for the table\n");
+            free(output);
+            return 2;
+        }
+        output = larger;
+        plan = flowplan_plan(book, book_len, output, room, work, sizeof work);
+        if (plan.number != FLOWPLAN_OUTPUT || room >= FLOWPLAN_LONGEST_TABLE)
+            break;
+        room *= 2;
+    }
+    if (plan.number != FLOWPLAN_ACCEPTED) {
+        free(output);
+        return refused(plan.number, plan.flow, plan.job);
+    }
+    printf("planned: table %lu late %u\n", (unsigned long)plan.length, (unsigned)plan.late);
+
+    struct flowplan_check_answer check =
+        flowplan_check(book, book_len, output, plan.length, work, sizeof work);
+    if (check.number != FLOWPLAN_ACCEPTED) {
+        free(output);
+        return refused(check.number, check.flow, check.job);
+    }
+    printf("checked: late %u\n", (unsigned)check.late);
+
+    hand_out(output, plan.length, work);
+    free(output);
+    return 0;
+}
+
+int main(int count, char **arguments)
+{
+    /* One byte more than the longest book that passes its checks. */
+    static uint8_t book[FLOWPLAN_LONGEST_BOOK + 1];
+
+    if (count == 1)
+        return dispatch(book_a, sizeof book_a);
+    if (count != 2) {
+        fprintf(stderr, "usage: dispatcher [BOOK]\n");
+        return 2;
+    }
+    FILE *file = fopen(arguments[1], "rb");
+    if (file == NULL) {
+        perror(arguments[1]);
+        return 2;
+    }
+    size_t length = fread(book, 1, sizeof book, file);
+    int failed = ferror(file);
+    fclose(file);
+    if (failed || length == sizeof book) {
+        fprintf(stderr, "%s: cannot be read, or longer than any book\n", arguments[1]);
+        return 2;
+    }
+    return dispatch(book, length);
+}

@@ -1,0 +1,190 @@
+/*
+ * flowplan.h: flow planner and table check.
+ *
+ * Every call takes every sequence of bytes, comes to an end on each, allocates
+ * nothing and keeps nothing between calls.
+ *
+ * Fields are unsigned and big-endian. Flows and jobs count from 0.
+ *
+ * Book
+ *   length of the whole book in bytes    4
+ *   version = 1                          1
+ *   processors P                         2    1 to 4,096
+ *   flows                                1    0 to 64
+ *   then for each flow
+ *     deadline in slots                  2    1 to 4,096
+ *     jobs                               1    1 to 64
+ *     then for each job
+ *       size in processor-slots          4    1 to 1,000,000
+ *       cap                              2    1 to P
+ *       predecessors                     8    bit k, bit 0 the lowest: job k of
+ *                                             the same flow must be complete
+ *                                             first; only lower jobs
+ *
+ * Table
+ *   length of the whole table in bytes   4
+ *   version = 1                          1
+ *   processors P                         2    as in the book
+ *   flows                                1    as in the book
+ *   finish of each flow, book order      2    last used slot plus 1
+ *   then rows of 6 bytes, one for each slot and job with a processor
+ *     slot                               2    0 to 8,191
+ *     flow                               1
+ *     job                                1
+ *     processors                         2    1 to the job's cap
+ *   Rows stand by service order of the flow, then slot, then job, all strictly
+ *   rising. Service order is by deadline, equal deadlines by place in the book.
+ *
+ * Work area
+ *   At least FLOWPLAN_WORK_BYTES, two bytes for each of the slots 0 to 8,191.
+ *   After acceptance each pair holds the processors in use in that slot. Bytes
+ *   past FLOWPLAN_WORK_BYTES are never touched.
+ *
+ * Buffers
+ *   The buffers of one call must not overlap. No pointer may be null, also
+ *   where its length is 0. A buffer may start at any address.
+ */
+#ifndef FLOWPLAN_H
+#define FLOWPLAN_H
+
+#include <stddef.h>
+#include <stdint.h>
+
+#ifdef __cplusplus
+extern "C" {
+#endif
+
+/* Bytes of the work area that are used, and the slots that they stand for. */
+#define FLOWPLAN_WORK_BYTES 16384
+#define FLOWPLAN_SLOTS 8192
+
+/* The longest book that passes its checks. */
+#define FLOWPLAN_LONGEST_BOOK 57544
+
+/* Stands for the flow or the job where a place has none. */
+#define FLOWPLAN_NONE 255
+
+/*
+ * What a book or table is turned down by. The place that goes with each number
+ * stands behind it; "-, -" is FLOWPLAN_NONE, FLOWPLAN_NONE.
+ *
+ * Numbers 1 to 4 are tested in that order; then for each flow 5, 6, 7 and for
+ * each of its jobs 5, 8, 9, 10; then bytes left over; then 11. The planner goes
+ * on with 12, 13; the check with 14, with 15 to 19 in order for each row, then
+ * 20, 21. The first fault met is answered.
+ *
+ * Numbers 1 to 11 leave the work area as it was; the others leave its first
+ * FLOWPLAN_WORK_BYTES bytes zero.
+ */
+enum flowplan_number {
+    /* accepted; -, - */
+    FLOWPLAN_ACCEPTED = 0,
+    /* book under 8 bytes, or its length field differs from the bytes given;
+       -, - */
+    FLOWPLAN_BOOK_LENGTH = 1,
+    /* book version not 1; -, - */
+    FLOWPLAN_BOOK_VERSION = 2,
+    /* P out of range; -, - */
+    FLOWPLAN_PROCESSORS = 3,
+    /* more than 64 flows; -, - */
+    FLOWPLAN_FLOWS = 4,
+    /* a flow head (flow, -) or job record (flow, job) is cut short; bytes left
+       over (-, -) */
+    FLOWPLAN_CUT_SHORT = 5,
+    /* deadline out of range; flow, - */
+    FLOWPLAN_DEADLINE = 6,
+    /* job count out of range; flow, - */
+    FLOWPLAN_JOBS = 7,
+    /* size out of range; flow, job */
+    FLOWPLAN_SIZE = 8,
+    /* cap out of range; flow, job */
+    FLOWPLAN_CAP = 9,
+    /* predecessor bit at or above the job's own number; flow, job */
+    FLOWPLAN_PREDECESSOR = 10,
+    /* work area too short; -, - */
+    FLOWPLAN_WORK_AREA = 11,
+    /* infeasible: a flow is not finished after slot 2 x deadline - 1; that
+       flow, - */
+    FLOWPLAN_INFEASIBLE = 12,
+    /* table longer than the lent output; -, - */
+    FLOWPLAN_OUTPUT = 13,
+    /* table too short for head and finishes, length field wrong, version not 1,
+       P or flows unlike the book, rows not whole; -, - */
+    FLOWPLAN_TABLE_HEAD = 14,
+    /* row's slot above 8,191, flow or job not in the book, or 0 processors; the
+       two bytes of the row */
+    FLOWPLAN_ROW_RANGE = 15,
+    /* row not after the one before it; row's flow, job */
+    FLOWPLAN_ROW_ORDER = 16,
+    /* more than the cap; row's flow, job */
+    FLOWPLAN_ROW_CAP = 17,
+    /* more than P used in the slot by the rows so far, this one counted; row's
+       flow, job */
+    FLOWPLAN_SLOT_FULL = 18,
+    /* a predecessor whose rows so far in earlier slots sum to less than its
+       size; row's flow, job */
+    FLOWPLAN_PRECEDENCE = 19,
+    /* a job's total differs from its size; lowest flow, then job */
+    FLOWPLAN_TOTAL = 20,
+    /* a stated finish differs; lowest flow, - */
+    FLOWPLAN_FINISH = 21
+};
+
+/* ---- Table check ------------------------------------------------------- */
+
+struct flowplan_check_answer {
+    uint8_t number; /* 0 or the refusal, see enum flowplan_number */
+    uint8_t flow;   /* place of the refusal, else FLOWPLAN_NONE */
+    uint8_t job;
+    uint8_t late; /* accepted: flows with a finish above their deadline; else 0 */
+};
+
+/*
+ * Accepts a table exactly when it is a valid schedule of the book, written in
+ * the stated order under the right head and finishes. A finish beyond twice the
+ * deadline is accepted and counted as late.
+ *
+ * book, table: read only, any bytes, any length.
+ * work:        accepted: the use of each slot by the table's rows. Number 1 to
+ *              11: as it was. Any other number: its first FLOWPLAN_WORK_BYTES
+ *              bytes are zero.
+ */
+struct flowplan_check_answer flowplan_check(const uint8_t *book, size_t book_len,
+                                            const uint8_t *table, size_t table_len,
+                                            uint8_t *work, size_t work_len);
+
+/* ---- End of table check ------------------------------------------------ */
+
+/* ---- Planner ----------------------------------------------------------- */
+
+/* The longest table that a plan can have. */
+#define FLOWPLAN_LONGEST_TABLE 201326728
+
+struct flowplan_plan_answer {
+    uint8_t number; /* 0 or the refusal, see enum flowplan_number */
+    uint8_t flow;   /* place of the refusal, else FLOWPLAN_NONE */
+    uint8_t job;
+    uint8_t late;    /* accepted: flows with a finish above their deadline; else 0 */
+    uint32_t length; /* accepted: bytes of the table; else 0 */
+};
+
+/*
+ * Plans a book by the deadline-greedy rule on chains of pseudo-jobs.
+ *
+ * book:   read only, any bytes, any length.
+ * output: accepted: its first `length` bytes are the table, the bytes past them
+ *         are as they were. Refused: as it was.
+ * work:   accepted: the use of each slot by the table's rows. Number 1 to 11: as
+ *         it was. Number 12 or 13: its first FLOWPLAN_WORK_BYTES bytes are zero.
+ */
+struct flowplan_plan_answer flowplan_plan(const uint8_t *book, size_t book_len,
+                                          uint8_t *output, size_t output_len,
+                                          uint8_t *work, size_t work_len);
+
+/* ---- End of planner ---------------------------------------------------- */
+
+#ifdef __cplusplus
+}
+#endif
+
+#endif /* FLOWPLAN_H */

@@ -1,0 +1,17 @@
+//! A second planner and a second table check, made apart from the proved ones
+//! and from the rules alone, with generators of books and tables, for
+//! differential tests and as a baseline of speed.
+
+pub mod answer;
+pub mod books;
+pub mod fast_planner;
+pub mod lent;
+pub mod linked;
+pub mod linked_plan;
+pub mod marked;
+pub mod measure;
+pub mod reader;
+pub mod rng;
+pub mod second_check;
+pub mod second_planner;
+pub mod tables;

@@ -1,0 +1,323 @@
+//! Valid tables that the planner would not make, and damage to tables such that
+//! every refusal of the check is met and several faults stand together.
+
+use crate::answer::SLOTS;
+use crate::books::{encode_table, fit_length};
+use crate::reader::{predecessors, Book, Flow, Job};
+use crate::rng::Rng;
+use crate::second_check::Row;
+use crate::second_planner;
+
+/// A table before it is encoded.
+#[derive(Clone)]
+pub struct Table {
+    pub finishes: Vec<u16>,
+    pub rows: Vec<Row>,
+}
+
+impl Table {
+    pub fn encode(&self, book: &Book) -> Vec<u8> {
+        encode_table(book.processors as u16, &self.finishes, &self.rows)
+    }
+}
+
+/// The planner's own table.
+pub fn planned_table(book: &Book) -> Option<Table> {
+    let schedule = second_planner::schedule(book).ok()?;
+    Some(Table {
+        finishes: schedule.finishes,
+        rows: schedule.rows,
+    })
+}
+
+/// Puts rows into the order of the table.
+pub fn sort_rows(book: &Book, rows: &mut [Row]) {
+    let mut rank = vec![usize::MAX; 256];
+    for (place, flow) in book.service_order().into_iter().enumerate() {
+        rank[flow] = place;
+    }
+    rows.sort_by_key(|row| (rank[row.flow as usize], row.slot, row.job));
+}
+
+/// The finishes that the rows give.
+pub fn finishes_of(book: &Book, rows: &[Row]) -> Vec<u16> {
+    let mut finishes = vec![0u16; book.flows.len()];
+    for row in rows {
+        if let Some(finish) = finishes.get_mut(row.flow as usize) {
+            *finish = (*finish).max(row.slot.saturating_add(1));
+        }
+    }
+    finishes
+}
+
+/// A valid schedule by a list scheduler that delays at random; it may end far
+/// beyond twice a deadline. Nothing where it passes slot 8,191.
+pub fn delayed_table(rng: &mut Rng, book: &Book) -> Option<Table> {
+    let mut left: Vec<Vec<u32>> = Vec::new();
+    let mut jobs: Vec<(usize, usize)> = Vec::new();
+    for (flow, record) in book.flows.iter().enumerate() {
+        left.push(record.jobs.iter().map(|job| job.size).collect());
+        jobs.extend((0..record.jobs.len()).map(|job| (flow, job)));
+    }
+    let idle = rng.pick(&[0, 0, 1, 3, 6]);
+    let skip = rng.pick(&[0, 1, 3, 6]);
+    let greedy = rng.pick(&[0, 4, 7, 8]);
+    let mut rows = Vec::new();
+    let wait = rng.range(2, 500);
+    let first = rng.pick(&[0, 0, 0, 1, wait]) as usize;
+    for slot in first..SLOTS {
+        if jobs.is_empty() {
+            break;
+        }
+        if rng.chance(idle, 8) {
+            continue;
+        }
+        if rng.chance(1, 3) {
+            rng.shuffle(&mut jobs);
+        }
+        let mut free = book.processors;
+        let rows_before = rows.len();
+        for &(flow, job) in &jobs {
+            let record = &book.flows[flow].jobs[job];
+            let ready = predecessors(record.precedence).all(|k| left[flow][k] == 0);
+            let most = record.cap.min(left[flow][job]).min(free);
+            if !ready || most == 0 || rng.chance(skip, 8) {
+                continue;
+            }
+            let take = if rng.chance(greedy, 8) {
+                most
+            } else {
+                rng.range(1, u64::from(most)) as u32
+            };
+            free -= take;
+            rows.push(Row {
+                slot: slot as u16,
+                flow: flow as u8,
+                job: job as u8,
+                take: take as u16,
+            });
+        }
+        for row in &rows[rows_before..] {
+            left[row.flow as usize][row.job as usize] -= u32::from(row.take);
+        }
+        jobs.retain(|&(flow, job)| left[flow][job] > 0);
+    }
+    if !jobs.is_empty() {
+        return None;
+    }
+    if rng.chance(1, 16) {
+        // The same schedule, moved so that it ends in the last slot.
+        let last = rows.iter().map(|row| row.slot).max().unwrap_or(0);
+        for row in &mut rows {
+            row.slot += SLOTS as u16 - 1 - last;
+        }
+    }
+    sort_rows(book, &mut rows);
+    Some(Table {
+        finishes: finishes_of(book, &rows),
+        rows,
+    })
+}
+
+/// A book of two jobs, the second after the first, and a table that would be
+/// valid but for `surplus` units too many of the first.
+pub fn surplus_table(size: u32, surplus: u32) -> (Book, Table) {
+    let job = |size, precedence| Job {
+        size,
+        cap: 4_096,
+        precedence,
+    };
+    let book = Book {
+        processors: 4_096,
+        flows: vec![Flow {
+            deadline: 4_096,
+            jobs: vec![job(size, 0), job(1, 1)],
+        }],
+    };
+    let mut rows = Vec::new();
+    let mut left = size + surplus;
+    while left > 0 {
+        let take = left.min(4_096);
+        left -= take;
+        rows.push(Row {
+            slot: rows.len() as u16,
+            flow: 0,
+            job: 0,
+            take: take as u16,
+        });
+    }
+    rows.push(Row {
+        slot: rows.len() as u16,
+        flow: 0,
+        job: 1,
+        take: 1,
+    });
+    let finishes = finishes_of(&book, &rows);
+    (book, Table { finishes, rows })
+}
+
+fn nudge(rng: &mut Rng, value: u16) -> u16 {
+    match rng.below(4) {
+        0 => value.wrapping_add(1),
+        1 => value.wrapping_sub(1),
+        2 => value.wrapping_add(rng.range(2, 9) as u16),
+        _ => value.wrapping_sub(rng.range(2, 9) as u16),
+    }
+}
+
+/// Damages the rows or the finishes in one place.
+fn damage_once(rng: &mut Rng, book: &Book, table: &mut Table) {
+    let flows = book.flows.len() as u64;
+    let rows = &mut table.rows;
+    if rows.is_empty() || rng.chance(1, 16) {
+        if !table.finishes.is_empty() {
+            let at = rng.index(table.finishes.len());
+            table.finishes[at] = match rng.below(3) {
+                0 => rng.draw() as u16,
+                1 => rng.pick(&[0, 8_192, 8_193, 65_535]),
+                _ => nudge(rng, table.finishes[at]),
+            };
+        }
+        return;
+    }
+    let at = rng.index(rows.len());
+    let other = rng.index(rows.len());
+    match rng.below(16) {
+        0 => rows[at].slot = nudge(rng, rows[at].slot),
+        1 => rows[at].slot = rows[other].slot,
+        2 => {
+            let any = rng.draw() as u16;
+            rows[at].slot = rng.pick(&[0, 8_191, 8_192, 65_535, any]);
+        }
+        3 => {
+            rows[at].flow = match rng.below(4) {
+                0 => flows as u8,
+                1 => 255,
+                _ => rng.below(flows) as u8,
+            }
+        }
+        4 => {
+            let jobs = book.flows.get(rows[at].flow as usize);
+            let jobs = jobs.map_or(1, |flow| flow.jobs.len() as u64);
+            rows[at].job = match rng.below(4) {
+                0 => jobs as u8,
+                1 => 255,
+                _ => rng.below(jobs) as u8,
+            }
+        }
+        5 => rows[at].take = nudge(rng, rows[at].take),
+        6 => {
+            let flow = book.flows.get(rows[at].flow as usize);
+            let job = flow.and_then(|flow| flow.jobs.get(rows[at].job as usize));
+            let cap = job.map_or(1, |job| job.cap as u16);
+            let processors = book.processors as u16;
+            let next = rng.draw() as u16;
+            rows[at].take = rng.pick(&[0, cap, cap + 1, processors, processors + 1, next]);
+        }
+        7 => rows.swap(at, other),
+        8 => {
+            let next = (at + 1) % rows.len();
+            rows.swap(at, next);
+        }
+        9 => {
+            rows.remove(at);
+        }
+        10 => {
+            let row = rows[at];
+            rows.insert(at, row);
+        }
+        11 => {
+            // Moves units from one row of a job to another: its total stays.
+            let alike: Vec<usize> = (0..rows.len())
+                .filter(|&k| rows[k].flow == rows[at].flow && rows[k].job == rows[at].job)
+                .collect();
+            let to = rng.pick(&alike);
+            let units = rng.range(1, u64::from(rows[at].take).max(1)) as u16;
+            rows[at].take = rows[at].take.wrapping_sub(units);
+            rows[to].take = rows[to].take.wrapping_add(units);
+            rows.retain(|row| row.take > 0);
+        }
+        12 => {
+            // Brings all rows of one job nearer or later by a slot.
+            let (flow, job) = (rows[at].flow, rows[at].job);
+            let later = rng.chance(1, 4);
+            for row in rows.iter_mut() {
+                if row.flow == flow && row.job == job {
+                    let slot = row.slot;
+                    row.slot = if later {
+                        slot.saturating_add(1)
+                    } else {
+                        slot.saturating_sub(1)
+                    };
+                }
+            }
+        }
+        13 => {
+            // Another row of a job that has one, anywhere.
+            let row = Row {
+                slot: rows[other].slot,
+                take: rng.range(1, 3) as u16,
+                ..rows[at]
+            };
+            rows.push(row);
+        }
+        14 => {
+            // The same processors to another job of the flow.
+            let take = rows[other].take;
+            rows[at].job = rows[other].job;
+            rows[at].take = take;
+        }
+        _ => rows[at].take = rows[at].take.saturating_mul(2),
+    }
+}
+
+/// Damages the bytes of a table.
+fn damage_bytes(rng: &mut Rng, bytes: &mut Vec<u8>) {
+    match rng.below(8) {
+        0 => bytes[4] = rng.pick(&[0, 2, 255]),
+        1 => bytes[5 + rng.index(2)] ^= 1 << rng.below(8),
+        2 => bytes[7] = bytes[7].wrapping_add(rng.pick(&[1, 255, 64])),
+        3 => {
+            bytes.truncate(rng.index(bytes.len()));
+            fit_length(bytes);
+        }
+        4 => {
+            let extra = rng.range(1, 13);
+            bytes.extend((0..extra).map(|_| rng.draw() as u8));
+            fit_length(bytes);
+        }
+        5 => {
+            let at = rng.index(4);
+            bytes[at] ^= 1 << rng.below(8);
+        }
+        6 => bytes.truncate(rng.index(bytes.len())),
+        _ => {
+            for _ in 0..rng.range(1, 3) {
+                let at = rng.index(bytes.len());
+                bytes[at] ^= 1 << rng.below(8);
+            }
+        }
+    }
+}
+
+/// A damaged copy of a table, encoded. Often the rows are sorted again, so that
+/// a fault of order does not hide the later ones, and the finishes made to fit.
+pub fn damaged(rng: &mut Rng, book: &Book, table: &Table) -> Vec<u8> {
+    let mut table = table.clone();
+    if !rng.chance(1, 8) {
+        for _ in 0..rng.pick(&[1, 1, 1, 1, 2, 2, 3, 5]) {
+            damage_once(rng, book, &mut table);
+        }
+        if rng.chance(1, 2) {
+            sort_rows(book, &mut table.rows);
+        }
+        if rng.chance(1, 2) {
+            table.finishes = finishes_of(book, &table.rows);
+        }
+    }
+    let mut bytes = table.encode(book);
+    if rng.chance(1, 8) {
+        damage_bytes(rng, &mut bytes);
+    }
+    bytes
+}

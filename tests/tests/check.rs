@@ -1,0 +1,174 @@
+//! Differential test of the proved table check against the second one: the
+//! answer and every byte of every buffer, over valid and damaged tables and
+//! books, with work areas of every length class and junk everywhere first.
+
+use flowplan_tests::answer::WORK_BYTES;
+use flowplan_tests::books::{self, encode_book};
+use flowplan_tests::lent::{Junk, Lent};
+use flowplan_tests::reader::Book;
+use flowplan_tests::rng::Rng;
+use flowplan_tests::tables::{self, Table};
+use flowplan_tests::{linked, marked, second_check};
+
+#[test]
+fn marked_plans() {
+    marked::hold_check(linked::check);
+}
+
+/// Draws cases, compares them and counts the numbers that were met.
+struct Trial {
+    rng: Rng,
+    junk: Junk,
+    met: [u64; 22],
+    beyond_twice: u64,
+}
+
+impl Trial {
+    fn new(seed: u64) -> Trial {
+        Trial {
+            rng: Rng::new(seed),
+            junk: Junk::new(!seed),
+            met: [0; 22],
+            beyond_twice: 0,
+        }
+    }
+
+    fn work_length(&mut self) -> usize {
+        match self.rng.below(16) {
+            0 => self.rng.pick(&[0, 1, 2, WORK_BYTES - 2, WORK_BYTES - 1]),
+            1 => self.rng.skewed(0, WORK_BYTES as u64 - 1) as usize,
+            2..=8 => WORK_BYTES,
+            9..=12 => WORK_BYTES + 1 + self.rng.index(64),
+            13..=14 => WORK_BYTES + 1,
+            _ => WORK_BYTES + self.rng.index(5_000),
+        }
+    }
+
+    /// One call of each check on equal buffers; all must end equal.
+    fn compare(&mut self, book: &[u8], table: &[u8]) {
+        let length = self.work_length();
+        let rng = &mut self.rng;
+        let mut book = Lent::holding(rng, &self.junk, book);
+        let mut table = Lent::holding(rng, &self.junk, table);
+        let mut work = Lent::junk(rng, &self.junk, length);
+        let (book_before, table_before) = (book.clone(), table.clone());
+
+        let mut expected_work = work.clone();
+        let expected = second_check::check(book.slice(), table.slice(), expected_work.slice());
+        let answer = linked::check_lent(&mut book, &mut table, &mut work);
+
+        if answer != expected || work != expected_work {
+            let differs = (0..length).find(|&k| work.slice()[k] != expected_work.slice()[k]);
+            panic!(
+                "answer {answer:?}, expected {expected:?}; work area of {length} bytes differs \
+                 first at {differs:?}\nbook {:02x?}\ntable {:02x?}",
+                book.slice(),
+                table.slice()
+            );
+        }
+        assert!(book == book_before, "the book was changed");
+        assert!(table == table_before, "the table was changed");
+        self.met[expected.number as usize] += 1;
+    }
+
+    /// A table with several damaged copies, and with damaged books.
+    fn compare_around(&mut self, book: &Book, table: &Table, damaged: usize) {
+        let bytes = encode_book(book);
+        let intact = table.encode(book);
+        let mut finishes = table.finishes.iter().zip(&book.flows);
+        if finishes.any(|(&finish, flow)| u32::from(finish) > 2 * flow.deadline) {
+            self.beyond_twice += 1;
+        }
+        self.compare(&bytes, &intact);
+        for _ in 0..damaged {
+            let table = tables::damaged(&mut self.rng, book, table);
+            self.compare(&bytes, &table);
+        }
+        for _ in 0..damaged.div_ceil(3) {
+            let mut bytes = bytes.clone();
+            books::damage_book(&mut self.rng, &mut bytes);
+            self.compare(&bytes, &intact);
+        }
+    }
+
+    /// The planner's table of a book and another valid one, where there are.
+    fn compare_book(&mut self, book: &Book, damaged: usize) {
+        if let Some(table) = tables::planned_table(book) {
+            self.compare_around(book, &table, damaged);
+        }
+        if let Some(table) = tables::delayed_table(&mut self.rng, book) {
+            self.compare_around(book, &table, damaged);
+        }
+    }
+}
+
+#[test]
+fn proved_check_is_the_second_one() {
+    let mut trial = Trial::new(0x5eed_0001);
+
+    for _ in 0..9_000 {
+        let book = books::tiny_book(&mut trial.rng);
+        trial.compare_book(&book, 9);
+    }
+    for _ in 0..2_500 {
+        let book = books::any_book(&mut trial.rng);
+        trial.compare_book(&book, 6);
+    }
+    for _ in 0..60 {
+        let book = books::wide_book(&mut trial.rng);
+        trial.compare_book(&book, 4);
+    }
+    for _ in 0..6 {
+        let book = books::full_book(&mut trial.rng);
+        trial.compare_book(&book, 2);
+    }
+    // Every slot of the work area in use, by every flow.
+    for (flows, jobs, slots) in [(64, 1, 8_192), (1, 64, 8_192), (64, 64, 64)] {
+        let book = books::layered_book(flows, jobs, slots);
+        let table = tables::planned_table(&book).expect("feasible");
+        trial.compare_around(&book, &table, 3);
+    }
+    // Totals far above the size, which must not be cut to fewer bits.
+    for bits in 8..=24 {
+        for size in [1, 4_097, 1_000_000] {
+            let (book, table) = tables::surplus_table(size, 1 << bits);
+            trial.compare(&encode_book(&book), &table.encode(&book));
+        }
+    }
+
+    // The table of one book with another.
+    let mut last = marked::table_a();
+    for _ in 0..20_000 {
+        let book = books::tiny_book(&mut trial.rng);
+        trial.compare(&encode_book(&book), &last);
+        if let Some(table) = tables::delayed_table(&mut trial.rng, &book) {
+            last = table.encode(&book);
+        }
+    }
+
+    // Bytes that are hardly a book or a table.
+    for _ in 0..150_000 {
+        let book = if trial.rng.chance(1, 2) {
+            books::random_bytes(&mut trial.rng, 80)
+        } else {
+            let mut bytes = encode_book(&books::tiny_book(&mut trial.rng));
+            books::damage_book(&mut trial.rng, &mut bytes);
+            bytes
+        };
+        let table = books::random_bytes(&mut trial.rng, 80);
+        trial.compare(&book, &table);
+    }
+
+    println!("cases: {}", trial.met.iter().sum::<u64>());
+    println!(
+        "valid tables with a finish beyond twice the deadline: {}",
+        trial.beyond_twice
+    );
+    for (number, met) in trial.met.iter().enumerate() {
+        println!("number {number:2}: {met}");
+    }
+    for number in (0..=11).chain(14..=21) {
+        assert!(trial.met[number] > 0, "number {number} was never met");
+    }
+    assert!(trial.beyond_twice > 0);
+}

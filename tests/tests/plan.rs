@@ -1,0 +1,243 @@
+//! Differential test of the proved planner against the literal one: the answer
+//! and every byte of output and work area, over books of every family and
+//! damaged ones, with outputs and work areas of every length class and junk
+//! everywhere first. The planner's own tables go through the proved check.
+
+use flowplan_tests::answer::{CheckAnswer, PlanAnswer, Refusal, WORK_BYTES};
+use flowplan_tests::books::{self, encode_book};
+use flowplan_tests::lent::{Junk, Lent};
+use flowplan_tests::reader::Book;
+use flowplan_tests::rng::Rng;
+use flowplan_tests::second_planner::{self, Outcome};
+use flowplan_tests::{linked, linked_plan, marked};
+
+#[test]
+fn marked_plans() {
+    marked::hold_planner(linked_plan::plan);
+    marked::hold_check(linked::check);
+}
+
+/// Draws cases, compares them and counts the numbers that were met.
+struct Trial {
+    rng: Rng,
+    junk: Junk,
+    met: [u64; 14],
+    books: u64,
+    late: u64,
+}
+
+impl Trial {
+    fn new(seed: u64) -> Trial {
+        Trial {
+            rng: Rng::new(seed),
+            junk: Junk::new(!seed),
+            met: [0; 14],
+            books: 0,
+            late: 0,
+        }
+    }
+
+    fn work_length(&mut self) -> usize {
+        match self.rng.below(16) {
+            0 => self.rng.pick(&[0, 1, 2, WORK_BYTES - 2, WORK_BYTES - 1]),
+            1 => self.rng.skewed(0, WORK_BYTES as u64 - 1) as usize,
+            2..=8 => WORK_BYTES,
+            9..=12 => WORK_BYTES + 1 + self.rng.index(64),
+            13..=14 => WORK_BYTES + 1,
+            _ => WORK_BYTES + self.rng.index(5_000),
+        }
+    }
+
+    /// One call of each planner on equal buffers; all must end equal.
+    fn compare(&mut self, book: &[u8], outcome: &Outcome, room: usize, work_length: usize) {
+        let rng = &mut self.rng;
+        let mut book = Lent::holding(rng, &self.junk, book);
+        let mut output = Lent::junk(rng, &self.junk, room);
+        let mut work = Lent::junk(rng, &self.junk, work_length);
+        let book_before = book.clone();
+
+        let (mut expected_output, mut expected_work) = (output.clone(), work.clone());
+        let expected =
+            second_planner::deliver(outcome, expected_output.slice(), expected_work.slice());
+        let answer = linked_plan::plan_lent(&mut book, &mut output, &mut work);
+
+        if answer != expected || output != expected_output || work != expected_work {
+            let out_at = (0..room).find(|&k| output.slice()[k] != expected_output.slice()[k]);
+            let work_at = (0..work_length).find(|&k| work.slice()[k] != expected_work.slice()[k]);
+            panic!(
+                "answer {answer:?}, expected {expected:?}; output of {room} bytes differs first \
+                 at {out_at:?}, work area of {work_length} bytes at {work_at:?}\nbook {:02x?}",
+                book.slice()
+            );
+        }
+        assert!(book == book_before, "the book was changed");
+        self.met[expected.number as usize] += 1;
+
+        if answer.number == 0 {
+            self.late += u64::from(answer.late > 0);
+            let table = &output.slice()[..answer.length as usize];
+            let mut checked = Lent::junk(&mut self.rng, &self.junk, work_length);
+            let verdict = linked::check(book.slice(), table, checked.slice());
+            assert_eq!(verdict, CheckAnswer::accepted(answer.late));
+            let planned = &work.slice()[..WORK_BYTES];
+            assert!(&checked.slice()[..WORK_BYTES] == planned);
+        }
+    }
+
+    /// A book with outputs of every length class.
+    fn compare_bytes(&mut self, book: &[u8]) {
+        let outcome = second_planner::outcome(book);
+        self.books += 1;
+        let rooms = match &outcome {
+            Outcome::Planned(plan) => {
+                let exact = plan.table.len();
+                let any = self.rng.index(exact);
+                let longer = exact + 1 + self.rng.index(300);
+                vec![exact, exact - 1, longer, self.rng.pick(&[0, 7, 8, any])]
+            }
+            _ => vec![self.rng.skewed(0, 2_000) as usize],
+        };
+        for room in rooms {
+            let work_length = self.work_length();
+            self.compare(book, &outcome, room, work_length);
+        }
+    }
+
+    fn compare_book(&mut self, book: &Book) {
+        self.compare_bytes(&encode_book(book));
+    }
+
+    fn print(&self) {
+        let cases: u64 = self.met.iter().sum();
+        println!("books: {}, calls: {cases}", self.books);
+        println!("accepted calls with late flows: {}", self.late);
+        for (number, met) in self.met.iter().enumerate() {
+            println!("number {number:2}: {met}");
+        }
+    }
+}
+
+#[test]
+fn proved_planner_is_the_literal_one() {
+    let mut trial = Trial::new(0x5eed_0002);
+
+    for _ in 0..20_000 {
+        let book = books::tiny_book(&mut trial.rng);
+        trial.compare_book(&book);
+    }
+    for _ in 0..12_000 {
+        let book = books::any_book(&mut trial.rng);
+        trial.compare_book(&book);
+    }
+    for _ in 0..1_500 {
+        let book = books::crowded_book(&mut trial.rng);
+        trial.compare_book(&book);
+        let book = books::infeasible_book(&mut trial.rng);
+        trial.compare_book(&book);
+    }
+    for _ in 0..100 {
+        let book = books::wide_book(&mut trial.rng);
+        trial.compare_book(&book);
+        let book = books::edge_book(&mut trial.rng);
+        trial.compare_book(&book);
+        let book = books::long_path_book(&mut trial.rng);
+        trial.compare_book(&book);
+    }
+    for _ in 0..12 {
+        let book = books::full_book(&mut trial.rng);
+        trial.compare_book(&book);
+    }
+    for _ in 0..40 {
+        let book = books::heavy_book(&mut trial.rng);
+        trial.compare_book(&book);
+    }
+    // Every slot in use, by every flow or by one.
+    for (flows, jobs, slots) in [(64, 1, 8_192), (1, 64, 8_192), (64, 64, 128)] {
+        trial.compare_book(&books::layered_book(flows, jobs, slots));
+    }
+
+    // Books cut at any point of the service order.
+    for _ in 0..1_500 {
+        let book = books::any_book(&mut trial.rng);
+        let kept = trial.rng.index(book.flows.len() + 1);
+        trial.compare_book(&books::cut(&book, kept));
+    }
+
+    // Damaged books of every family.
+    for _ in 0..20_000 {
+        let mut bytes = encode_book(&books::any_book(&mut trial.rng));
+        books::damage_book(&mut trial.rng, &mut bytes);
+        trial.compare_bytes(&bytes);
+    }
+
+    trial.print();
+    for (number, &met) in trial.met.iter().enumerate() {
+        assert!(met > 0, "number {number} was never met");
+    }
+    assert!(trial.late > 0);
+}
+
+/// The longest table of all, 64 flows of 64 jobs in 8,192 slots.
+#[test]
+fn largest_table() {
+    let book = encode_book(&books::largest_book());
+    let Outcome::Planned(plan) = second_planner::outcome(&book) else {
+        panic!("the book is feasible");
+    };
+    let length = plan.table.len();
+    assert_eq!(length, 201_326_728);
+    let mut output = vec![0x3c; length];
+    let mut work = vec![0x3c; WORK_BYTES];
+
+    let answer = linked_plan::plan(&book, &mut output[1..], &mut work);
+    assert_eq!(answer, PlanAnswer::refused(Refusal::of_all(13)));
+    assert!(output.iter().all(|&byte| byte == 0x3c));
+    assert!(work.iter().all(|&byte| byte == 0));
+
+    let answer = linked_plan::plan(&book, &mut output, &mut work);
+    assert_eq!(answer, PlanAnswer::accepted(64, length as u32));
+    assert!(output == plan.table);
+    assert!(work.chunks_exact(2).all(|pair| pair == [0x10, 0x00]));
+
+    let mut checked = vec![0x3c; WORK_BYTES];
+    let verdict = linked::check(&book, &output, &mut checked);
+    assert_eq!(verdict, CheckAnswer::accepted(64));
+    assert!(checked == work);
+}
+
+/// A million short inputs: damaged small books and bytes that are hardly one.
+#[test]
+fn short_and_damaged_inputs() {
+    let mut trial = Trial::new(0x5eed_0003);
+    let mut pool: Vec<Vec<u8>> = Vec::new();
+    while pool.len() < 2_000 {
+        let bytes = encode_book(&books::tiny_book(&mut trial.rng));
+        if bytes.len() <= 130 {
+            pool.push(bytes);
+        }
+    }
+    pool.push(marked::BOOK_A.to_vec());
+    for case in 0..1_000_000 {
+        let bytes = if case % 2 == 0 {
+            books::random_bytes(&mut trial.rng, 60)
+        } else {
+            let from = trial.rng.index(pool.len());
+            let mut bytes = pool[from].clone();
+            books::damage_book(&mut trial.rng, &mut bytes);
+            bytes
+        };
+        let outcome = second_planner::outcome(&bytes);
+        trial.books += 1;
+        let room = match &outcome {
+            Outcome::Planned(plan) => plan.table.len() + trial.rng.index(3) - 1,
+            _ => trial.rng.index(40),
+        };
+        let work_length = match trial.rng.below(4) {
+            0 => trial.work_length(),
+            1 => WORK_BYTES,
+            _ => trial.rng.index(100),
+        };
+        trial.compare(&bytes, &outcome, room, work_length);
+    }
+    trial.print();
+}

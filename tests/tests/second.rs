@@ -1,0 +1,349 @@
+//! The second implementations held against the marked plans and against each
+//! other, before they are held against the proved library.
+
+use flowplan_tests::answer::{CheckAnswer, PlanAnswer, WORK_BYTES};
+use flowplan_tests::books::{self, encode_book};
+use flowplan_tests::marked;
+use flowplan_tests::reader::{read_book, Book};
+use flowplan_tests::rng::Rng;
+use flowplan_tests::second_planner::{
+    chain, chain_by_change_points, chain_by_slots, critical_path, schedule, PseudoJob,
+};
+use flowplan_tests::tables;
+use flowplan_tests::{fast_planner, second_check, second_planner};
+
+#[test]
+fn marked_plans() {
+    marked::hold_planner(second_planner::plan);
+    marked::hold_planner(fast_planner::plan);
+    marked::hold_check(second_check::check);
+    marked::hold_check(second_check::check_by_definition);
+}
+
+#[test]
+fn books_are_read_as_written() {
+    let mut rng = Rng::new(1);
+    for _ in 0..5_000 {
+        let book = books::any_book(&mut rng);
+        let bytes = encode_book(&book);
+        assert_eq!(read_book(&bytes), Ok(book));
+    }
+    assert_eq!(
+        encode_book(&read_book(&marked::BOOK_A).unwrap()),
+        marked::BOOK_A
+    );
+    let largest = encode_book(&books::full_book(&mut rng));
+    assert_eq!(largest.len(), 57_544);
+}
+
+#[test]
+fn both_cuts_give_the_same_chain() {
+    let mut rng = Rng::new(2);
+    let mut longest = 0;
+    for case in 0..6_000 {
+        let book = match case % 3 {
+            0 => books::tiny_book(&mut rng),
+            1 => books::usual_book(&mut rng),
+            _ => books::edge_book(&mut rng),
+        };
+        for flow in &book.flows {
+            let path = critical_path(flow);
+            if path > 40_000 && !(path < 2_000_000 && rng.chance(1, 50)) {
+                continue;
+            }
+            longest = longest.max(path);
+            let by_slots = chain_by_slots(flow);
+            assert_eq!(by_slots, chain_by_change_points(flow));
+            assert!(by_slots.len() <= 2 * flow.jobs.len());
+            assert!(by_slots.iter().all(|pseudo_job| pseudo_job.rate() > 0));
+            let work: u64 = by_slots.iter().map(PseudoJob::work).sum();
+            let sizes: u64 = flow.jobs.iter().map(|job| u64::from(job.size)).sum();
+            assert_eq!(work, sizes);
+        }
+    }
+    assert!(longest > second_planner::LITERAL_PATH);
+}
+
+/// Rule 5 with a list of all units of a pseudo-job, for small ones.
+fn numbered_units(pseudo_job: &PseudoJob) -> Vec<u8> {
+    let mut units = Vec::new();
+    for _ in 0..pseudo_job.width {
+        for (job, &take) in pseudo_job.takes.iter().enumerate() {
+            units.extend((0..take).map(|_| job as u8));
+        }
+    }
+    units
+}
+
+#[test]
+fn units_are_used_in_their_order() {
+    let mut rng = Rng::new(3);
+    let mut planned = 0;
+    for _ in 0..20_000 {
+        let book = books::tiny_book(&mut rng);
+        let Ok(schedule) = schedule(&book) else {
+            continue;
+        };
+        planned += 1;
+        for (number, flow) in book.flows.iter().enumerate() {
+            let mut rows = schedule.rows.iter().filter(|row| row.flow == number as u8);
+            let mut pending = rows.next();
+            for pseudo_job in chain(flow) {
+                let units = numbered_units(&pseudo_job);
+                let mut from = 0;
+                while from < units.len() {
+                    let slot = pending.expect("work is left").slot;
+                    let mut shares = vec![0u16; flow.jobs.len()];
+                    let mut gets = 0;
+                    while let Some(row) = pending.filter(|row| row.slot == slot) {
+                        shares[row.job as usize] = row.take;
+                        gets += row.take as usize;
+                        pending = rows.next();
+                    }
+                    for (job, &share) in shares.iter().enumerate() {
+                        let next = &units[from..from + gets];
+                        let mine = next.iter().filter(|&&unit| unit == job as u8);
+                        assert_eq!(mine.count(), share as usize);
+                    }
+                    from += gets;
+                }
+                assert_eq!(from, units.len());
+            }
+            assert!(pending.is_none());
+        }
+    }
+    assert!(planned > 5_000);
+}
+
+#[test]
+fn fast_planner_is_the_literal_one() {
+    let mut rng = Rng::new(4);
+    let mut met = [0u32; 14];
+    let mut output = vec![0; 1 << 20];
+    let mut one = |book: &[u8], room: usize, work: usize| {
+        let mut work = [vec![7; work], vec![7; work]];
+        output[..room].fill(9);
+        let literal = second_planner::plan(book, &mut output[..room], &mut work[0]);
+        let written = output[..room].to_vec();
+        output[..room].fill(9);
+        let fast = fast_planner::plan(book, &mut output[..room], &mut work[1]);
+        assert_eq!(literal, fast);
+        assert!(written == output[..room]);
+        assert!(work[0] == work[1]);
+        met[literal.number as usize] += 1;
+        literal
+    };
+    for case in 0..12_000 {
+        let book = match case % 1_000 {
+            0 => books::full_book(&mut rng),
+            1 => books::heavy_book(&mut rng),
+            _ => books::any_book(&mut rng),
+        };
+        let mut bytes = encode_book(&book);
+        if rng.chance(1, 8) {
+            books::damage_book(&mut rng, &mut bytes);
+        }
+        let work = WORK_BYTES + rng.index(3) - 1;
+        let room = rng.skewed(0, 1 << 14) as usize;
+        one(&bytes, room, work);
+        if case % 1_000 <= 1 {
+            one(&bytes, 1 << 20, work);
+        }
+    }
+    println!("numbers met by the planners: {met:?}");
+    assert!(met[0] > 1_000 && met[11] > 0 && met[12] > 1_000 && met[13] > 1_000);
+}
+
+/// Every accepted plan is a valid schedule and ends within twice the deadline;
+/// cut before a flow that is refused, the book can be planned.
+#[test]
+fn plans_are_valid_and_cuts_agree() {
+    let mut rng = Rng::new(5);
+    let mut work = vec![0; WORK_BYTES];
+    let (mut planned, mut refused) = (0, 0);
+    for _ in 0..8_000 {
+        let book = books::any_book(&mut rng);
+        let order = book.service_order();
+        match schedule(&book) {
+            Ok(schedule) => {
+                planned += 1;
+                let bytes = encode_book(&book);
+                let table = tables::planned_table(&book).unwrap().encode(&book);
+                let answer = second_check::check(&bytes, &table, &mut work);
+                assert_eq!(answer, CheckAnswer::accepted(schedule.late));
+                for (flow, &finish) in book.flows.iter().zip(&schedule.finishes) {
+                    assert!(u32::from(finish) <= 2 * flow.deadline);
+                }
+            }
+            Err(flow) => {
+                refused += 1;
+                let before = order.iter().position(|&k| k == flow as usize).unwrap();
+                assert!(schedule(&books::cut(&book, before)).is_ok());
+                let upto = books::cut(&book, before + 1);
+                let named = schedule(&upto).unwrap_err() as usize;
+                assert_eq!(Some(&named), upto.service_order().last());
+                assert_eq!(upto.flows[named], book.flows[flow as usize]);
+            }
+        }
+    }
+    assert!(planned > 1_000 && refused > 1_000);
+}
+
+#[test]
+fn one_pass_check_is_the_one_by_definition() {
+    let mut rng = Rng::new(6);
+    let mut met = [0u32; 22];
+    for _ in 0..4_000 {
+        let book: Book = books::tiny_book(&mut rng);
+        let table = if rng.chance(1, 2) {
+            tables::planned_table(&book)
+        } else {
+            tables::delayed_table(&mut rng, &book)
+        };
+        let Some(table) = table else {
+            continue;
+        };
+        if table.rows.len() > 100 {
+            continue;
+        }
+        let mut bytes = encode_book(&book);
+        if rng.chance(1, 16) {
+            books::damage_book(&mut rng, &mut bytes);
+        }
+        let intact = table.encode(&book);
+        for case in 0..6 {
+            let table = match case {
+                0 => intact.clone(),
+                _ => tables::damaged(&mut rng, &book, &table),
+            };
+            let room = WORK_BYTES + rng.index(9) - usize::from(rng.chance(1, 32));
+            let mut work = [vec![5; room], vec![5; room]];
+            let one_pass = second_check::check(&bytes, &table, &mut work[0]);
+            let literal = second_check::check_by_definition(&bytes, &table, &mut work[1]);
+            assert_eq!(one_pass, literal);
+            assert!(work[0] == work[1]);
+            met[one_pass.number as usize] += 1;
+        }
+    }
+    println!("numbers met by the checks: {met:?}");
+    for number in [0, 11, 14, 15, 16, 17, 18, 19, 20, 21] {
+        assert!(met[number] > 0, "number {number} was never met");
+    }
+}
+
+/// On tiny books every valid schedule that ends each flow by its deadline is
+/// searched for; where the planner refuses there must be none up to the flow
+/// that it names.
+#[test]
+fn a_refused_book_has_no_schedule_in_time() {
+    let mut rng = Rng::new(7);
+    let (mut none, mut some) = (0, 0);
+    for _ in 0..60_000 {
+        let mut book = books::tiny_book(&mut rng);
+        for flow in &mut book.flows {
+            flow.deadline = flow.deadline.min(rng.range(1, 6) as u32);
+        }
+        let work: u32 = book
+            .flows
+            .iter()
+            .flat_map(|f| &f.jobs)
+            .map(|j| j.size)
+            .sum();
+        let most = book
+            .flows
+            .iter()
+            .map(|flow| flow.deadline)
+            .max()
+            .unwrap_or(0);
+        let jobs: usize = book.flows.iter().map(|flow| flow.jobs.len()).sum();
+        if work > 14 || most > 6 || jobs > 5 {
+            continue;
+        }
+        if let Err(flow) = schedule(&book) {
+            let order = book.service_order();
+            let place = order.iter().position(|&k| k == flow as usize).unwrap();
+            assert!(!in_time(&books::cut(&book, place + 1)));
+            none += 1;
+        } else if in_time(&book) {
+            some += 1;
+        }
+    }
+    println!("refused without a schedule in time: {none}, planned with one: {some}");
+    assert!(none > 500 && some > 500);
+}
+
+/// Whether some valid schedule ends every flow by its own deadline.
+fn in_time(book: &Book) -> bool {
+    let left: Vec<(usize, usize, u32)> = book
+        .flows
+        .iter()
+        .enumerate()
+        .flat_map(|(f, flow)| {
+            flow.jobs
+                .iter()
+                .enumerate()
+                .map(move |(j, job)| (f, j, job.size))
+        })
+        .collect();
+    search(book, 0, &left)
+}
+
+fn search(book: &Book, slot: u32, left: &[(usize, usize, u32)]) -> bool {
+    if left.iter().all(|&(_, _, size)| size == 0) {
+        return true;
+    }
+    let overdue = |&(flow, _, size): &(usize, usize, u32)| {
+        size > 0 && {
+            let slots = book.flows[flow].deadline.saturating_sub(slot);
+            size > slots * book.processors
+        }
+    };
+    if left.iter().any(overdue) {
+        return false;
+    }
+    let most: Vec<u32> = left
+        .iter()
+        .map(|&(flow, job, size)| {
+            let record = &book.flows[flow].jobs[job];
+            let open = left
+                .iter()
+                .any(|&(f, j, size)| f == flow && record.precedence >> j & 1 == 1 && size > 0);
+            if open {
+                0
+            } else {
+                size.min(record.cap)
+            }
+        })
+        .collect();
+    let mut next = left.to_vec();
+    give(book, slot, &most, 0, book.processors, &mut next)
+}
+
+fn give(
+    book: &Book,
+    slot: u32,
+    most: &[u32],
+    at: usize,
+    free: u32,
+    next: &mut Vec<(usize, usize, u32)>,
+) -> bool {
+    if at == most.len() {
+        return search(book, slot + 1, &next.clone());
+    }
+    let size = next[at].2;
+    for take in (0..=most[at].min(free)).rev() {
+        next[at].2 = size - take;
+        if give(book, slot, most, at + 1, free - take, next) {
+            return true;
+        }
+    }
+    next[at].2 = size;
+    false
+}
+
+#[test]
+fn answers_are_laid_out_as_in_c() {
+    assert_eq!(std::mem::size_of::<CheckAnswer>(), 4);
+    assert_eq!(std::mem::size_of::<PlanAnswer>(), 8);
+    assert_eq!(std::mem::align_of::<PlanAnswer>(), 4);
+}
