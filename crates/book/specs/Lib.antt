@@ -1,2 +1,3 @@
--- The reader's promise.
+-- The reader's promise, and what its records read as.
 pub mod Promise
+pub mod Records

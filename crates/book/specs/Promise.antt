@@ -1,13 +1,15 @@
 -- What the reader hands back of a book that passes, in the specification's values. Assumes nothing.
 use mathlib.Core.Path.{_≡_}
-use Prim.Native.Nat.{ℕ, _<_}
+use Prim.Native.Nat.{ℕ, _<_, _≤_}
 use mathlib.Core.List.{List}
 use lib.ListN.{getD}
 use Rattle.rules.specs.declared.Verdict.{Verdict}
 use Rattle.rules.specs.declared.Verdict.the-variants.{Pass}
 use Rattle.rules.specs.Walks.{listFrom}
+use Rattle.rules.specs.Limits.{mostJobs}
 use Rattle.rules.specs.Book.{Job, Flow, Book, flowCount, jobCount, flowOf}
 use Rattle.rules.specs.Reading.{flowStart, bookOf, bookFault}
+use Rattle.book.specs.declared.FlowHead.{FlowHead}
 use Rattle.book.specs.declared.Index.{Index}
 use Rattle.book.specs.declared.FlowJobs.{FlowJobs}
 use Rattle.book.specs.declared.JobRecord.{JobRecord}
@@ -21,6 +23,17 @@ pub record Indexed (s : List ℕ) (x : Index) : Type 0 where
   pub deadlines : (f : ℕ) → f < flowCount (bookOf s) → getD (x .deadlines) f 0 ≡ flowOf (bookOf s) f .deadline
   pub jobs : (f : ℕ) → f < flowCount (bookOf s) → getD (x .jobs) f 0 ≡ jobCount (flowOf (bookOf s) f)
 
+-- flow f of the book in these bytes, which passes, starts at `start`: what an accessor asks
+pub record FlowStands (s : List ℕ) (f start : ℕ) : Type 0 where
+  pub passes : bookFault s ≡ Pass
+  pub flow-in : f < flowCount (bookOf s)
+  pub start-at : start ≡ flowStart s f
+
+-- the head is that of flow f
+pub record HeadOf (s : List ℕ) (f : ℕ) (h : FlowHead) : Type 0 where
+  pub deadline : h .deadline ≡ flowOf (bookOf s) f .deadline
+  pub jobs : h .jobs ≡ jobCount (flowOf (bookOf s) f)
+
 -- a job's record as the specification's job
 abbrev pub jobFrom : JobRecord → Job
 jobFrom r = record { size = r .size; cap = r .cap; predecessors = r .predecessors }
@@ -31,3 +44,8 @@ flowFrom x = record {
   deadline = x .deadline;
   jobs = listFrom (λ i. record { size = getD (x .size) i 0; cap = getD (x .cap) i 0; predecessors = getD (x .predecessors) i 0 }) (x .count) 0;
 }
+
+-- the values are those of flow f, at most 64 jobs
+pub record Loaded (s : List ℕ) (f : ℕ) (x : FlowJobs) : Type 0 where
+  pub values : flowFrom x ≡ flowOf (bookOf s) f
+  pub few : x .count ≤ mostJobs

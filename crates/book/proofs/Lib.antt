@@ -1,0 +1,4 @@
+-- Laws that the proofs of several functions cite.
+pub mod Stores
+pub mod Records
+pub mod Stands

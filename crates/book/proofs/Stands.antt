@@ -1,0 +1,54 @@
+-- What stands where a flow of a book that passes starts: its head and its jobs lie inside the bytes, and their values are the book's.
+-- Assumes nothing.
+use mathlib.Core.Path.{_≡_, refl, sym, ap, _∙_}
+use Prim.Native.Nat.{ℕ, _+_, _*_, _≤_, _<_}
+use native.Mathlib.Omega.{arith}
+use mathlib.Core.List.{List}
+use lib.ListN.{length}
+use Rattle.rules.specs.Fields.{byte, field}
+use Rattle.rules.specs.Limits.{mostJobs}
+use Rattle.rules.specs.Book.{Job, Flow, flowCount, jobCount, flowOf, jobOf}
+use Rattle.rules.specs.Reading.{flowHead, jobRecord, jobStart, jobAt, flowAt, bookOf}
+use Rattle.rules.proofs.Passing.{flow-count, flow-of-book, job-count, job-of-flow, deadline-of-flow, FlowPasses, flow-of-passing}
+use Rattle.book.specs.Promise.{FlowStands}
+
+-- three fields that are read at `at` are the job that stands there
+pub job-fields : (s : List ℕ) (at : ℕ) {size cap predecessors : ℕ} →
+    size ≡ field 4 s at → cap ≡ field 2 s (at + 4) → predecessors ≡ field 8 s (at + 6) →
+    _≡_ {A = Job} (record { size = size; cap = cap; predecessors = predecessors }) (jobAt s at)
+unfolding jobAt
+job-fields s at d e p = rw (d, e, p)
+
+module _ (s : List ℕ) (f start : ℕ) (stands : FlowStands s f start) where
+  pub flow-below : f < byte s 7
+  flow-below = rw (flow-count s) at (stands .flow-in)
+
+  pub flow-is : flowOf (bookOf s) f ≡ flowAt s start
+  flow-is = flow-of-book s f flow-below ∙ ap (flowAt s) (sym (stands .start-at))
+
+  pub flow-stands-whole : FlowPasses s start
+  flow-stands-whole = rw (stands .start-at) (flow-of-passing s (stands .passes) f flow-below)
+
+  pub deadline-is : flowOf (bookOf s) f .deadline ≡ field 2 s start
+  deadline-is = ap (λ (w : Flow). w .deadline) flow-is ∙ deadline-of-flow s start
+
+  pub job-count-is : jobCount (flowOf (bookOf s) f) ≡ byte s (start + 2)
+  job-count-is = ap jobCount flow-is ∙ job-count s start
+
+  -- the head lies inside the bytes
+  pub head-fits : start + flowHead ≤ length s
+  head-fits = flow-stands-whole .head .flow-head-whole
+
+  pub jobs-few : byte s (start + 2) ≤ mostJobs
+  jobs-few = flow-stands-whole .head .jobs-to
+
+  module _ (i : ℕ) (job-in : i < jobCount (flowOf (bookOf s) f)) where
+    job-below : i < byte s (start + 2)
+    job-below = rw job-count-is at job-in
+
+    -- the record of job i lies inside the bytes
+    pub job-fits : jobStart start i + jobRecord ≤ length s
+    job-fits = flow-stands-whole .each i job-below .job-whole
+
+    pub job-is : jobOf (flowOf (bookOf s) f) i ≡ jobAt s (jobStart start i)
+    job-is = ap (λ (w : Flow). jobOf w i) flow-is ∙ job-of-flow s start i job-below

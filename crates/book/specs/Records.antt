@@ -1,0 +1,39 @@
+-- What reading one record of a book finds, and the faults of a job's record by itself. Assumes nothing.
+use Prim.Native.Nat.{ℕ, _+_, _^_}
+use mathlib.Core.List.{List}
+use lib.ListN.{length}
+use lib.Dec.{ltb, leb}
+use Rattle.rules.specs.declared.Verdict.{Verdict}
+use Rattle.rules.specs.declared.Verdict.the-variants.{Pass, Refused}
+use Rattle.rules.specs.Walks.{if_then_else_}
+use Rattle.rules.specs.Fields.{byte, field}
+use Rattle.rules.specs.Limits.{outside, mostSize}
+use Rattle.rules.specs.Reading.{flowHead, jobRecord}
+use Rattle.book.specs.declared.FlowHead.{FlowHead}
+use Rattle.book.specs.declared.HeadRead.{HeadRead}
+use Rattle.book.specs.declared.HeadRead.the-variants.{Whole as WholeHead, Short as ShortHead}
+use Rattle.book.specs.declared.JobRecord.{JobRecord}
+use Rattle.book.specs.declared.JobRead.{JobRead}
+use Rattle.book.specs.declared.JobRead.the-variants.{Whole as WholeJob, Short as ShortJob}
+
+-- the head of a flow at `at`: short where the bytes end before it does
+unfoldable pub headRead : List ℕ → ℕ → HeadRead
+headRead s at =
+    if ltb (length s) (at + flowHead) then ShortHead
+    else WholeHead (record { deadline = field 2 s at; jobs = byte s (at + 2) })
+
+-- the values of the record at `at`
+abbrev pub recordAt : List ℕ → ℕ → JobRecord
+recordAt s at = record { size = field 4 s at; cap = field 2 s (at + 4); predecessors = field 8 s (at + 6) }
+
+-- the record of a job at `at`: short where the bytes end before it does
+unfoldable pub jobRead : List ℕ → ℕ → JobRead
+jobRead s at = if ltb (length s) (at + jobRecord) then ShortJob else WholeJob (recordAt s at)
+
+-- "8, 9, 10 for each job": the faults of a whole record, with P processors
+unfoldable pub recordFault : JobRecord → ℕ → ℕ → ℕ → Verdict
+recordFault r P f i =
+    if outside 1 mostSize (r .size) then Refused 8 f i
+    else if outside 1 P (r .cap) then Refused 9 f i
+    else if leb (2 ^ i) (r .predecessors) then Refused 10 f i
+    else Pass
