@@ -1,55 +1,70 @@
+-- `plan_text::put_word` meets its contract. The loop's invariant: the buffer is the entry's with the word's first i bytes stored.
+-- The measure is what is left of the word. Assumes nothing.
 use borrow.Author.Needs.{needs}
 use native.Mathlib.Omega.{arith}
+use Prim.Native.Nat.{ℕ, _+_, _-_, _≤_}
+use mathlib.Core.Path.{_≡_, ap, _∙_}
+use mathlib.Core.List.{List}
+use lib.ListN.{length, set, getD, take}
+use lib.Seq.{sets, take-all}
+use Rattle.plan_text.proofs.Pieces.{sets-take-more}
 use Rattle.plan_text.proofs.put_word.Statement.{statement}
 use Rattle.plan_text.proofs.put_word.Tie as tie
 use Rattle.plan_text.proofs.put_word.Reads as reads
 use Rattle.plan_text.proofs.put_word.Lts as lts
 
 abbrev Inv-loop : tie.InvT-loop
-Inv-loop out₀ at word i₀ out i = ?
+Inv-loop out₀ at word i₀ out i =
+    (i ≤ length word) × (length out ≡ length out₀) × (out ≡ sets out₀ at (take i word))
 
 abbrev μ-loop : tie.MeasureT-loop
-μ-loop out₀ at word i₀ out i = ?
+μ-loop out₀ at word i₀ out i = length word - i
 
--- src/lib.rt:48:5
 loop-holds : tie.Need-loop-holds Inv-loop μ-loop
 loop-holds c = search needs
 
--- src/lib.rt:49:23
 shared-slice-read-out : tie.Need-shared-slice-read-out Inv-loop μ-loop
 shared-slice-read-out c = search needs
 
--- src/lib.rt:49:13
 add-out : tie.Need-add-out Inv-loop μ-loop
 add-out c = search needs
 
--- src/lib.rt:49:9
 slice-write-out : tie.Need-slice-write-out Inv-loop μ-loop
 slice-write-out c = search needs
 
--- src/lib.rt:50:13
 add-i : tie.Need-add-i Inv-loop μ-loop
 add-i c = search needs
 
--- src/lib.rt:48:5
 loop-less : tie.Need-loop-less Inv-loop μ-loop
 loop-less c = search needs
 
--- src/lib.rt:48:5
 loop-again : tie.Need-loop-again Inv-loop μ-loop
-loop-again c = search needs
+loop-again c =
+    let a = c .before .before .before .args in
+    let l = c .before .before .loop in
+    let word = a .word .now in
+    (
+      search needs,
+      search needs,
+      ap (λ (x : List ℕ). set x (a .at + l .i) (getD word (l .i) 0)) (l .inv .2)
+        ∙ sets-take-more (a .out .now) (a .at) word (l .i) (c .before .loop-test .taken),
+    )
 
--- src/lib.rt:52:5
 add-result : tie.Need-add-result Inv-loop μ-loop
 add-result c = search needs
 
--- src/lib.rt:43:1
 same-length : tie.Need-same-length Inv-loop μ-loop
 same-length c = search needs
 
--- src/lib.rt:43:1
 returns : tie.Need-returns Inv-loop μ-loop
-returns c = search needs
+returns c =
+    let a = c .before .before .args in
+    let l = c .before .loop in
+    record {
+      stored =
+          l .inv .2 ∙ ap (λ (w : List ℕ). sets (a .out .now) (a .at) w) (take-all (l .i) (a .word .now) (c .loop-test .left));
+      place-after = omega arith;
+    }
 
 pub put-word-spec : {M : Type 1} → statement M
 put-word-spec =
