@@ -6,14 +6,33 @@ use native.Mathlib.Nat.{add-zero, add-suc, suc-add}
 use native.Mathlib.Numerals.{add-one}
 use native.Mathlib.Omega.{arith}
 use mathlib.Core.Bool.{Bool, true, false}
-use mathlib.Core.List.{List, [], _∷_, _++_}
+use mathlib.Core.List.{List, [], _∷_, _++_, append-assoc}
 use lib.ListN.{length, set, getD, take, length-append}
 use lib.Seq.{sets, length-sets, take-suc, length-take-le}
 use lib.Dec.{ltb}
 use borrow.Author.Tests.{lt-ltb, le-ltb}
 use Rattle.rules.specs.Walks.{if_then_else_}
-use Rattle.rules.specs.Text.{digit, digitsOf, decimal}
-use Rattle.plan_text.specs.Put.{Put}
+use Rattle.rules.specs.Text.{
+  digit,
+  digitsOf,
+  decimal,
+  wordTable,
+  wordLate,
+  wordFinish,
+  wordSpace,
+  wordSlot,
+  wordFlow,
+  wordJob,
+  wordTake,
+  wordRefused,
+  wordEnd,
+  tableLine,
+  finishLine,
+  rowLine,
+  refusalLine,
+}
+use Rattle.rules.specs.Rows.{Row}
+use Rattle.plan_text.specs.Put.{Put, pairLine}
 
 -- stores of a, and of b after them, are stores of a ++ b
 pub sets-append : (l : List ℕ) (at : ℕ) (a b : List ℕ) → sets (sets l at a) (at + length a) b ≡ sets l at (a ++ b)
@@ -78,3 +97,32 @@ pub digits-more : (n x : ℕ) → 0 < n → 10 ≤ x → digitsOf (n - 1) (x / 1
 unfolding digitsOf
 digits-more zero x h g = absurd (omega arith)
 digits-more (suc n) x h g = let e : suc n - 1 ≡ n = omega arith in rw (e, le-ltb x 10 g)
+
+-- a number below 2 ^ 32 has at most ten digits: where a word and its number end, and the buffer's length, kept
+pub number-room : (word : List ℕ) (x : ℕ) {l m : List ℕ} {at k : ℕ} → Put l at (word ++ decimal x) m k →
+    (k ≤ at + (length word + 10)) × (length m ≡ length l)
+number-room word x p = (omega (arith, p .place-after, length-append word (decimal x), digits-most 9 x), put-length p)
+
+-- ---- the lines, from their pieces
+pub put-pair-line : (first : List ℕ) (x : ℕ) (second : List ℕ) (y : ℕ) {l m n r : List ℕ} {at j k next : ℕ} →
+    Put l at (first ++ decimal x) m j → Put m j (second ++ decimal y) n k → Put n k wordEnd r next → Put l at (pairLine first x second y) r next
+put-pair-line first x second y p q e = put-as (simp append-assoc) (put-after p (put-after q e))
+
+pub table-line : (bytes late : ℕ) → pairLine wordTable bytes wordLate late ≡ tableLine bytes late
+unfolding tableLine
+table-line bytes late = refl
+
+pub finish-line : (flow finish : ℕ) → pairLine wordFinish flow wordSpace finish ≡ finishLine flow finish
+unfolding finishLine
+finish-line flow finish = refl
+
+pub put-row : (row : Row) {l m n r : List ℕ} {at j k next : ℕ} →
+    Put l at (wordSlot ++ decimal (row .slot)) m j → Put m j (wordFlow ++ decimal (row .flow)) n k →
+    Put n k (pairLine wordJob (row .job) wordTake (row .processors)) r next → Put l at (rowLine row) r next
+unfolding rowLine
+put-row row p q e = put-as (simp append-assoc) (put-after p (put-after q e))
+
+pub put-refusal : (number flow job : ℕ) {l m r : List ℕ} {at j next : ℕ} →
+    Put l at (wordRefused ++ decimal number) m j → Put m j (pairLine wordFlow flow wordJob job) r next → Put l at (refusalLine number flow job) r next
+unfolding refusalLine
+put-refusal number flow job p q = put-as (simp append-assoc) (put-after p q)
