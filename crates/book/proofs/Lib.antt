@@ -2,3 +2,6 @@
 pub mod Stores
 pub mod Records
 pub mod Stands
+pub mod Filled
+pub mod Loaded
+pub mod Served

@@ -5,10 +5,11 @@ use Prim.Native.Nat.{ℕ, _+_, _*_, _≤_, _<_}
 use native.Mathlib.Omega.{arith}
 use mathlib.Core.List.{List}
 use lib.ListN.{length}
+use Rattle.rules.specs.declared.Verdict.the-variants.{Pass}
 use Rattle.rules.specs.Fields.{byte, field}
 use Rattle.rules.specs.Limits.{mostJobs}
 use Rattle.rules.specs.Book.{Job, Flow, flowCount, jobCount, flowOf, jobOf}
-use Rattle.rules.specs.Reading.{flowHead, jobRecord, jobStart, jobAt, flowAt, bookOf}
+use Rattle.rules.specs.Reading.{flowHead, jobRecord, flowStart, jobStart, jobAt, flowAt, bookOf, bookFault}
 use Rattle.rules.proofs.Passing.{flow-count, flow-of-book, job-count, job-of-flow, deadline-of-flow, FlowPasses, flow-of-passing}
 use Rattle.book.specs.Promise.{FlowStands}
 
@@ -18,6 +19,10 @@ pub job-fields : (s : List ℕ) (at : ℕ) {size cap predecessors : ℕ} →
     _≡_ {A = Job} (record { size = size; cap = cap; predecessors = predecessors }) (jobAt s at)
 unfolding jobAt
 job-fields s at d e p = rw (d, e, p)
+
+-- how a walk over the heads meets each flow
+pub stands-at : (s : List ℕ) (f start : ℕ) → bookFault s ≡ Pass → f < byte s 7 → start ≡ flowStart s f → FlowStands s f start
+stands-at s f start e h q = record { passes = e; flow-in = rw (flow-count s) h; start-at = q }
 
 module _ (s : List ℕ) (f start : ℕ) (stands : FlowStands s f start) where
   pub flow-below : f < byte s 7

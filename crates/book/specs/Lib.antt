@@ -1,3 +1,4 @@
--- The reader's promise, and what its records read as.
+-- The reader's promise, and what its records and arrays read as.
 pub mod Promise
 pub mod Records
+pub mod Arrays
