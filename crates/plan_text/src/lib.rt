@@ -1,4 +1,6 @@
 // The lines of a printed plan, put into a lent buffer. Each line equals its definition; the program only writes the buffer out.
+pub mod lines;
+
 ghost use mathlib.Core.Path.{_≡_};
 ghost use Prim.Native.Nat.{ℕ, _+_, _≤_, _<_};
 ghost use lib.ListN.{length};
