@@ -8,11 +8,15 @@ use lib.ListN.{length}
 use lib.Dec.{eqb, leb}
 use borrow.Author.Tests.{eq-eqb, ne-eqb, le-leb, lt-leb}
 use Rattle.rules.specs.declared.PlanAnswer.{PlanAnswer}
+use Rattle.rules.specs.Walks.{if_then_else_, joinFrom}
+use Rattle.rules.proofs.Walks.{join-snoc}
 use Rattle.rules.specs.Fields.{byte, field}
 use Rattle.rules.specs.Rows.{Row}
 use Rattle.rules.specs.Table.{rowLength, rowAt}
 use Rattle.rules.specs.Text.{tableLine, finishLine, rowLine, refusalLine}
-use Rattle.plan_text.specs.Lines.{Stands, flowsIn, rowsFrom, tableLineAt, tableLines, lineAt, lineCount}
+use Rattle.plan_text.specs.Put.{Put, longestLine}
+use Rattle.plan_text.proofs.Pieces.{put-as, put-after, table-line-most, finish-line-most, row-line-most, refusal-line-most}
+use Rattle.plan_text.specs.Lines.{Stands, flowsIn, rowsFrom, tableLineAt, tableLines, lineAt, lineCount, linesFrom}
 
 -- the values read one by one are the row
 pub row-read : (s : List ℕ) (from slot processors : ℕ) → slot ≡ field 2 s from → processors ≡ field 2 s (from + 4) →
@@ -64,3 +68,35 @@ pub count-read : (table : List ℕ) (a : PlanAnswer) (flows : ℕ) → flows ≡
     1 + flows + (a .length - (8 + 2 * flows)) / 6 ≡ lineCount table a
 unfolding tableLines
 count-read table a flows e z = ap (λ (f : ℕ). 1 + f + (a .length - (8 + 2 * f)) / 6) e ∙ count-of-table table a z
+
+-- ---- no line of an answer is longer than 64 bytes
+either-most : (b : Bool) (x y : List ℕ) {m : ℕ} → length x ≤ m → length y ≤ m → length (if b then x else y) ≤ m
+either-most true x y p q = p
+either-most false x y p q = q
+
+table-most : (table : List ℕ) (bytes late n : ℕ) → length (tableLineAt table bytes late n) ≤ longestLine
+unfolding tableLineAt
+table-most table bytes late n =
+    either-most (eqb n 0) _ _ (table-line-most bytes late)
+    (either-most (leb n (flowsIn table)) _ _ (finish-line-most (n - 1) (field 2 table (6 + 2 * n))) (row-line-most _))
+
+pub line-most : (table : List ℕ) (a : PlanAnswer) (n : ℕ) → length (lineAt table a n) ≤ longestLine
+unfolding lineAt
+line-most table a n =
+    either-most (eqb (a .number) 0) _ _ (table-most table (a .length) (a .late) n) (refusal-line-most (a .number) (a .flow) (a .job))
+
+-- ---- lines put one after the other
+pub fill-none : (table : List ℕ) (a : PlanAnswer) (from : ℕ) {l : List ℕ} → Put l 0 (linesFrom table a (from - from) from) l 0
+unfolding joinFrom
+fill-none table a from {l} = let e : from - from ≡ 0 = omega arith in rw e (record { stored = refl; place-after = refl })
+
+pub fill-more : (table : List ℕ) (a : PlanAnswer) (from n : ℕ) {l m r : List ℕ} {at next : ℕ} → from ≤ n →
+    Put l 0 (linesFrom table a (n - from) from) m at → Put m at (lineAt table a n) r next → Put l 0 (linesFrom table a (n + 1 - from) from) r next
+fill-more table a from n h p q =
+    let e : from + (n - from) ≡ n = omega arith in
+    let more : suc (n - from) ≡ n + 1 - from = omega arith in
+    put-as
+    (ap (λ (k : ℕ). linesFrom table a (n - from) from ++ lineAt table a k) (sym e)
+      ∙ sym (join-snoc (λ k. lineAt table a k) (n - from) from)
+      ∙ ap (λ (k : ℕ). linesFrom table a k from) more)
+    (put-after p q)

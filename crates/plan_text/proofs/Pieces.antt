@@ -12,6 +12,7 @@ use lib.Seq.{sets, length-sets, take-suc, length-take-le}
 use lib.Dec.{ltb}
 use borrow.Author.Tests.{lt-ltb, le-ltb}
 use Rattle.rules.specs.Walks.{if_then_else_}
+use Rattle.rules.specs.Fields.{bytesOf}
 use Rattle.rules.specs.Text.{
   digit,
   digitsOf,
@@ -32,7 +33,7 @@ use Rattle.rules.specs.Text.{
   refusalLine,
 }
 use Rattle.rules.specs.Rows.{Row}
-use Rattle.plan_text.specs.Put.{Put, pairLine}
+use Rattle.plan_text.specs.Put.{Put, pairLine, longestLine}
 
 -- stores of a, and of b after them, are stores of a ++ b
 pub sets-append : (l : List ℕ) (at : ℕ) (a b : List ℕ) → sets (sets l at a) (at + length a) b ≡ sets l at (a ++ b)
@@ -126,3 +127,21 @@ pub put-refusal : (number flow job : ℕ) {l m r : List ℕ} {at j next : ℕ} �
     Put l at (wordRefused ++ decimal number) m j → Put m j (pairLine wordFlow flow wordJob job) r next → Put l at (refusalLine number flow job) r next
 unfolding refusalLine
 put-refusal number flow job p q = put-as (simp append-assoc) (put-after p q)
+
+-- ---- no line is longer than 64 bytes
+pub table-line-most : (bytes late : ℕ) → length (tableLine bytes late) ≤ longestLine
+unfolding tableLine bytesOf
+table-line-most bytes late = simp length-append (omega (arith, digits-most 9 bytes, digits-most 9 late))
+
+pub finish-line-most : (flow finish : ℕ) → length (finishLine flow finish) ≤ longestLine
+unfolding finishLine bytesOf
+finish-line-most flow finish = simp length-append (omega (arith, digits-most 9 flow, digits-most 9 finish))
+
+pub row-line-most : (r : Row) → length (rowLine r) ≤ longestLine
+unfolding rowLine bytesOf
+row-line-most r =
+    simp length-append (omega (arith, digits-most 9 (r .slot), digits-most 9 (r .flow), digits-most 9 (r .job), digits-most 9 (r .processors)))
+
+pub refusal-line-most : (number flow job : ℕ) → length (refusalLine number flow job) ≤ longestLine
+unfolding refusalLine bytesOf
+refusal-line-most number flow job = simp length-append (omega (arith, digits-most 9 number, digits-most 9 flow, digits-most 9 job))

@@ -5,10 +5,16 @@ ghost use lib.ListN.{length};
 ghost use Rattle.rules.specs.Table.{rowAt};
 ghost use Rattle.rules.specs.Text.{rowLine};
 ghost use Rattle.plan_text.specs.Put.{Put, longestLine};
-ghost use Rattle.plan_text.specs.Lines.{Stands, AnswerStands, tableLines, tableLineAt, lineCount, lineAt};
+ghost use Rattle.plan_text.specs.Lines.{Stands, AnswerStands, tableLines, tableLineAt, lineCount, lineAt, Fills};
 
 use book::bytes::{read16, wide};
 use rules::PlanAnswer;
+
+// How far a buffer was filled: with the lines before `next`, which take so many bytes.
+pub struct Filled {
+    pub next: usize,
+    pub bytes: usize,
+}
 
 // The line of the row that stands at `from`.
 pub fn put_row(out: &mut [u8], at: usize, table: &[u8], from: usize) -> usize
@@ -58,4 +64,21 @@ pub fn put_line(out: &mut [u8], at: usize, table: &[u8], answer: PlanAnswer, n: 
         return put_table(out, at, table, answer.length, answer.late, n);
     }
     super::put_refusal_line(out, at, answer.number, answer.flow, answer.job)
+}
+
+// The lines from `from` on, as many as the buffer surely has room for, and none from `end` on.
+pub fn put_lines(out: &mut [u8], table: &[u8], answer: PlanAnswer, from: usize, end: usize) -> Filled
+    requires { ⌜ (longestLine ≤ length (now out)) × (AnswerStands (now table) answer) × (from < end) × (end ≤ lineCount (now table) answer) ⌝ }
+    ensures { λ r. ⌜ Fills (now (table .entry)) answer from end (now (out .entry)) (now (out .exit)) (r .next) (r .bytes) ⌝ }
+{
+    let mut at: usize = 0;
+    let mut n = from;
+    while n < end {
+        if out.len() - at < 64 {
+            return Filled { next: n, bytes: at };
+        }
+        at = put_line(out, at, table, answer, n);
+        n = n + 1;
+    }
+    Filled { next: n, bytes: at }
 }
