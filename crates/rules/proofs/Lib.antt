@@ -1,5 +1,10 @@
 -- What follows from the rules.
 pub mod MarkedPlans
+pub mod Demand3Values
+pub mod Demand3
+pub mod Refusals
+pub mod AcceptsExactly
+pub mod AcceptsPlans
 -- laws that the proofs here and in the crates above cite
 pub mod Division
 pub mod Sums
@@ -15,3 +20,22 @@ pub mod CutBook
 pub mod Ideal
 pub mod PseudoJobs
 pub mod Shares
+-- rows
+pub mod Rising
+pub mod RowOrder
+pub mod RowSums
+pub mod ScheduleRows
+pub mod FlowRows
+-- placing, what it guarantees, and what a refusal proves
+pub mod Greedy
+pub mod Necessity
+pub mod Refusal
+pub mod PlacedFlow
+pub mod PlannedRows
+pub mod PlannedValid
+pub mod PlannedTable
+pub mod Infeasible
+-- tables, and what the check accepts
+pub mod TableBytes
+pub mod TablePasses
+pub mod AcceptedRows

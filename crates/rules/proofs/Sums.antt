@@ -6,9 +6,9 @@ use native.Mathlib.Nat.{add-zero, zero-add, add-suc, add-sub-of-le, sub-add-canc
 use mathlib.Core.Bool.{Bool, true, false, _&&_, _||_}
 use lib.Dec.{leb, ltb, eqb}
 use mathlib.Core.Logic.{_⊎_, inl, inr}
-use borrow.Author.Tests.{leb-true, leb-false, le-leb, lt-leb, lt-ltb, le-ltb, eqb-true, eq-eqb}
+use borrow.Author.Tests.{leb-true, leb-false, le-leb, lt-leb, lt-ltb, le-ltb, eqb-true, eq-eqb, ne-eqb}
 use native.Mathlib.Omega.{arith}
-use Rattle.rules.specs.Walks.{sumTo, bit, countTo}
+use Rattle.rules.specs.Walks.{if_then_else_, sumTo, bit, countTo}
 use Rattle.rules.proofs.Division.{lt-or-ge}
 
 -- congruence, pointwise below n
@@ -193,3 +193,48 @@ count-equal x n l =
       le-sum (λ f. bit (eqb x f)) n x l,
       ap bit (eq-eqb x x refl),
     )
+
+-- a sum of nothing, and a sum of which one term counts
+pub sum-nothing : (f : ℕ → ℕ) (n : ℕ) → ((k : ℕ) → k < n → f k ≡ 0) → sumTo f n ≡ 0
+sum-nothing f n h = sum-ext f (λ k. 0) n h ∙ sum-zero n
+
+pub sum-one : (f : ℕ → ℕ) (n k : ℕ) → k < n → ((i : ℕ) → i < n → (i ≡ k → ⊥) → f i ≡ 0) → sumTo f n ≡ f k
+unfolding sumTo
+sum-one f zero k l h = absurd (not-suc-le-zero l)
+sum-one f (suc n) k l h = go (eq-or-lt-of-le (le-of-suc-le-suc l)) (λ q. sum-one f n k q (λ i b ne. h i (omega arith) ne))
+  where
+    go : (k ≡ n) ⊎ (k < n) → (k < n → sumTo f n ≡ f k) → sumTo f n + f n ≡ f k
+    go (inl e) ih = omega (arith, ap f e, sum-nothing f n (λ i b. h i (omega arith) (λ (q : i ≡ k). omega arith)))
+    go (inr q) ih = omega (arith, ih q, h n (omega arith) (λ (e : n ≡ k). omega arith))
+
+-- terms at places that differ are part of the whole sum
+pub sum-distinct : (f at : ℕ → ℕ) (m n : ℕ) → ((k : ℕ) → k < m → at k < n) → ((j k : ℕ) → j < m → k < m → at j ≡ at k → j ≡ k) →
+    sumTo (λ k. f (at k)) m ≤ sumTo f n
+sum-distinct f at zero n below once = unfold sumTo in omega arith
+sum-distinct f at (suc m) n below once = step (sum-distinct others at m n (λ k l. below k (omega arith)) (λ j k a b. once j k (omega arith) (omega arith)))
+  where
+    others : ℕ → ℕ
+    others g = if eqb g (at m) then 0 else f g
+
+    own : ℕ → ℕ
+    own g = if eqb g (at m) then f g else 0
+
+    split : (g : ℕ) → f g ≡ others g + own g
+    split g = go (eqb g (at m))
+      where
+        go : (c : Bool) → f g ≡ (if c then 0 else f g) + (if c then f g else 0)
+        go true = omega arith
+        go false = omega arith
+
+    elsewhere : (k : ℕ) → k < m → f (at k) ≡ others (at k)
+    elsewhere k l = rw (ne-eqb (at k) (at m) (λ q. let e : k ≡ m = once k m (omega arith) (omega arith) q in omega arith)) refl
+
+    alone : sumTo own n ≡ f (at m)
+    alone =
+        sum-one own n (at m) (below m (omega arith)) (λ g l ne. rw (ne-eqb g (at m) ne) refl) ∙
+        (rw (eq-eqb (at m) (at m) refl) refl)
+
+    step : sumTo (λ k. others (at k)) m ≤ sumTo others n → sumTo (λ k. f (at k)) (suc m) ≤ sumTo f n
+    step ih =
+        unfold sumTo in
+        omega (arith, sum-ext (λ k. f (at k)) (λ k. others (at k)) m elsewhere, sum-ext f (λ g. others g + own g) n (λ g l. split g), sum-add others own n, alone)

@@ -166,3 +166,7 @@ list-of g n xs d e h =
 
 pub join-length-zero {ℓ} : {A : Type ℓ} (g : ℕ → List A) (n : ℕ) → length (joinFrom g n 0) ≡ sumTo (λ k. length (g k)) n
 join-length-zero g n = join-length g n 0 ∙ sum-ext (λ k. length (g (0 + k))) (λ k. length (g k)) n (λ k l. ap (λ i. length (g i)) (zero-add k))
+
+-- the last of lists joined from 0 on
+pub join-last {ℓ} : {A : Type ℓ} (g : ℕ → List A) (n : ℕ) → joinFrom g (suc n) 0 ≡ joinFrom g n 0 ++ g n
+join-last g n = join-snoc g n 0 ∙ ap (λ k. joinFrom g n 0 ++ g k) (zero-add n)

@@ -4,7 +4,7 @@ use mathlib.Core.Logic.{_⊎_}
 use Prim.Native.Nat.{ℕ, _+_, _*_, _≤_, _<_}
 use mathlib.Core.Bool.{Bool, true, _||_}
 use mathlib.Core.List.{List, _++_}
-use lib.ListN.{length, drop}
+use lib.ListN.{length, take, drop}
 use lib.Dec.{eqb}
 use Rattle.rules.specs.declared.PlanAnswer.{PlanAnswer}
 use Rattle.rules.specs.declared.CheckAnswer.{CheckAnswer}
@@ -104,3 +104,10 @@ unfoldable pub Demand3 : Type 0
 Demand3 =
     (book : List ℕ) (b : Book) → readBook book ≡ read b → (k : ℕ) → k ≤ flowCount b → (out area : List ℕ) → workBytes ≤ length area →
     PlannerOwes (cut b k) out (planCall (bookBytes (cut b k)) out area)
+
+-- ---- planner and check together: the check accepts every table that the planner writes, with the same number of late flows
+unfoldable pub AcceptsPlans : Type 0
+AcceptsPlans =
+    (book out area other : List ℕ) → planCall book out area .answer .number ≡ 0 → workBytes ≤ length other →
+    checkCall book (take (planCall book out area .answer .length) (planCall book out area .output)) other .answer
+    ≡ checkAccepted (planCall book out area .answer .late)

@@ -1,0 +1,200 @@
+-- Rule 2 on a flow's values: the values are those of the specification's flow, and a walk over the ends of lower jobs,
+-- held in an array of 64, gives the start and the end of the next job. Assumes nothing.
+use mathlib.Core.Path.{_≡_, refl, ap, sym, _∙_}
+use mathlib.Core.Bool.{Bool, true, false}
+use mathlib.Core.List.{List, _++_}
+use Prim.Native.Nat.{ℕ, zero, suc, _+_, _*_, _-_, _<_, _≤_, max}
+use native.Mathlib.Nat.{zero-add, not-suc-le-zero}
+use native.Mathlib.Numerals.{add-one}
+use native.Mathlib.Omega.{arith}
+use lib.ListN.{getD, set, replicate, List·getD-append}
+use lib.Seq.{set-at, append-snoc}
+use Rattle.rules.specs.Walks.{if_then_else_, sumTo, maxTo}
+use Rattle.rules.specs.Book.{Job, Flow, JobInRange, FlowInRange, jobCount, jobOf, noJob, hasBit, precedes}
+use Rattle.rules.specs.Ideal.{duration, lastTake, startAfter, startOf, endOf, endsBelow, path, takeOf}
+use Rattle.rules.proofs.Sums.{sum-le}
+use Rattle.rules.proofs.Walks.{last-or, max-ext, max-least, list-length, list-at}
+use Rattle.rules.proofs.Ideal.{ends-length, ends-at, end-is-start-plus-duration, start-is-largest-end, duration-is-least, duration-positive, size-left, take-within-cap, Sized}
+use Rattle.book.specs.declared.FlowJobs.{FlowJobs}
+use Rattle.book.specs.Promise.{flowFrom}
+use Rattle.chain.specs.declared.Lasting.{Lasting}
+use Rattle.chain.specs.Jobs.{ChainInput, jobOfValues, LastsAs, startAmong}
+
+-- ---- a flow's values
+module _ (x : FlowJobs) where
+  -- as many jobs
+  pub count-of : jobCount (flowFrom x) ≡ x .count
+  unfolding flowFrom
+  count-of = list-length _ (x .count) 0
+
+  -- .. and the same ones
+  pub job-at : (i : ℕ) → i < x .count → jobOf (flowFrom x) i ≡ jobOfValues x i
+  unfolding flowFrom jobOf
+  job-at i h = list-at (jobOfValues x) (x .count) 0 i noJob h ∙ ap (jobOfValues x) (zero-add i)
+
+  -- the ranges of a book's flow
+  pub input-of : (P : ℕ) → P ≤ 4096 → FlowInRange P (flowFrom x) → ChainInput x
+  input-of P most range =
+      record {
+        count-most = rw count-of at (range .jobs-most);
+        size-least = λ i h. at i h .size-least;
+        size-most = λ i h. at i h .size-most;
+        cap-least = λ i h. at i h .cap-least;
+        cap-most = λ i h. omega (arith, at i h .cap-most);
+      }
+    where
+      at : (i : ℕ) → i < x .count → JobInRange P i (jobOfValues x i)
+      at i h = rw (job-at i h) at (range .each-job i (rw count-of h))
+
+-- ---- the start of a job
+pub start-none : (p : ℕ) (ends : List ℕ) → startAmong p ends 0 ≡ 0
+unfolding startAmong maxTo
+start-none p ends = refl
+
+-- one more job is looked at
+pub start-next : (p k s e r : ℕ) (ends : List ℕ) → s ≡ startAmong p ends k → e ≡ (if hasBit p k then getD ends k 0 else 0) → r ≡ max s e → r ≡ startAmong p ends (k + 1)
+unfolding startAmong maxTo
+start-next p k s e r ends es ee er = rw (add-one k) (er ∙ rw (es, ee) refl)
+
+choice-within : (b : Bool) (e most : ℕ) → e ≤ most → (if b then e else 0) ≤ most
+choice-within true e most h = h
+choice-within false e most h = omega arith
+
+-- a start is within any bound on the ends of lower jobs
+pub start-within : (w : Flow) (i most : ℕ) → ((k : ℕ) → k < i → endOf w k ≤ most) → startOf w i ≤ most
+start-within w i most h =
+    rw (start-is-largest-end w i)
+    (max-least (λ k. if precedes w k i then endOf w k else 0) i most (λ k l. choice-within (precedes w k i) (endOf w k) most (h k l)))
+
+-- ---- the ends of a flow's jobs, in an array of 64
+module _ (x : FlowJobs) (input : ChainInput x) where
+  -- a job lasts as many slots as its size has units, at most
+  pub duration-most : (i : ℕ) → i < x .count → duration (jobOf (flowFrom x) i) ≤ 1000000
+  duration-most i h =
+      let least = duration-is-least (jobOfValues x i) (input .cap-least i h) 1000000 (omega (arith, input .size-most i h, input .cap-least i h)) in
+      rw (job-at x i h) least
+
+  -- n jobs have ended after 1,000,000 slots each, at the latest
+  pub end-most : (n : ℕ) → n ≤ x .count → (i : ℕ) → i < n → endOf (flowFrom x) i ≤ 1000000 * n
+  end-most zero most i h = absurd (not-suc-le-zero h)
+  end-most (suc n) most i h =
+      let below = end-most n (omega arith) in
+      last-or i n h
+      (λ q. rw q (omega (arith, end-is-start-plus-duration (flowFrom x) n, start-within (flowFrom x) n (1000000 * n) below, duration-most n (omega arith))))
+      (λ l. omega (arith, below i l))
+
+  -- a path reaches 64,000,000
+  pub path-most : path (flowFrom x) ≤ 64000000
+  unfolding path
+  path-most =
+      max-least (endOf (flowFrom x)) (jobCount (flowFrom x)) 64000000
+      (λ i h. omega (arith, end-most (x .count) (omega arith) i (omega (arith, h, count-of x)), input .count-most))
+
+  -- the ends that are not there yet do not count
+  pub start-from-array : (k : ℕ) (ends zeros : List ℕ) → k < x .count → ends ≡ endsBelow (flowFrom x) k ++ zeros →
+      startAmong (getD (x .predecessors) k 0) ends k ≡ startOf (flowFrom x) k
+  unfolding startAmong startOf startAfter
+  start-from-array k ends zeros h e =
+      rw (e, job-at x k h)
+      (max-ext
+      (λ i. if hasBit (getD (x .predecessors) k 0) i then getD (endsBelow (flowFrom x) k ++ zeros) i 0 else 0)
+      (λ i. if hasBit (getD (x .predecessors) k 0) i then getD (endsBelow (flowFrom x) k) i 0 else 0)
+      k
+      (λ i l. rw (List·getD-append (endsBelow (flowFrom x) k) zeros 0 i (rw (ends-length (flowFrom x) k) l)) refl))
+
+  pub ends-none : (n : ℕ) → n ≡ 0 → replicate 64 0 ≡ endsBelow (flowFrom x) n ++ replicate (64 - n) 0
+  unfolding endsBelow
+  ends-none n e = rw e refl
+
+  module _ (k s : ℕ) (l : Lasting) (ends : List ℕ) (h : k < x .count) (ee : ends ≡ endsBelow (flowFrom x) k ++ replicate (64 - k) 0)
+      (es : s ≡ startAmong (getD (x .predecessors) k 0) ends k) (el : LastsAs (jobOfValues x k) l) where
+    -- the start and the slots together are the end
+    end-from-array : s + l .slots ≡ endOf (flowFrom x) k
+    end-from-array =
+        omega (
+          arith,
+          es,
+          start-from-array k ends (replicate (64 - k) 0) h ee,
+          el .slots,
+          ap duration (job-at x k h),
+          end-is-start-plus-duration (flowFrom x) k,
+        )
+
+    pub end-fits : s + l .slots ≤ 64000000
+    end-fits = omega (arith, end-from-array, end-most (suc k) h k (omega arith), input .count-most)
+
+    -- the array after the end of job k is stored
+    pub ends-next : (n : ℕ) → n ≡ suc k → set ends k (s + l .slots) ≡ endsBelow (flowFrom x) n ++ replicate (64 - n) 0
+    unfolding endsBelow endOf startOf
+    ends-next n en =
+        let w = flowFrom x in
+        let room : 64 - k ≡ suc (64 - suc k) = omega (arith, input .count-most) in
+        rw (en, end-from-array, ee, room)
+        (set-at (endsBelow w k) 0 (replicate (64 - suc k) 0) _ k (ends-length w k) ∙ sym (append-snoc (endsBelow w k) _ (replicate (64 - suc k) 0)))
+
+-- ---- the largest end
+pub max-none : (ends : List ℕ) → maxTo (λ i. getD ends i 0) 0 ≡ 0
+unfolding maxTo
+max-none ends = refl
+
+pub max-next : (ends : List ℕ) (k s r : ℕ) → s ≡ maxTo (λ i. getD ends i 0) k → r ≡ max s (getD ends k 0) → r ≡ maxTo (λ i. getD ends i 0) (k + 1)
+unfolding maxTo
+max-next ends k s r es er = rw (add-one k) (er ∙ rw es refl)
+
+-- what the array holds is the end
+pub end-in-array : (w : Flow) (n i : ℕ) (ends zeros : List ℕ) → i < n → ends ≡ endsBelow w n ++ zeros → getD ends i 0 ≡ endOf w i
+end-in-array w n i ends zeros h e = rw (e, List·getD-append (endsBelow w n) zeros 0 i (rw (ends-length w n) h)) (ends-at w n i h)
+
+pub path-from-array : (x : FlowJobs) (ends zeros : List ℕ) → ends ≡ endsBelow (flowFrom x) (x .count) ++ zeros →
+    maxTo (λ i. getD ends i 0) (x .count) ≡ path (flowFrom x)
+unfolding path
+path-from-array x ends zeros e =
+    rw (count-of x) (max-ext (λ i. getD ends i 0) (endOf (flowFrom x)) (x .count) (λ i h. end-in-array (flowFrom x) (x .count) i ends zeros h e))
+
+-- ---- starts and last takes, read off the ends
+module _ (x : FlowJobs) (i e : ℕ) (l : Lasting) (h : i < x .count) (at-end : e ≡ endOf (flowFrom x) i) (el : LastsAs (jobOfValues x i) l) where
+  -- the start stands the job's slots before its end
+  pub start-by-end : startOf (flowFrom x) i + l .slots ≡ e
+  start-by-end = omega (arith, at-end, el .slots, ap duration (job-at x i h), end-is-start-plus-duration (flowFrom x) i)
+
+  pub last-by-values : l .last ≡ lastTake (jobOf (flowFrom x) i)
+  last-by-values = el .last ∙ ap lastTake (sym (job-at x i h))
+
+-- ---- what the ranges give of one job
+last-take-positive : (j : Job) → 1 ≤ j .size → 1 ≤ j .cap → 1 ≤ lastTake j
+unfolding lastTake
+last-take-positive j some pos = omega (arith, size-left j pos (duration j - 1) (omega (arith, duration-positive j pos some)))
+
+module _ (x : FlowJobs) (input : ChainInput x) where
+  pub sized-of : Sized (flowFrom x)
+  sized-of =
+      record {
+        size-positive = λ i h. let l : i < x .count = omega (arith, h, count-of x) in rw (job-at x i l) (input .size-least i l);
+        cap-positive = λ i h. let l : i < x .count = omega (arith, h, count-of x) in rw (job-at x i l) (input .cap-least i l);
+      }
+
+  module _ (i : ℕ) (h : i < x .count) where
+    pub cap-at : getD (x .cap) i 0 ≡ jobOf (flowFrom x) i .cap
+    cap-at = rw (job-at x i h) refl
+
+    pub starts-before-end : startOf (flowFrom x) i < endOf (flowFrom x) i
+    starts-before-end =
+        let l : i < jobCount (flowFrom x) = rw (count-of x) h in
+        omega (
+          arith,
+          end-is-start-plus-duration (flowFrom x) i,
+          duration-positive (jobOf (flowFrom x) i) (sized-of .cap-positive i l) (sized-of .size-positive i l),
+        )
+
+    pub last-some : 1 ≤ lastTake (jobOf (flowFrom x) i)
+    last-some =
+        let l : i < jobCount (flowFrom x) = rw (count-of x) h in
+        last-take-positive (jobOf (flowFrom x) i) (sized-of .size-positive i l) (sized-of .cap-positive i l)
+
+    pub take-most : (u : ℕ) → takeOf (flowFrom x) i u ≤ 4096
+    take-most u =
+        omega (arith, take-within-cap (flowFrom x) i (omega (arith, cap-at, input .cap-least i h)) u, cap-at, input .cap-most i h)
+
+  -- a rate of n jobs
+  pub rate-most : (n t : ℕ) → n ≤ x .count → sumTo (λ i. takeOf (flowFrom x) i t) n ≤ 4096 * n
+  rate-most n t h = sum-le (λ i. takeOf (flowFrom x) i t) 4096 n (λ i l. take-most i (omega arith) t)

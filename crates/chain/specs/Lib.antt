@@ -1,0 +1,3 @@
+-- The definitions that the contracts of `chain` cite.
+pub mod Jobs
+pub mod Runs

@@ -1,0 +1,98 @@
+// Prints the chains of three flows: one with 2 × n pseudo-jobs, one with the longest path, and one where the takes
+// change and the rate does not. A line has a pseudo-job's first ideal slot, its width, its rate and its takes.
+ghost use Prim.Native.Nat.{_≤_};
+ghost use Rattle.chain.specs.Jobs.{ChainInput};
+use book::FlowJobs;
+use chain::Run;
+use libc::STDOUT_FILENO;
+
+fn print_number(name: &[u8], n: u64) {
+    io::write_all(STDOUT_FILENO, name);
+    io::print_decimal(STDOUT_FILENO, n);
+}
+
+fn print_take(job: usize, take: u32) {
+    if take == 0 {
+        return;
+    }
+    print_number(b" job ", job as u64);
+    print_number(b" take ", take as u64);
+}
+
+fn print_run(first: u32, run: Run, count: usize)
+    requires { ⌜ count ≤ 64 ⌝ }
+{
+    print_number(b"first ", first as u64);
+    print_number(b" width ", run.width as u64);
+    print_number(b" rate ", run.rate as u64);
+    let mut i: usize = 0;
+    while i < count {
+        print_take(i, run.takes[i]);
+        i = i + 1;
+    }
+    io::write_all(STDOUT_FILENO, b"\n");
+}
+
+// The walk from cut to cut.
+fn print_chain(jobs: FlowJobs)
+    requires { ⌜ ChainInput jobs ⌝ }
+{
+    let ideal = chain::ideal_of(jobs);
+    let count = jobs.count;
+    let path = ideal.path;
+    print_number(b"path ", path as u64);
+    io::write_all(STDOUT_FILENO, b"\n");
+    let mut t: u32 = 0;
+    while t < path {
+        let run = chain::run_at(jobs, ideal, t);
+        print_run(t, run, count);
+        t = t + run.width;
+    }
+}
+
+// A flow of jobs of one size and cap, each after the one before.
+fn in_a_row(count: usize, size: u32, cap: u32) -> FlowJobs
+    requires { ⌜ (count ≤ 64) × (1 ≤ size) × (size ≤ 1000000) × (1 ≤ cap) × (cap ≤ 4096) ⌝ }
+    ensures { λ r. ⌜ ChainInput r ⌝ }
+{
+    let mut predecessors = [0u64; 64];
+    let mut i: usize = 1;
+    while i < count {
+        predecessors[i] = 1u64 << (i - 1);
+        i = i + 1;
+    }
+    FlowJobs {
+        deadline: 4096,
+        count,
+        size: [size; 64],
+        cap: [cap; 64],
+        predecessors,
+    }
+}
+
+// Job 2 begins where job 0 has ended and job 1 takes one less: from slot 0 to slot 1 the rate stays 4.
+fn equal_rates() -> FlowJobs
+    ensures { λ r. ⌜ ChainInput r ⌝ }
+{
+    let mut size = [1u32; 64];
+    size[1] = 5;
+    size[2] = 4;
+    let mut cap = [1u32; 64];
+    cap[1] = 3;
+    cap[2] = 2;
+    let mut predecessors = [0u64; 64];
+    predecessors[2] = 1;
+    FlowJobs {
+        deadline: 3,
+        count: 3,
+        size,
+        cap,
+        predecessors,
+    }
+}
+
+fn main() {
+    print_chain(in_a_row(5, 3, 2));
+    print_chain(in_a_row(64, 1000000, 1));
+    print_chain(equal_rates());
+}

@@ -1,0 +1,49 @@
+-- Demand 3 on values: what a plan of a book in range guarantees, and what its refusal proves. The theorems are stated of the rules' own `plan`;
+-- validity is proved in PlannedValid, the refusal and the quote in Infeasible. Assumes nothing.
+use mathlib.Core.Path.{_≡_}
+use Prim.Native.Nat.{ℕ, suc, _+_, _*_, _/_, _≤_, _<_}
+use mathlib.Core.List.{List}
+use native.Mathlib.Omega.{arith}
+use Rattle.rules.specs.Book.{Book, flowCount, flowOf, InRange}
+use Rattle.rules.specs.Ideal.{path}
+use Rattle.rules.specs.Rows.{Row, finishOf}
+use Rattle.rules.specs.Schedule.{Schedule, everyFlow, Valid, EndsBy, scheduleOf}
+use Rattle.rules.specs.Placing.{planned, infeasible, placeFirst, plan}
+use Rattle.rules.specs.Demands.{PlannedWell, NoneOnTime}
+use Rattle.rules.proofs.Greedy.{unitsLeftAt}
+use Rattle.rules.proofs.Necessity.{worksUpTo}
+use Rattle.rules.proofs.RowSums.{finish-ends}
+use Rattle.rules.proofs.PlannedRows.{servedAt, servedFlow, freeFor, placing-stops}
+use Rattle.rules.proofs.PlannedValid.{all-placed, planned-valid, first-within-twice, first-finish-within-twice}
+use Rattle.rules.proofs.Infeasible.{stopped-proves, quote-at, first-finish-within-quote}
+
+-- "their rows are a valid schedule of them .. and each ends within twice its deadline"
+pub planned-well : (b : Book) → InRange b → (rows : List Row) → plan b ≡ planned rows → PlannedWell b rows
+planned-well b range rows e = record {
+  valid = planned-valid b range rows e;
+  within-twice = λ f l. first-within-twice b range (flowCount b) rows (omega arith) (all-placed b range rows e) f;
+}
+
+-- each finish, the flow's last used slot plus 1, is within twice its deadline
+pub planned-finish-within-twice : (b : Book) → InRange b → (rows : List Row) → plan b ≡ planned rows → (f : ℕ) → finishOf rows f ≤ 2 * flowOf b f .deadline
+planned-finish-within-twice b range rows e = first-finish-within-twice b range (flowCount b) rows (omega arith) (all-placed b range rows e)
+
+-- "no whole-slot schedule of that flow and those before it, whoever made it, keeps the same rules and ends each of them by its own deadline"
+pub infeasible-proves : (b : Book) → InRange b → (f : ℕ) → plan b ≡ infeasible f → (f < flowCount b) × NoneOnTime b f
+infeasible-proves b range f e = stopped-proves b range f (placing-stops b (flowCount b) f (unfold plan in e))
+
+-- a plan without late flows is a schedule on time: what a refusal denies can be had
+pub on-time-plan : (b : Book) → InRange b → (rows : List Row) → plan b ≡ planned rows →
+    ((f : ℕ) → f < flowCount b → finishOf rows f ≤ flowOf b f .deadline) →
+    (σ : Schedule) × Valid b everyFlow σ × ((f : ℕ) → f < flowCount b → EndsBy σ f (flowOf b f .deadline))
+on-time-plan b range rows e h = (scheduleOf rows, planned-valid b range rows e, λ f l. finish-ends rows f (flowOf b f .deadline) (h f l))
+
+-- the flow at place n of the service order, while work of it is left: fewer slots have passed than its path and the area of the flows up to it
+pub quote : (b : Book) → InRange b → (n : ℕ) (earlier : List Row) → n < flowCount b → placeFirst b n ≡ planned earlier → (t : ℕ) →
+    0 < unitsLeftAt (servedFlow b n) (freeFor b n) t → t < path (servedFlow b n) + worksUpTo (servedFlow b) (suc n) / b .processors
+quote b range = quote-at b range
+
+-- so its finish is within that
+pub planned-finish-within-quote : (b : Book) → InRange b → (rows : List Row) → plan b ≡ planned rows → (n : ℕ) → n < flowCount b →
+    finishOf rows (servedAt b n) ≤ path (servedFlow b n) + worksUpTo (servedFlow b) (suc n) / b .processors
+planned-finish-within-quote b range rows e n l = first-finish-within-quote b range (flowCount b) rows (omega arith) (all-placed b range rows e) n l

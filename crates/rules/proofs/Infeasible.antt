@@ -1,0 +1,149 @@
+-- A book that rule 6 calls infeasible: no schedule of the flow named and those before it is on time, whoever made it.
+-- The refusal over sequences of flows is read with the flows in service order; flows that differ share the processors of a slot, so a schedule
+-- of the book is one of the sequence. The same bound, divided by P, says when a planned flow ends at the latest. Assumes nothing.
+use mathlib.Core.Path.{_≡_, refl, ap, _∙_}
+use Prim.Native.Nat.{ℕ, suc, _+_, _-_, _/_, _≤_, _<_}
+use mathlib.Core.Bool.{Bool, true, false, _||_}
+use mathlib.Core.List.{List, []}
+use mathlib.Core.Logic.{_⊎_, inl, inr}
+use native.Mathlib.Nat.{le-trans}
+use native.Mathlib.Omega.{arith}
+use lib.Dec.{eqb}
+use borrow.Author.Tests.{eq-eqb}
+use Rattle.rules.specs.Walks.{sumTo}
+use Rattle.rules.specs.Book.{Book, flowCount, jobCount, flowOf, InRange}
+use Rattle.rules.specs.Ideal.{path}
+use Rattle.rules.specs.Service.{servedBefore}
+use Rattle.rules.specs.Rows.{Row, usedIn, finishOf}
+use Rattle.rules.specs.Schedule.{Schedule, IsJob, inUse, Valid, EndsBy, scheduleOf}
+use Rattle.rules.specs.Placing.{progress, freeProcessors, slotsFor, planned, placeFirst, rowsOf}
+use Rattle.rules.specs.Demands.{upTo, NoneOnTime}
+use Rattle.rules.proofs.Division.{lt-or-ge}
+use Rattle.rules.proofs.Sums.{count-all, sum-quiet, sum-distinct}
+use Rattle.rules.proofs.Walks.{last-or}
+use Rattle.rules.proofs.PseudoJobs.{chain-live}
+use Rattle.rules.proofs.ServiceOrder.{service-below, service-sorted, service-once, service-deadlines}
+use Rattle.rules.proofs.Greedy.{unitsLeftAt, something-left, nothing-left}
+use Rattle.rules.proofs.Necessity.{Keeps, CompleteBy, worksUpTo, OnTime}
+use Rattle.rules.proofs.Refusal.{refusal, quote-bound}
+use Rattle.rules.proofs.RowSums.{ends-finish}
+use Rattle.rules.proofs.PlacedFlow.{shareTo}
+use Rattle.rules.proofs.PlannedRows.{servedAt, servedFlow, freeFor, plannedShare, Stopped, placed-earlier, states-share, states-none-of-flow}
+use Rattle.rules.proofs.PlannedValid.{sized-at, used-within-work, first-rows-fit}
+
+-- every slot is usable
+abbrev pub everySlot : ℕ → Bool
+everySlot t = true
+
+module _ (b : Book) (range : InRange b) where
+  -- the processors free for the flow at a place, and those that the flows before it use, are P
+  free-or-used : (n : ℕ) (earlier : List Row) → placeFirst b n ≡ planned earlier → (t : ℕ) → b .processors ≤ usedIn earlier t + freeFor b n t
+  free-or-used n earlier e t =
+      let free : freeFor b n t ≡ b .processors - usedIn earlier t = unfold freeProcessors in ap (λ q. b .processors - usedIn (rowsOf q) t) e in
+      omega arith
+
+  -- ---- a schedule of the flows up to f, at place n, that ends each by its deadline
+  module _ (n f : ℕ) (below : n < flowCount b) (at : servedAt b n ≡ f) (σ : Schedule) (valid : Valid b (upTo b f) σ)
+      (on-time : (g : ℕ) → g < flowCount b → upTo b f g ≡ true → EndsBy σ g (flowOf b g .deadline)) where
+    -- the flows up to place n are those up to f
+    up-to-at : (m : ℕ) → m < suc n → upTo b f (servedAt b m) ≡ true
+    up-to-at m l = last-or m n l (λ q. here (servedAt b m) (ap (servedAt b) q ∙ at)) (λ k. earlier (servedAt b m) (rw at at (service-sorted b m n k below)))
+      where
+        here : (g : ℕ) → g ≡ f → (eqb g f || servedBefore b g f) ≡ true
+        here g q = rw (eq-eqb g f q) refl
+
+        earlier : (g : ℕ) → servedBefore b g f ≡ true → (eqb g f || servedBefore b g f) ≡ true
+        earlier g q = go (eqb g f)
+          where
+            go : (c : Bool) → (c || servedBefore b g f) ≡ true
+            go true = refl
+            go false = q
+
+    is-job : (m i : ℕ) → m < suc n → i < jobCount (servedFlow b m) → IsJob b (upTo b f) (servedAt b m) i
+    is-job m i l a = record { flow-among = up-to-at m l; flow-in = service-below b m (omega arith); job-in = a }
+
+    keeps-rules : (m : ℕ) → m < suc n → Keeps (servedFlow b m) everySlot (σ (servedAt b m))
+    keeps-rules m l = record {
+      capped = λ i t a. valid .caps (servedAt b m) i t (is-job m i l a);
+      in-usable = λ i t a g. refl;
+      in-order = λ i k t a c q g. omega (arith, valid .precedence (servedAt b m) i k t (is-job m i l a) q g);
+    }
+
+    -- the flows of the sequence differ, so they share what is in use
+    shares-load : (t : ℕ) → sumTo (λ m. sumTo (λ i. σ (servedAt b m) i t) (jobCount (servedFlow b m))) (suc n) ≤ b .processors
+    shares-load t =
+        le-trans
+        (sum-distinct (λ g. sumTo (λ i. σ g i t) (jobCount (flowOf b g))) (servedAt b) (suc n) (flowCount b)
+        (λ k l. service-below b k (omega arith)) (λ j k a c q. service-once b j k (omega arith) (omega arith) q))
+        (unfold inUse in valid .together t)
+
+    ends-complete : (m : ℕ) → m < suc n → CompleteBy (servedFlow b m) (σ (servedAt b m)) (servedFlow b m .deadline)
+    ends-complete m l i a =
+        let quiet : (t : ℕ) → servedFlow b m .deadline ≤ t → σ (servedAt b m) i t ≡ 0 =
+        λ t. (unfold EndsBy in on-time (servedAt b m) (service-below b m (omega arith)) (up-to-at m l) i t) in
+        omega (arith, valid .sizes (servedAt b m) i (is-job m i l a), sum-quiet (σ (servedAt b m) i) (servedFlow b m .deadline) (valid .horizon) quiet)
+
+    pub sequence-on-time : OnTime (b .processors) (suc n) (servedFlow b) (λ m. everySlot) (λ m. servedFlow b m .deadline) (λ m. σ (servedAt b m))
+    sequence-on-time = record { keeps = keeps-rules; load = shares-load; complete = ends-complete }
+
+  -- the flow at place n, with work left after twice its deadline
+  none-on-time : (n : ℕ) (earlier : List Row) → n < flowCount b → placeFirst b n ≡ planned earlier →
+      0 < unitsLeftAt (servedFlow b n) (freeFor b n) (slotsFor (servedFlow b n)) → NoneOnTime b (servedAt b n)
+  unfolding NoneOnTime
+  none-on-time n earlier below e left σ valid on-time =
+      refusal (b .processors) n (servedFlow b) (λ m. everySlot) (freeFor b n) (usedIn earlier) (sized-at b range n below)
+      (λ t q. free-or-used n earlier e t) (used-within-work b range n earlier (omega arith) e)
+      (slotsFor (servedFlow b n)) everySlot (λ m. servedFlow b m .deadline) (λ m t l q. q)
+      (λ m l. service-deadlines b m n (omega arith) below)
+      (omega (arith, count-all (servedFlow b n .deadline), count-all (slotsFor (servedFlow b n)))) left
+      (λ m. σ (servedAt b m)) (sequence-on-time n (servedAt b n) below refl σ valid on-time)
+
+  -- a flow that stops the placing
+  pub stopped-proves : (f : ℕ) → Stopped b (flowCount b) f → (f < flowCount b) × NoneOnTime b f
+  stopped-proves f s =
+      let n = s .place in
+      let left : 0 < unitsLeftAt (servedFlow b n) (freeFor b n) (slotsFor (servedFlow b n)) =
+      something-left (servedFlow b n) (freeFor b n) (chain-live (servedFlow b n) (sized-at b range n (s .place-below))) (slotsFor (servedFlow b n)) (s .not-finished) in
+      (rw (s .served) at (service-below b n (s .place-below)), rw (s .served) at (none-on-time n (s .earlier) (s .place-below) (s .placed-before) left))
+
+  -- ---- the quote
+  -- while work is left: the slots before t are fewer than the path and the area of the flows up to it
+  pub quote-at : (n : ℕ) (earlier : List Row) → n < flowCount b → placeFirst b n ≡ planned earlier → (t : ℕ) →
+      0 < unitsLeftAt (servedFlow b n) (freeFor b n) t → t < path (servedFlow b n) + worksUpTo (servedFlow b) (suc n) / b .processors
+  quote-at n earlier below e t left =
+      omega (
+        arith,
+        count-all t,
+        quote-bound (b .processors) n (servedFlow b) (λ m. everySlot) (freeFor b n) (usedIn earlier) (sized-at b range n below)
+            (λ u q. free-or-used n earlier e u) (used-within-work b range n earlier (omega arith) e) (range .processors-least) t left,
+      )
+
+  -- the slots within which the flow at place n ends at the latest
+  abbrev pub quoteFor : ℕ → ℕ
+  quoteFor n = path (servedFlow b n) + worksUpTo (servedFlow b) (suc n) / b .processors
+
+  module _ (k : ℕ) (rows : List Row) (h : k ≤ flowCount b) (e : placeFirst b k ≡ planned rows) (n : ℕ) (l : n < k) where
+    after-quote : (t : ℕ) → quoteFor n ≤ t → progress (servedFlow b n) (freeFor b n) t .left ≡ []
+    after-quote t c = go (lt-or-ge 0 (unitsLeftAt (servedFlow b n) (freeFor b n) t))
+      where
+        go : (0 < unitsLeftAt (servedFlow b n) (freeFor b n) t) ⊎ (unitsLeftAt (servedFlow b n) (freeFor b n) t ≤ 0) → progress (servedFlow b n) (freeFor b n) t .left ≡ []
+        go (inl left) = let p = placed-earlier b k rows e n l in absurd (omega (arith, quote-at n (p .0) (omega arith) (p .1) t left))
+        go (inr none) = nothing-left (servedFlow b n) (freeFor b n) (chain-live (servedFlow b n) (sized-at b range n (omega arith))) t (omega arith)
+
+    ends-by-quote : EndsBy (scheduleOf rows) (servedAt b n) (quoteFor n)
+    unfolding EndsBy
+    ends-by-quote i t c = go (lt-or-ge t (slotsFor (servedFlow b n))) (lt-or-ge i (jobCount (servedFlow b n)))
+      where
+        none : plannedShare b n i t ≡ 0
+        none = rw (after-quote t c) (unfold shareTo in refl)
+
+        go : (t < slotsFor (servedFlow b n)) ⊎ (slotsFor (servedFlow b n) ≤ t) → (i < jobCount (servedFlow b n)) ⊎ (jobCount (servedFlow b n) ≤ i) → scheduleOf rows (servedAt b n) i t ≡ 0
+        go (inl d) (inl a) = states-share b k rows e h n i t l a d ∙ none
+        go (inl d) (inr a) = states-none-of-flow b k rows e h n i t l (λ x y. omega arith)
+        go (inr d) o = states-none-of-flow b k rows e h n i t l (λ x y. omega arith)
+
+    -- a finish within the quote
+    pub first-finish-within-quote : finishOf rows (servedAt b n) ≤ quoteFor n
+    first-finish-within-quote =
+        ends-finish rows (servedAt b n) (quoteFor n)
+        (λ r m. first-rows-fit b range k rows h e r m .processors-least) ends-by-quote

@@ -1,0 +1,103 @@
+-- Lists in strictly rising order, over any order of their elements: each element comes before all that stand after it.
+-- Lists that are joined rise where each of them rises and its elements come before those of the later ones. Two rising lists with the same
+-- elements are equal: the first of each is in the other, so neither can come before the other. Assumes nothing.
+use mathlib.Core.Path.{_≡_, refl, sym, _∙_, subst}
+use mathlib.Core.Logic.{_⊎_, inl, inr, ⊎-elim}
+use Prim.Native.Nat.{ℕ, zero, suc, _+_, _<_}
+use native.Mathlib.Nat.{not-suc-le-zero, lt-suc-self}
+use native.Mathlib.Omega.{arith}
+use mathlib.Core.List.{List, [], _∷_, _++_, List·Memᴰ, List·Memᴰ·head, List·Memᴰ·tail, List·Memᴰ·not-nil, List·Memᴰ·cases-cons, List·Memᴰ·append-cases, Memᴰ·append-left, Memᴰ·append-right}
+use lib.ListN.{length, getD}
+use Rattle.rules.specs.Walks.{joinFrom}
+use Rattle.rules.proofs.Walks.{last-or, join-last}
+
+-- x is an element of a list
+infix 20 _∈_
+abbrev pub _∈_ : {A : Type 0} → A → List A → Type 0
+x ∈ xs = List·Memᴰ x xs
+
+-- ---- elements
+pub first-in : {A : Type 0} (x : A) (xs : List A) → x ∈ x ∷ xs
+first-in x xs = List·Memᴰ·head refl
+
+pub at-in : {A : Type 0} (xs : List A) (k : ℕ) (d : A) → k < length xs → getD xs k d ∈ xs
+at-in [] k d h = absurd (not-suc-le-zero h)
+at-in (x ∷ xs) zero d h = first-in x xs
+at-in (x ∷ xs) (suc k) d h = List·Memᴰ·tail (at-in xs k d (omega arith))
+
+-- where an element stands
+pub in-at : {A : Type 0} {x : A} {xs : List A} (d : A) → x ∈ xs → (k : ℕ) × (k < length xs) × (getD xs k d ≡ x)
+in-at d (List·Memᴰ·head e) = (0, omega arith, sym e)
+in-at d (List·Memᴰ·tail m) = let w = in-at d m in (suc (w .0), omega (arith, w .1), w .2)
+
+-- ---- lists joined from 0 on
+pub join-in : {A : Type 0} (g : ℕ → List A) (n : ℕ) {x : A} → x ∈ joinFrom g n 0 → (k : ℕ) × (k < n) × (x ∈ g k)
+unfolding joinFrom
+join-in g zero m = absurd (List·Memᴰ·not-nil m)
+join-in g (suc n) {x} m = go (List·Memᴰ·append-cases (joinFrom g n 0) (subst (λ l. x ∈ l) (join-last g n) m)) (join-in g n)
+  where
+    go : (x ∈ joinFrom g n 0) ⊎ (x ∈ g n) → (x ∈ joinFrom g n 0 → (k : ℕ) × (k < n) × (x ∈ g k)) → (k : ℕ) × (k < suc n) × (x ∈ g k)
+    go (inl l) ih = let w = ih l in (w .0, omega (arith, w .1), w .2)
+    go (inr r) ih = (n, lt-suc-self n, r)
+
+pub in-join : {A : Type 0} (g : ℕ → List A) (n k : ℕ) {x : A} → k < n → x ∈ g k → x ∈ joinFrom g n 0
+in-join g zero k l m = absurd (not-suc-le-zero l)
+in-join g (suc n) k {x} l m =
+    subst (λ xs. x ∈ xs) (sym (join-last g n))
+    (last-or k n l
+    (λ e. Memᴰ·append-right (joinFrom g n 0) (subst (λ j. x ∈ g j) e m))
+    (λ b. Memᴰ·append-left (g n) (in-join g n k b m)))
+
+-- ---- rising lists
+module _ {A : Type 0} (Before : A → A → Type 0) where
+  -- each element comes before all that stand after it
+  unfoldable pub Rising : List A → Type 0
+  Rising [] = Unit
+  Rising (x ∷ xs) = ((y : A) → y ∈ xs → Before x y) × Rising xs
+
+  pub rising-append : (xs ys : List A) → Rising xs → Rising ys → ((x y : A) → x ∈ xs → y ∈ ys → Before x y) → Rising (xs ++ ys)
+  unfolding Rising
+  rising-append [] ys p q h = q
+  rising-append (x ∷ xs) ys p q h = (
+    λ y m. ⊎-elim (λ l. p .0 y l) (λ r. h x y (first-in x xs) r) (List·Memᴰ·append-cases xs m),
+    rising-append xs ys (p .1) q (λ z y l r. h z y (List·Memᴰ·tail l) r),
+  )
+
+  pub rising-after : (xs ys : List A) → Rising (xs ++ ys) → Rising ys
+  unfolding Rising
+  rising-after [] ys p = p
+  rising-after (x ∷ xs) ys p = rising-after xs ys (p .1)
+
+  pub rising-join : (g : ℕ → List A) (n : ℕ) → ((k : ℕ) → k < n → Rising (g k)) →
+      ((j k : ℕ) → j < k → k < n → (x y : A) → x ∈ g j → y ∈ g k → Before x y) → Rising (joinFrom g n 0)
+  unfolding Rising joinFrom
+  rising-join g zero each across = tt
+  rising-join g (suc n) each across =
+      subst Rising (sym (join-last g n))
+      (rising-append (joinFrom g n 0) (g n)
+      (rising-join g n (λ k l. each k (omega arith)) (λ j k l m. across j k l (omega arith)))
+      (each n (lt-suc-self n))
+      (λ x y l r. let w = join-in g n l in across (w .0) n (w .1) (lt-suc-self n) x y (w .2) r))
+
+  module _ (asymmetric : (x y : A) → Before x y → Before y x → ⊥) where
+    pub rising-unique : (xs ys : List A) → Rising xs → Rising ys → ((z : A) → z ∈ xs → z ∈ ys) → ((z : A) → z ∈ ys → z ∈ xs) → xs ≡ ys
+    unfolding Rising
+    rising-unique [] [] p q to from = refl
+    rising-unique [] (y ∷ ys) p q to from = absurd (List·Memᴰ·not-nil (from y (first-in y ys)))
+    rising-unique (x ∷ xs) [] p q to from = absurd (List·Memᴰ·not-nil (to x (first-in x xs)))
+    rising-unique (x ∷ xs) (y ∷ ys) p q to from =
+        let same = firsts (List·Memᴰ·cases-cons (to x (first-in x xs))) (List·Memᴰ·cases-cons (from y (first-in y ys))) in
+        let rest = rising-unique xs ys (p .1) (q .1)
+        (λ z m. beyond (p .0) same m (List·Memᴰ·cases-cons (to z (List·Memᴰ·tail m))))
+        (λ z m. beyond (q .0) (sym same) m (List·Memᴰ·cases-cons (from z (List·Memᴰ·tail m)))) in
+        rw (same, rest) refl
+      where
+        firsts : (x ≡ y) ⊎ (x ∈ ys) → (y ≡ x) ⊎ (y ∈ xs) → x ≡ y
+        firsts (inl e) o = e
+        firsts (inr m) (inl e) = sym e
+        firsts (inr m) (inr l) = absurd (asymmetric x y (p .0 y l) (q .0 x m))
+
+        -- what stands after the first one is not the first one
+        beyond : {u v z : A} {us vs : List A} → ((w : A) → w ∈ us → Before u w) → u ≡ v → z ∈ us → (z ≡ v) ⊎ (z ∈ vs) → z ∈ vs
+        beyond {u} {v} {z} h e m (inl d) = let b : Before u u = subst (λ w. Before u w) (d ∙ sym e) (h z m) in absurd (asymmetric u u b b)
+        beyond h e m (inr l) = l

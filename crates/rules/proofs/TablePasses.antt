@@ -1,0 +1,180 @@
+-- What the table check tests, as facts: of each row, of the totals and of the finishes, and the other way round.
+-- Each test of a chain of refusals is taken apart by `test-passed`, each walk by `fault-pass`; where the facts hold, every test passes.
+-- Assumes nothing.
+use mathlib.Core.Path.{_≡_, refl, sym}
+use mathlib.Core.Bool.{Bool, true, false, _&&_, true≢false}
+use Prim.Native.Nat.{ℕ, _+_, _≤_, _<_}
+use native.Mathlib.Omega.{arith}
+use mathlib.Core.List.{List}
+use lib.ListN.{length, take, getD}
+use lib.Dec.{eqb}
+use borrow.Author.Tests.{ltb-false, leb-false, eqb-false, eqb-true, le-ltb, lt-leb, eq-eqb, ne-eqb, not-false}
+use Rattle.rules.specs.declared.Verdict.{Verdict}
+use Rattle.rules.specs.declared.Verdict.the-variants.{Pass, Refused}
+use Rattle.rules.specs.Walks.{if_then_else_}
+use Rattle.rules.specs.Answers.{none, _andThen_, firstFault}
+use Rattle.rules.specs.Limits.{slots}
+use Rattle.rules.specs.Book.{Book, flowCount, jobCount, flowOf, jobOf, precedes}
+use Rattle.rules.specs.Rows.{Row, usedIn, totalOf, doneBefore, finishOf}
+use Rattle.rules.specs.Check.{noRow, rises, lacksPredecessor, rowFault, totalFault, statedFinish, finishFault, tableRows, tableHeadFault, tableFault}
+use Rattle.rules.proofs.Walks.{any-none, any-false}
+use Rattle.rules.proofs.Faults.{not-pass, both-pass, fault-pass, all-pass}
+use Rattle.rules.proofs.Passing.{test-passed, neither-true}
+
+-- ---- a row
+-- each predecessor of the row's job has its size in earlier slots, by the rows so far
+unfoldable pub PredecessorsDone : Book → List Row → Row → Type 0
+PredecessorsDone b soFar r =
+    (k : ℕ) → k < r .job → precedes (flowOf b (r .flow)) k (r .job) ≡ true →
+    jobOf (flowOf b (r .flow)) k .size ≤ doneBefore soFar (r .flow) k (r .slot)
+
+-- row r, after the rows so far, passes 15 to 19
+pub record RowPasses (b : Book) (rows : List Row) (k : ℕ) : Type 0 where
+  pub slot-in : getD rows k noRow .slot < slots
+  pub flow-in : getD rows k noRow .flow < flowCount b
+  pub job-in : getD rows k noRow .job < jobCount (flowOf b (getD rows k noRow .flow))
+  pub takes : 0 < getD rows k noRow .processors
+  pub comes-after : rises b rows k ≡ true
+  pub cap-kept : getD rows k noRow .processors ≤ jobOf (flowOf b (getD rows k noRow .flow)) (getD rows k noRow .job) .cap
+  pub processors-kept : usedIn (take k rows) (getD rows k noRow .slot) + getD rows k noRow .processors ≤ b .processors
+  pub predecessors-done : PredecessorsDone b (take k rows) (getD rows k noRow)
+
+lacks-none : (b : Book) (soFar : List Row) (r : Row) → lacksPredecessor b soFar r ≡ false → PredecessorsDone b soFar r
+unfolding lacksPredecessor PredecessorsDone
+lacks-none b soFar r e k l p =
+    ltb-false (doneBefore soFar (r .flow) k (r .slot)) (jobOf (flowOf b (r .flow)) k .size) (second _ _ p (any-none _ (r .job) e k l))
+  where
+    second : (x y : Bool) → x ≡ true → (x && y) ≡ false → y ≡ false
+    second true y p e = e
+    second false y p e = absurd (true≢false (sym p))
+
+none-lacks : (b : Book) (soFar : List Row) (r : Row) → PredecessorsDone b soFar r → lacksPredecessor b soFar r ≡ false
+unfolding lacksPredecessor PredecessorsDone
+none-lacks b soFar r h =
+    any-false _ (r .job)
+    (λ k l. each (precedes (flowOf b (r .flow)) k (r .job))
+    (λ p. le-ltb (doneBefore soFar (r .flow) k (r .slot)) (jobOf (flowOf b (r .flow)) k .size) (h k l p)))
+  where
+    each : {y : Bool} (x : Bool) → (x ≡ true → y ≡ false) → (x && y) ≡ false
+    each true h = h refl
+    each false h = refl
+
+positive : (n : ℕ) → (n ≡ 0 → ⊥) → 0 < n
+positive n h = omega arith
+
+pub row-passes : (b : Book) (rows : List Row) (k : ℕ) → rowFault b rows k ≡ Pass → RowPasses b rows k
+unfolding rowFault
+row-passes b rows k pass =
+    let r = getD rows k noRow in
+    let place = test-passed _ 15 (r .flow) (r .job) _ pass in
+    let order = test-passed _ 16 (r .flow) (r .job) _ (place .1) in
+    let cap = test-passed _ 17 (r .flow) (r .job) _ (order .1) in
+    let used = test-passed _ 18 (r .flow) (r .job) _ (cap .1) in
+    let done = test-passed _ 19 (r .flow) (r .job) _ (used .1) in
+    let takes = neither-true _ _ (place .0) in
+    let job = neither-true _ _ (takes .0) in
+    let flow = neither-true _ _ (job .0) in
+    record {
+      slot-in = leb-false slots (r .slot) (flow .0);
+      flow-in = leb-false (flowCount b) (r .flow) (flow .1);
+      job-in = leb-false (jobCount (flowOf b (r .flow))) (r .job) (job .1);
+      takes = positive (r .processors) (eqb-false (r .processors) 0 (takes .1));
+      comes-after = not-false (rises b rows k) (order .0);
+      cap-kept = ltb-false (jobOf (flowOf b (r .flow)) (r .job) .cap) (r .processors) (cap .0);
+      processors-kept = ltb-false (b .processors) (usedIn (take k rows) (r .slot) + r .processors) (used .0);
+      predecessors-done = lacks-none b (take k rows) r (done .0);
+    }
+
+pub passes-row : (b : Book) (rows : List Row) (k : ℕ) → RowPasses b rows k → rowFault b rows k ≡ Pass
+unfolding rowFault
+passes-row b rows k p =
+    let r = getD rows k noRow in
+    rw (
+      lt-leb slots (r .slot) (p .slot-in),
+      lt-leb (flowCount b) (r .flow) (p .flow-in),
+      lt-leb (jobCount (flowOf b (r .flow))) (r .job) (p .job-in),
+      ne-eqb (r .processors) 0 (λ e. omega (arith, p .takes)),
+      p .comes-after,
+      le-ltb (jobOf (flowOf b (r .flow)) (r .job) .cap) (r .processors) (p .cap-kept),
+      le-ltb (b .processors) (usedIn (take k rows) (r .slot) + r .processors) (p .processors-kept),
+      none-lacks b (take k rows) r (p .predecessors-done),
+    ) refl
+
+-- ---- all rows, and the totals
+pub record RowsPass (b : Book) (rows : List Row) : Type 0 where
+  pub each-row : (k : ℕ) → k < length rows → RowPasses b rows k
+  pub totals : (f i : ℕ) → f < flowCount b → i < jobCount (flowOf b f) → totalOf rows f i ≡ jobOf (flowOf b f) i .size
+
+-- ---- the table
+pub record TablePasses (b : Book) (s : List ℕ) : Type 0 where
+  pub head-passes : tableHeadFault b s ≡ Pass
+  pub rows-pass : RowsPass b (tableRows b s)
+  pub finishes : (f : ℕ) → f < flowCount b → statedFinish s f ≡ finishOf (tableRows b s) f
+
+-- a test that has to hold
+must-hold : (t : Bool) (n f j : ℕ) → (if t then Pass else Refused n f j) ≡ Pass → t ≡ true
+must-hold true n f j e = refl
+must-hold false n f j e = not-pass n f j e
+
+total-passes : (b : Book) (rows : List Row) (f i : ℕ) → totalFault b rows f i ≡ Pass → totalOf rows f i ≡ jobOf (flowOf b f) i .size
+unfolding totalFault
+total-passes b rows f i pass =
+    eqb-true (totalOf rows f i) (jobOf (flowOf b f) i .size)
+    (must-hold (eqb (totalOf rows f i) (jobOf (flowOf b f) i .size)) 20 f i pass)
+
+passes-total : (b : Book) (rows : List Row) (f i : ℕ) → totalOf rows f i ≡ jobOf (flowOf b f) i .size → totalFault b rows f i ≡ Pass
+unfolding totalFault
+passes-total b rows f i e = rw (eq-eqb (totalOf rows f i) (jobOf (flowOf b f) i .size) e) refl
+
+finish-passes : (s : List ℕ) (rows : List Row) (f : ℕ) → finishFault s rows f ≡ Pass → statedFinish s f ≡ finishOf rows f
+unfolding finishFault
+finish-passes s rows f pass = eqb-true (statedFinish s f) (finishOf rows f) (must-hold (eqb (statedFinish s f) (finishOf rows f)) 21 f none pass)
+
+passes-finish : (s : List ℕ) (rows : List Row) (f : ℕ) → statedFinish s f ≡ finishOf rows f → finishFault s rows f ≡ Pass
+unfolding finishFault
+passes-finish s rows f e = rw (eq-eqb (statedFinish s f) (finishOf rows f) e) refl
+
+module _ (b : Book) (s : List ℕ) where
+  abbrev rows : List Row
+  rows = tableRows b s
+
+  abbrev rowsFault : Verdict
+  rowsFault = firstFault (rowFault b rows) (length rows)
+
+  abbrev jobFaults : ℕ → Verdict
+  jobFaults f = firstFault (totalFault b rows f) (jobCount (flowOf b f))
+
+  abbrev totalsFault : Verdict
+  totalsFault = firstFault jobFaults (flowCount b)
+
+  abbrev finishesFault : Verdict
+  finishesFault = firstFault (finishFault s rows) (flowCount b)
+
+  -- a table that is not turned down
+  pub table-passes : tableFault b s ≡ Pass → TablePasses b s
+  unfolding tableFault
+  table-passes pass =
+      let head = both-pass (tableHeadFault b s) (rowsFault andThen totalsFault andThen finishesFault) pass in
+      let walk = both-pass rowsFault (totalsFault andThen finishesFault) (head .1) in
+      let ends = both-pass totalsFault finishesFault (walk .1) in
+      record {
+        head-passes = head .0;
+        rows-pass = record {
+          each-row = λ k l. row-passes b rows k (fault-pass (rowFault b rows) (length rows) (walk .0) k l);
+          totals = λ f i l m.
+              total-passes b rows f i
+              (fault-pass (totalFault b rows f) (jobCount (flowOf b f)) (fault-pass jobFaults (flowCount b) (ends .0) f l) i m);
+        };
+        finishes = λ f l. finish-passes s rows f (fault-pass (finishFault s rows) (flowCount b) (ends .1) f l);
+      }
+
+  pub passes-table : TablePasses b s → tableFault b s ≡ Pass
+  unfolding tableFault
+  passes-table p =
+      rw (
+        p .head-passes,
+        all-pass (rowFault b rows) (length rows) (λ k l. passes-row b rows k (p .rows-pass .each-row k l)),
+        all-pass jobFaults (flowCount b)
+            (λ f l. all-pass (totalFault b rows f) (jobCount (flowOf b f)) (λ i m. passes-total b rows f i (p .rows-pass .totals f i l m))),
+        all-pass (finishFault s rows) (flowCount b) (λ f l. passes-finish s rows f (p .finishes f l)),
+      ) refl
