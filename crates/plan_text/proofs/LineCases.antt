@@ -1,6 +1,7 @@
 -- Laws of the lines of an answer: each line by the case that its number and the answer fall under. Assumes nothing.
 use mathlib.Core.Path.{_≡_, refl, sym, ap, subst, _∙_}
 use Prim.Native.Nat.{ℕ, zero, suc, _+_, _*_, _-_, _/_, _≤_, _<_}
+use native.Mathlib.Numerals.{add-one}
 use native.Mathlib.Omega.{arith}
 use mathlib.Core.Bool.{Bool, true, false}
 use mathlib.Core.List.{List, [], _∷_, _++_}
@@ -9,14 +10,14 @@ use lib.Dec.{eqb, leb}
 use borrow.Author.Tests.{eq-eqb, ne-eqb, le-leb, lt-leb}
 use Rattle.rules.specs.declared.PlanAnswer.{PlanAnswer}
 use Rattle.rules.specs.Walks.{if_then_else_, joinFrom}
-use Rattle.rules.proofs.Walks.{join-snoc}
+use Rattle.rules.proofs.Walks.{join-last}
 use Rattle.rules.specs.Fields.{byte, field}
 use Rattle.rules.specs.Rows.{Row}
 use Rattle.rules.specs.Table.{rowLength, rowAt}
 use Rattle.rules.specs.Text.{tableLine, finishLine, rowLine, refusalLine}
 use Rattle.plan_text.specs.Put.{Put, longestLine}
 use Rattle.plan_text.proofs.Pieces.{put-as, put-after, table-line-most, finish-line-most, row-line-most, refusal-line-most}
-use Rattle.plan_text.specs.Lines.{Stands, flowsIn, rowsFrom, tableLineAt, tableLines, lineAt, lineCount, linesFrom}
+use Rattle.plan_text.specs.Lines.{Stands, flowsIn, rowsFrom, tableLineAt, tableLines, lineAt, lineCount, firstLines, textOf}
 
 -- the values read one by one are the row
 pub row-read : (s : List ℕ) (from slot processors : ℕ) → slot ≡ field 2 s from → processors ≡ field 2 s (from + 4) →
@@ -86,17 +87,15 @@ line-most table a n =
     either-most (eqb (a .number) 0) _ _ (table-most table (a .length) (a .late) n) (refusal-line-most (a .number) (a .flow) (a .job))
 
 -- ---- lines put one after the other
-pub fill-none : (table : List ℕ) (a : PlanAnswer) (from : ℕ) {l : List ℕ} → Put l 0 (linesFrom table a (from - from) from) l 0
+pub text-none : (table : List ℕ) (a : PlanAnswer) {l : List ℕ} → Put l 0 (firstLines table a 0) l 0
 unfolding joinFrom
-fill-none table a from {l} = let e : from - from ≡ 0 = omega arith in rw e (record { stored = refl; place-after = refl })
+text-none table a = record { stored = refl; place-after = refl }
 
-pub fill-more : (table : List ℕ) (a : PlanAnswer) (from n : ℕ) {l m r : List ℕ} {at next : ℕ} → from ≤ n →
-    Put l 0 (linesFrom table a (n - from) from) m at → Put m at (lineAt table a n) r next → Put l 0 (linesFrom table a (n + 1 - from) from) r next
-fill-more table a from n h p q =
-    let e : from + (n - from) ≡ n = omega arith in
-    let more : suc (n - from) ≡ n + 1 - from = omega arith in
-    put-as
-    (ap (λ (k : ℕ). linesFrom table a (n - from) from ++ lineAt table a k) (sym e)
-      ∙ sym (join-snoc (λ k. lineAt table a k) (n - from) from)
-      ∙ ap (λ (k : ℕ). linesFrom table a k from) more)
-    (put-after p q)
+pub text-more : (table : List ℕ) (a : PlanAnswer) (n : ℕ) {l m r : List ℕ} {at next : ℕ} →
+    Put l 0 (firstLines table a n) m at → Put m at (lineAt table a n) r next → Put l 0 (firstLines table a (n + 1)) r next
+text-more table a n p q =
+    put-as (sym (join-last (λ k. lineAt table a k) n) ∙ ap (λ (k : ℕ). firstLines table a k) (sym (add-one n))) (put-after p q)
+
+pub text-whole : (table : List ℕ) (a : PlanAnswer) (n : ℕ) → n ≡ lineCount table a → firstLines table a n ≡ textOf table a
+unfolding textOf
+text-whole table a n e = ap (λ (k : ℕ). firstLines table a k) e

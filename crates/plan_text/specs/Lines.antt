@@ -1,8 +1,8 @@
 -- The lines of an answer of the planner, numbered from 0: the one line of a refusal, or those of the table that stands in the output.
 -- Assumes nothing.
 use mathlib.Core.Path.{_≡_}
-use Prim.Native.Nat.{ℕ, _+_, _*_, _-_, _/_, _≤_, _<_}
-use mathlib.Core.List.{List, _++_}
+use Prim.Native.Nat.{ℕ, _+_, _*_, _-_, _/_, _≤_}
+use mathlib.Core.List.{List}
 use lib.ListN.{length}
 use lib.Dec.{eqb, leb}
 use Rattle.rules.specs.declared.PlanAnswer.{PlanAnswer}
@@ -10,7 +10,6 @@ use Rattle.rules.specs.Walks.{if_then_else_, joinFrom}
 use Rattle.rules.specs.Fields.{byte, field}
 use Rattle.rules.specs.Table.{rowLength, rowAt}
 use Rattle.rules.specs.Text.{tableLine, finishLine, rowLine, refusalLine}
-use Rattle.plan_text.specs.Put.{Put}
 
 -- the flows that a table's head states, and where its rows begin
 abbrev pub flowsIn : List ℕ → ℕ
@@ -45,17 +44,10 @@ lineAt table a n = if eqb (a .number) 0 then tableLineAt table (a .length) (a .l
 abbrev pub AnswerStands : List ℕ → PlanAnswer → Type 0
 AnswerStands table a = a .number ≡ 0 → Stands table (a .length)
 
--- the lines of an answer from number `from` on, n of them
-abbrev pub linesFrom : List ℕ → PlanAnswer → ℕ → ℕ → List ℕ
-linesFrom table a n from = joinFrom (λ k. lineAt table a k) n from
+-- the first n lines of an answer, one after the other
+abbrev pub firstLines : List ℕ → PlanAnswer → ℕ → List ℕ
+firstLines table a n = joinFrom (λ k. lineAt table a k) n 0
 
 -- the whole text of an answer
 unfoldable pub textOf : List ℕ → PlanAnswer → List ℕ
-textOf table a = linesFrom table a (lineCount table a) 0
-
--- a buffer filled from its start with the lines from `from` up to, not including, `next`: one at least, and none from `end` on
-pub record Fills (table : List ℕ) (a : PlanAnswer) (from end : ℕ) (before after : List ℕ) (next bytes : ℕ) : Type 0 where
-  pub lines : Put before 0 (linesFrom table a (next - from) from) after bytes
-  pub some : from < next
-  pub none-past : next ≤ end
-  pub within : bytes ≤ length before
+textOf table a = firstLines table a (lineCount table a)

@@ -1,20 +1,14 @@
-// The lines of an answer, read off the table that the planner left, and put into a lent buffer as many at a time as it has room for.
+// The lines of an answer, read off the table that the planner left, and put into a lent buffer.
 ghost use mathlib.Core.Path.{_≡_};
 ghost use Prim.Native.Nat.{ℕ, _+_, _*_, _-_, _≤_, _<_};
 ghost use lib.ListN.{length};
 ghost use Rattle.rules.specs.Table.{rowAt};
 ghost use Rattle.rules.specs.Text.{rowLine};
 ghost use Rattle.plan_text.specs.Put.{Put, longestLine};
-ghost use Rattle.plan_text.specs.Lines.{Stands, AnswerStands, tableLines, tableLineAt, lineCount, lineAt, Fills};
+ghost use Rattle.plan_text.specs.Lines.{Stands, AnswerStands, tableLines, tableLineAt, lineCount, lineAt, textOf};
 
 use book::bytes::{read16, wide};
 use rules::PlanAnswer;
-
-// How far a buffer was filled: with the lines before `next`, which take so many bytes.
-pub struct Filled {
-    pub next: usize,
-    pub bytes: usize,
-}
 
 // The line of the row that stands at `from`.
 pub fn put_row(out: &mut [u8], at: usize, table: &[u8], from: usize) -> usize
@@ -66,19 +60,17 @@ pub fn put_line(out: &mut [u8], at: usize, table: &[u8], answer: PlanAnswer, n: 
     super::put_refusal_line(out, at, answer.number, answer.flow, answer.job)
 }
 
-// The lines from `from` on, as many as the buffer surely has room for, and none from `end` on.
-pub fn put_lines(out: &mut [u8], table: &[u8], answer: PlanAnswer, from: usize, end: usize) -> Filled
-    requires { ⌜ (longestLine ≤ length (now out)) × (AnswerStands (now table) answer) × (from < end) × (end ≤ lineCount (now table) answer) ⌝ }
-    ensures { λ r. ⌜ Fills (now (table .entry)) answer from end (now (out .entry)) (now (out .exit)) (r .next) (r .bytes) ⌝ }
+// The whole text of an answer.
+pub fn put_text(out: &mut [u8], table: &[u8], answer: PlanAnswer) -> usize
+    requires { ⌜ (AnswerStands (now table) answer) × (longestLine * lineCount (now table) answer ≤ length (now out)) ⌝ }
+    ensures { λ r. ⌜ (Put (now (out .entry)) 0 (textOf (now (table .entry)) answer) (now (out .exit)) r) × (r ≤ length (now (out .entry))) ⌝ }
 {
+    let end = line_count(table, answer);
     let mut at: usize = 0;
-    let mut n = from;
+    let mut n: usize = 0;
     while n < end {
-        if out.len() - at < 64 {
-            return Filled { next: n, bytes: at };
-        }
         at = put_line(out, at, table, answer, n);
         n = n + 1;
     }
-    Filled { next: n, bytes: at }
+    at
 }
