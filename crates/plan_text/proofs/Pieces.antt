@@ -1,8 +1,7 @@
--- Laws of pieces of text: pieces put one after the other are one piece, and how long a number is. A list of stores splits where the
--- list does, and each digit but the last comes from the call below. Assumes nothing.
+-- Laws of pieces of text: pieces put one after the other are one piece, a number by its digits, a line by its pieces, and how long they
+-- are. Assumes nothing.
 use mathlib.Core.Path.{_≡_, refl, sym, ap, subst, _∙_}
 use Prim.Native.Nat.{ℕ, zero, suc, _+_, _-_, _/_, _≤_, _<_}
-use native.Mathlib.Nat.{add-zero, add-suc, suc-add}
 use native.Mathlib.Numerals.{add-one}
 use native.Mathlib.Omega.{arith}
 use mathlib.Core.Bool.{Bool, true, false}
@@ -33,14 +32,8 @@ use Rattle.rules.specs.Text.{
   refusalLine,
 }
 use Rattle.rules.specs.Rows.{Row}
+use Rattle.rules.proofs.Fields.{sets-append}
 use Rattle.plan_text.specs.Put.{Put, pairLine, longestLine}
-
--- stores of a, and of b after them, are stores of a ++ b
-pub sets-append : (l : List ℕ) (at : ℕ) (a b : List ℕ) → sets (sets l at a) (at + length a) b ≡ sets l at (a ++ b)
-sets-append l at [] b = ap (λ (k : ℕ). sets l k b) (add-zero at)
-sets-append l at (x ∷ a) b =
-    ap (λ (k : ℕ). sets (sets (set l at x) (suc at) a) k b) (add-suc at (length a) ∙ sym (suc-add at (length a)))
-    ∙ sets-append (set l at x) (suc at) a b
 
 -- a piece put after another: both are one piece
 pub put-after : {l m r a b : List ℕ} {at k next : ℕ} → Put l at a m k → Put m k b r next → Put l at (a ++ b) r next

@@ -2,7 +2,7 @@
 -- lines are cut into these three parts, and each part is what was written into the table. Assumes nothing.
 use mathlib.Core.Path.{_≡_, refl, sym, ap, ap₂, subst, _∙_}
 use Prim.Native.Nat.{ℕ, zero, suc, _+_, _*_, _-_, _/_, _^_, _≤_, _<_}
-use native.Mathlib.Nat.{add-zero, div-one, mod-eq-of-lt}
+use native.Mathlib.Nat.{div-one, mod-eq-of-lt}
 use native.Mathlib.Omega.{arith}
 use mathlib.Core.List.{List, [], _∷_, _++_, append-nil}
 use lib.ListN.{length}
@@ -14,7 +14,7 @@ use Rattle.rules.specs.Placing.{Plan, planned, plan}
 use Rattle.rules.specs.Table.{tableHead, rowLength, tableLength, tableBytes, rowAt}
 use Rattle.rules.specs.Check.{tableRows}
 use Rattle.rules.specs.Text.{tableLine, finishLine, rowLine}
-use Rattle.rules.proofs.Walks.{join-split, join-ext}
+use Rattle.rules.proofs.Walks.{join-split, join-ext, join-moved}
 use Rattle.rules.proofs.Rising.{_∈_}
 use Rattle.rules.proofs.PlannedValid.{planned-rows-fit}
 use Rattle.rules.proofs.Demand3Values.{planned-finish-within-twice}
@@ -22,15 +22,6 @@ use Rattle.rules.proofs.TableBytes.{RowFits, table-bytes-length, table-rows-wri
 use Rattle.plan_text.specs.Lines.{flowsIn, rowsFrom, tableLines, tableLineAt}
 use Rattle.plan_text.specs.Printed.{rowLines, planText}
 use Rattle.plan_text.proofs.LineCases.{line-first, line-finish, line-row}
-
--- a walk that starts elsewhere and meets the same lists
-join-moved : {A : Type 0} (g h : ℕ → List A) (n s u : ℕ) → ((k : ℕ) → k < n → g (s + k) ≡ h (u + k)) → joinFrom g n s ≡ joinFrom h n u
-unfolding joinFrom
-join-moved g h zero s u e = refl
-join-moved g h (suc n) s u e =
-    ap₂ (_++_)
-    (rw (add-zero s, add-zero u) at (e 0 (omega arith)))
-    (join-moved g h n (s + 1) (u + 1) (λ k l. let p : s + 1 + k ≡ s + suc k = omega arith in let q : u + 1 + k ≡ u + suc k = omega arith in rw (p, q) (e (suc k) (omega arith))))
 
 -- the lines of rows that a walk reads
 lines-of-rows : (g : ℕ → Row) (n s : ℕ) → joinFrom (λ k. rowLine (g k)) n s ≡ rowLines (listFrom g n s)

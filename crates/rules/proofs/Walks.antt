@@ -170,3 +170,11 @@ join-length-zero g n = join-length g n 0 ∙ sum-ext (λ k. length (g (0 + k))) 
 -- the last of lists joined from 0 on
 pub join-last {ℓ} : {A : Type ℓ} (g : ℕ → List A) (n : ℕ) → joinFrom g (suc n) 0 ≡ joinFrom g n 0 ++ g n
 join-last g n = join-snoc g n 0 ∙ ap (λ k. joinFrom g n 0 ++ g k) (zero-add n)
+
+-- walks from two starts that meet the same lists
+pub join-moved {ℓ} : {A : Type ℓ} (g h : ℕ → List A) (n s u : ℕ) → ((k : ℕ) → k < n → g (s + k) ≡ h (u + k)) → joinFrom g n s ≡ joinFrom h n u
+unfolding joinFrom
+join-moved g h zero s u e = refl
+join-moved g h (suc n) s u e =
+    let z : g s ≡ h u = rw (add-zero s, add-zero u) at (e 0 (omega arith)) in
+    rw (z, join-moved g h n (s + 1) (u + 1) (λ k l. rw (← next-start s k, ← next-start u k) (e (suc k) (omega arith)))) refl

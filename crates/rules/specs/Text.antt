@@ -1,12 +1,10 @@
 -- The lines that the printing program writes ("The program prints, whole"). Assumes nothing.
-use Prim.Native.Nat.{ℕ, zero, suc, _+_, _*_, _/_, _%_}
+use Prim.Native.Nat.{ℕ, zero, suc, _+_, _/_, _%_}
 use mathlib.Core.List.{List, [], _∷_, _++_}
 use lib.Dec.{ltb}
-use Rattle.rules.specs.declared.PlanAnswer.{PlanAnswer}
-use Rattle.rules.specs.Walks.{if_then_else_, joinFrom}
+use Rattle.rules.specs.Walks.{if_then_else_}
 use Rattle.rules.specs.Fields.{bytesOf}
-use Rattle.rules.specs.Book.{Book, flowCount}
-use Rattle.rules.specs.Rows.{Row, finishOf}
+use Rattle.rules.specs.Rows.{Row}
 
 -- the last digit of a number; `0` is byte 48
 abbrev pub digit : ℕ → ℕ
