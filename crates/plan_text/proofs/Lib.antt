@@ -2,3 +2,4 @@
 pub mod Pieces
 pub mod LineCases
 pub mod TableText
+pub mod PrintedAnswers

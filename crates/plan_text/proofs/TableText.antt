@@ -92,7 +92,7 @@ module _ (b : Book) (range : InRange b) (rows : List Row) (e : plan b ≡ planne
   abbrev table : List ℕ
   table = tableBytes b rows
 
-  flows-in : flowsIn table ≡ flowCount b
+  pub flows-in : flowsIn table ≡ flowCount b
   flows-in = flows-written b rows (omega (arith, range .flows-most))
 
   finishes-read : joinFrom (λ f. finishLine f (field 2 table (8 + 2 * f))) (flowsIn table) 0

@@ -1,8 +1,10 @@
--- What the program prints for an input, by the rules alone: no buffer, table or work area is named. Assumes nothing.
-use Prim.Native.Nat.{ℕ}
+-- What the program prints for an input, by the rules alone: `printed` names no buffer, table or work area. Assumes nothing.
+use mathlib.Core.Path.{_≡_}
+use Prim.Native.Nat.{ℕ, _*_, _≤_}
 use mathlib.Core.List.{List, [], _∷_, _++_}
-use lib.ListN.{length}
+use lib.ListN.{length, take}
 use lib.Dec.{ltb}
+use Rattle.rules.specs.declared.PlanAnswer.{PlanAnswer}
 use Rattle.rules.specs.Walks.{if_then_else_, joinFrom}
 use Rattle.rules.specs.Answers.{none}
 use Rattle.rules.specs.Book.{Book, flowCount}
@@ -11,6 +13,8 @@ use Rattle.rules.specs.Rows.{Row, finishOf, lateFlows}
 use Rattle.rules.specs.Placing.{Plan, planned, infeasible, plan}
 use Rattle.rules.specs.Table.{tableLength}
 use Rattle.rules.specs.Text.{tableLine, finishLine, rowLine, refusalLine}
+use Rattle.plan_text.specs.Put.{longestLine}
+use Rattle.plan_text.specs.Lines.{AnswerStands, lineCount, textOf}
 
 -- one line for each row
 unfoldable pub rowLines : List Row → List ℕ
@@ -38,3 +42,14 @@ readingText (read b) = outcomeText b (plan b)
 -- "an input longer than that is turned down by 1"
 unfoldable pub printed : List ℕ → List ℕ
 printed input = if ltb lentBytes (length input) then refusalLine 1 none none else readingText (readBook input)
+
+-- room for the text of any answer, 64 bytes for each line
+abbrev pub textBytes : ℕ
+textBytes = 720896
+
+-- what an answer leaves to be printed as that text: its table stands at the start of the output, and the lines read off it are the text
+pub record Prints (text output : List ℕ) (a : PlanAnswer) : Type 0 where
+  pub within : a .length ≤ length output
+  pub stands : AnswerStands (take (a .length) output) a
+  pub few : longestLine * lineCount (take (a .length) output) a ≤ textBytes
+  pub whole : textOf (take (a .length) output) a ≡ text
