@@ -1,10 +1,10 @@
 -- Laws of the lines of an answer: each line by the case that its number and the answer fall under. Assumes nothing.
-use mathlib.Core.Path.{_≡_, refl, sym, ap, subst, _∙_}
-use Prim.Native.Nat.{ℕ, zero, suc, _+_, _*_, _-_, _/_, _≤_, _<_}
+use mathlib.Core.Path.{_≡_, refl, sym, ap, _∙_}
+use Prim.Native.Nat.{ℕ, _+_, _*_, _-_, _/_, _≤_, _<_}
 use native.Mathlib.Numerals.{add-one}
 use native.Mathlib.Omega.{arith}
 use mathlib.Core.Bool.{Bool, true, false}
-use mathlib.Core.List.{List, [], _∷_, _++_}
+use mathlib.Core.List.{List}
 use lib.ListN.{length}
 use lib.Dec.{eqb, leb}
 use borrow.Author.Tests.{eq-eqb, ne-eqb, le-leb, lt-leb}
@@ -12,12 +12,11 @@ use Rattle.rules.specs.declared.PlanAnswer.{PlanAnswer}
 use Rattle.rules.specs.Walks.{if_then_else_, joinFrom}
 use Rattle.rules.proofs.Walks.{join-last}
 use Rattle.rules.specs.Fields.{byte, field}
-use Rattle.rules.specs.Rows.{Row}
-use Rattle.rules.specs.Table.{rowLength, rowAt}
+use Rattle.rules.specs.Table.{rowAt}
 use Rattle.rules.specs.Text.{tableLine, finishLine, rowLine, refusalLine}
 use Rattle.plan_text.specs.Put.{Put, longestLine}
 use Rattle.plan_text.proofs.Pieces.{put-as, put-after, table-line-most, finish-line-most, row-line-most, refusal-line-most}
-use Rattle.plan_text.specs.Lines.{Stands, flowsIn, rowsFrom, tableLineAt, tableLines, lineAt, lineCount, firstLines, textOf}
+use Rattle.plan_text.specs.Lines.{Stands, flowsIn, tableLineAt, tableLines, lineAt, lineCount, firstLines, textOf}
 
 -- the values read one by one are the row
 pub row-read : (s : List ℕ) (from slot processors : ℕ) → slot ≡ field 2 s from → processors ≡ field 2 s (from + 4) →

@@ -1,33 +1,32 @@
 -- Every answer of the planner to an input is printed as the rules say: by cases on the reading, the plan and the table's length, where a
 -- refusal is one line and an accepted table's lines are those of the plan. Assumes nothing.
-use mathlib.Core.Path.{_≡_, refl, sym, ap, subst, _∙_}
+use mathlib.Core.Path.{_≡_, refl, sym, ap, _∙_}
 use mathlib.Core.Logic.{_⊎_, inl, inr}
 use Prim.Native.Nat.{ℕ, _+_, _*_, _-_, _≤_, _<_}
 use native.Mathlib.Omega.{arith}
-use mathlib.Core.List.{List, [], _++_, append-nil}
-use lib.ListN.{length, take, drop, length-append, length-drop}
+use mathlib.Core.List.{List, _++_, append-nil}
+use lib.ListN.{length, take, drop, length-append}
 use lib.Seq.{take-at}
-use lib.Dec.{ltb}
-use borrow.Author.Tests.{ltb-false, lt-ltb, le-ltb}
+use borrow.Author.Tests.{lt-ltb, le-ltb}
 use Rattle.rules.specs.declared.PlanAnswer.{PlanAnswer}
-use Rattle.rules.specs.Walks.{if_then_else_, joinFrom}
+use Rattle.rules.specs.Walks.{joinFrom}
 use Rattle.rules.specs.Answers.{none, planAccepted, planRefused}
 use Rattle.rules.specs.Limits.{workBytes}
-use Rattle.rules.specs.Book.{Book, flowCount, InRange}
+use Rattle.rules.specs.Book.{Book, InRange}
 use Rattle.rules.specs.Reading.{Reading, read, unread, readBook}
 use Rattle.rules.specs.Rows.{Row, lateFlows}
 use Rattle.rules.specs.Placing.{Plan, planned, infeasible, plan}
 use Rattle.rules.specs.Table.{tableLength, tableBytes}
-use Rattle.rules.specs.Planner.{PlanOutcome, planOutcome, planReading, planCall}
+use Rattle.rules.specs.Planner.{planOutcome, planReading, planCall}
 use Rattle.rules.specs.Text.{refusalLine}
 use Rattle.rules.proofs.Division.{lt-or-ge}
 use Rattle.rules.proofs.Passing.{read-in-range}
 use Rattle.rules.proofs.TableBytes.{table-bytes-length}
 use Rattle.rules.proofs.AcceptsPlans.{unread-number}
 use Rattle.plan_text.specs.Put.{longestLine}
-use Rattle.plan_text.specs.Lines.{Stands, AnswerStands, tableLines, lineCount, lineAt, firstLines, textOf}
+use Rattle.plan_text.specs.Lines.{Stands, tableLines, lineCount, lineAt, firstLines, textOf}
 use Rattle.plan_text.specs.Printed.{Prints, lentBytes, textBytes, planText, outcomeText, readingText, printed}
-use Rattle.plan_text.proofs.LineCases.{line-of-table, line-of-refusal, count-of-table, count-of-refusal}
+use Rattle.plan_text.proofs.LineCases.{line-of-refusal, count-of-refusal}
 use Rattle.plan_text.proofs.TableText.{flows-in, table-text}
 
 -- a refusal is printed as its one line
@@ -45,6 +44,11 @@ refusal-prints out n f j l =
           ap (λ (k : ℕ). firstLines (take 0 out) a k) (sym count) ∙ append-nil (lineAt (take 0 out) a 0)
           ∙ sym (line-of-refusal (take 0 out) a 0 refused);
     }
+
+-- "an input longer than that is turned down by 1"
+pub long-input-prints : (input out : List ℕ) → lentBytes < length input → Prints (printed input) out (planRefused 1 none none)
+unfolding printed
+long-input-prints input out l = rw (lt-ltb lentBytes (length input) l) (refusal-prints out 1 none none (omega arith))
 
 -- a planned table that fits is printed as the plan's text
 module _ (b : Book) (range : InRange b) (rows : List Row) (e : plan b ≡ planned rows) where
@@ -100,11 +104,7 @@ module _ (out area : List ℕ) (lent : length out ≡ lentBytes) (long : workByt
   reading-prints input (unread n f j) e = refusal-prints out n f j (unread-number input n f j e)
   reading-prints input (read b) e = rw (le-ltb (length area) workBytes long) (outcome-prints b (read-in-range input b e) (plan b) refl)
 
-  -- "an input longer than that is turned down by 1"; any other is answered by the planner
-  pub long-input-prints : (input : List ℕ) → lentBytes < length input → Prints (printed input) out (planRefused 1 none none)
-  unfolding printed
-  long-input-prints input l = rw (lt-ltb lentBytes (length input) l) (refusal-prints out 1 none none (omega arith))
-
+  -- any other input is answered by the planner
   pub call-prints : (input : List ℕ) → length input ≤ lentBytes →
       Prints (printed input) (planCall input out area .output) (planCall input out area .answer)
   unfolding printed planCall

@@ -1,16 +1,15 @@
 -- The lines read off a planned table, in words of the plan: the first line, one for each finish, one for each row. The numbers of the
 -- lines are cut into these three parts, and each part is what was written into the table. Assumes nothing.
-use mathlib.Core.Path.{_≡_, refl, sym, ap, ap₂, subst, _∙_}
-use Prim.Native.Nat.{ℕ, zero, suc, _+_, _*_, _-_, _/_, _^_, _≤_, _<_}
+use mathlib.Core.Path.{_≡_, refl, sym, ap, ap₂, _∙_}
+use Prim.Native.Nat.{ℕ, zero, suc, _+_, _*_, _-_, _/_, _^_, _<_}
 use native.Mathlib.Nat.{div-one, mod-eq-of-lt}
 use native.Mathlib.Omega.{arith}
-use mathlib.Core.List.{List, [], _∷_, _++_, append-nil}
-use lib.ListN.{length}
+use mathlib.Core.List.{List, _++_, append-nil}
 use Rattle.rules.specs.Walks.{listFrom, joinFrom}
 use Rattle.rules.specs.Fields.{byte, field, bytesOf}
 use Rattle.rules.specs.Book.{Book, flowCount, InRange}
 use Rattle.rules.specs.Rows.{Row, finishOf, lateFlows}
-use Rattle.rules.specs.Placing.{Plan, planned, plan}
+use Rattle.rules.specs.Placing.{planned, plan}
 use Rattle.rules.specs.Table.{tableHead, rowLength, tableLength, tableBytes, rowAt}
 use Rattle.rules.specs.Check.{tableRows}
 use Rattle.rules.specs.Text.{tableLine, finishLine, rowLine}
@@ -47,17 +46,17 @@ module _ (t : List ℕ) (bytes late : ℕ) where
   finish-part =
       join-moved lines (λ f. finishLine f (field 2 t (8 + 2 * f))) (flowsIn t) (0 + 1) 0
       (λ k l.
-        let place : 8 + 2 * (0 + k) ≡ 6 + 2 * (0 + 1 + k) = omega arith in
-        let flow : 0 + 1 + k - 1 ≡ 0 + k = omega arith in
-        sym (line-finish t bytes late (0 + 1 + k) (field 2 t (8 + 2 * (0 + k))) (omega arith) (omega arith) (ap (field 2 t) place))
-        ∙ ap (λ (f : ℕ). finishLine f (field 2 t (8 + 2 * (0 + k)))) flow)
+      let place : 8 + 2 * (0 + k) ≡ 6 + 2 * (0 + 1 + k) = omega arith in
+      let flow : 0 + 1 + k - 1 ≡ 0 + k = omega arith in
+      sym (line-finish t bytes late (0 + 1 + k) (field 2 t (8 + 2 * (0 + k))) (omega arith) (omega arith) (ap (field 2 t) place))
+      ∙ ap (λ (f : ℕ). finishLine f (field 2 t (8 + 2 * (0 + k)))) flow)
 
   row-part : joinFrom lines rowCount (0 + (1 + flowsIn t)) ≡ rowLines (listFrom (λ k. rowAt t (rowsFrom t + rowLength * k)) rowCount 0)
   row-part =
       join-moved lines (λ k. rowLine (rowAt t (rowsFrom t + rowLength * k))) rowCount (0 + (1 + flowsIn t)) 0
       (λ k l.
-        let place : 8 + 2 * flowsIn t + 6 * (0 + (1 + flowsIn t) + k - (1 + flowsIn t)) ≡ rowsFrom t + rowLength * (0 + k) = omega arith in
-        sym (line-row t bytes late (0 + (1 + flowsIn t) + k) (flowsIn t) refl (omega arith)) ∙ ap (λ (p : ℕ). rowLine (rowAt t p)) place)
+      let place : 8 + 2 * flowsIn t + 6 * (0 + (1 + flowsIn t) + k - (1 + flowsIn t)) ≡ rowsFrom t + rowLength * (0 + k) = omega arith in
+      sym (line-row t bytes late (0 + (1 + flowsIn t) + k) (flowsIn t) refl (omega arith)) ∙ ap (λ (p : ℕ). rowLine (rowAt t p)) place)
       ∙ lines-of-rows (λ k. rowAt t (rowsFrom t + rowLength * k)) rowCount 0
 
   -- the lines of a table, in their three parts

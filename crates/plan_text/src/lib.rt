@@ -1,21 +1,18 @@
 // The lines of a printed plan, put into a lent buffer. Each line equals its definition; the program only writes the buffer out.
 pub mod lines;
 
-ghost use mathlib.Core.Path.{_≡_};
-ghost use Prim.Native.Nat.{ℕ, _+_, _≤_, _<_};
+ghost use Prim.Native.Nat.{_+_, _≤_, _<_};
 ghost use lib.ListN.{length};
-ghost use lib.Seq.{sets};
 ghost use mathlib.Core.List.{[], _∷_, _++_};
 ghost use Rattle.rules.specs.Text.{
-    digit,
-    digitsOf,
-    decimal,
-    tableLine,
-    finishLine,
-    rowLine,
-    refusalLine,
+  digit,
+  digitsOf,
+  decimal,
+  tableLine,
+  finishLine,
+  rowLine,
+  refusalLine,
 };
-ghost use Rattle.rules.specs.Rows.{Row};
 ghost use Rattle.plan_text.specs.Put.{Put, pairLine, longestLine};
 
 // The last digit of a number.
@@ -99,13 +96,27 @@ pub fn put_finish_line(out: &mut [u8], at: usize, flow: u8, finish: u16) -> usiz
 }
 
 // `slot 0 flow 1 job 0 take 2`
-pub fn put_row_line(out: &mut [u8], at: usize, slot: u16, flow: u8, job: u8, processors: u16) -> usize
+pub fn put_row_line(
+    out: &mut [u8],
+    at: usize,
+    slot: u16,
+    flow: u8,
+    job: u8,
+    processors: u16,
+) -> usize
     requires { ⌜ at + longestLine ≤ length (now out) ⌝ }
     ensures { λ r. ⌜ Put (now (out .entry)) at (rowLine (record { slot = slot; flow = flow; job = job; processors = processors })) (now (out .exit)) r ⌝ }
 {
     let after_slot = put_number(out, at, b"slot ", slot as u32);
     let after_flow = put_number(out, after_slot, b" flow ", flow as u32);
-    put_pair(out, after_flow, b" job ", job as u32, b" take ", processors as u32)
+    put_pair(
+        out,
+        after_flow,
+        b" job ",
+        job as u32,
+        b" take ",
+        processors as u32,
+    )
 }
 
 // `refused 12 flow 0 job 255`
@@ -114,5 +125,12 @@ pub fn put_refusal_line(out: &mut [u8], at: usize, number: u8, flow: u8, job: u8
     ensures { λ r. ⌜ Put (now (out .entry)) at (refusalLine number flow job) (now (out .exit)) r ⌝ }
 {
     let after_number = put_number(out, at, b"refused ", number as u32);
-    put_pair(out, after_number, b" flow ", flow as u32, b" job ", job as u32)
+    put_pair(
+        out,
+        after_number,
+        b" flow ",
+        flow as u32,
+        b" job ",
+        job as u32,
+    )
 }

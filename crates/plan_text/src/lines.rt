@@ -1,13 +1,13 @@
 // The lines of an answer, read off the table that the planner left, and put into a lent buffer.
 ghost use mathlib.Core.Path.{_≡_};
-ghost use Prim.Native.Nat.{ℕ, _+_, _*_, _-_, _≤_, _<_};
+ghost use Prim.Native.Nat.{_+_, _*_, _-_, _≤_, _<_};
 ghost use lib.ListN.{length};
 ghost use Rattle.rules.specs.Table.{rowAt};
 ghost use Rattle.rules.specs.Text.{rowLine};
 ghost use Rattle.plan_text.specs.Put.{Put, longestLine};
 ghost use Rattle.plan_text.specs.Lines.{Stands, AnswerStands, tableLines, tableLineAt, lineCount, lineAt, textOf};
-
-use book::bytes::{read16, wide};
+use book::bytes::read16;
+use book::bytes::wide;
 use rules::PlanAnswer;
 
 // The line of the row that stands at `from`.

@@ -1,10 +1,10 @@
 -- `plan_text::put_digits` meets its contract, by recursion on the digits that may stand before the last, which is the measure: the call
 -- below puts the digits of a tenth, and the last digit comes after them. Assumes nothing.
-use borrow.Author.Needs.{needs}
-use native.Mathlib.Omega.{arith}
 use Prim.Native.Nat.{ℕ, _-_, _/_, _<_}
+use borrow.Author.Needs.{needs}
 use borrow.Fn.Kinds.{In}
 use borrow.Fn.PlainCycle.{Measures, is, falls, and}
+use native.Mathlib.Omega.{arith}
 use Rattle.plan_text.proofs.Pieces.{put-after, put-as, put-length, digits-last, digits-single, digits-more, digits-most}
 use Rattle.plan_text.proofs.put_digits.Reads as put-digits
 use Rattle.plan_text.proofs.put_digits.Kinds as put-digits-kinds

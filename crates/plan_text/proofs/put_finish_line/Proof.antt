@@ -1,30 +1,22 @@
+-- `plan_text::put_finish_line` meets its contract: the pair of its two words is the line. Assumes nothing.
+use borrow.Author.Needs.{needs}
 use Rattle.rules.specs.Fields.{bytesOf}
 use Rattle.plan_text.proofs.Pieces.{put-as, finish-line}
-use native.Mathlib.Omega.{arith}
-use borrow.Author.Needs.{needs}
 use Rattle.plan_text.proofs.put_finish_line.Statement.{statement}
 use Rattle.plan_text.proofs.put_finish_line.Tie as tie
-use Rattle.plan_text.proofs.put_finish_line.Reads as reads
-use Rattle.plan_text.proofs.put_finish_line.Lts as lts
-use Rattle.plan_text.proofs.put_pair.Reads as put-pair-reads
 
--- src/lib.rt:96:23
 slice-aggregate-put-pair : tie.Need-slice-aggregate-put-pair
 slice-aggregate-put-pair c = search needs
 
--- src/lib.rt:96:48
 slice-aggregate-put-pair-2 : tie.Need-slice-aggregate-put-pair-2
 slice-aggregate-put-pair-2 c = search needs
 
--- src/lib.rt:96:5
 put-pair-requires : tie.Need-put-pair-requires
 put-pair-requires c κs = search needs
 
--- src/lib.rt:92:1
 same-length : tie.Need-same-length
 same-length c = search needs
 
--- src/lib.rt:92:1
 returns : tie.Need-returns
 unfolding bytesOf
 returns c =

@@ -1,42 +1,33 @@
+-- `plan_text::put_row_line` meets its contract: slot, flow and the pair of job and take, each after the one before. A number takes at
+-- most ten bytes, so that the room asked for is enough. Assumes nothing.
+use borrow.Author.Needs.{needs}
+use native.Mathlib.Omega.{arith}
 use Rattle.rules.specs.Fields.{bytesOf}
 use Rattle.rules.specs.Text.{wordSlot, wordFlow}
 use Rattle.plan_text.proofs.Pieces.{put-row, number-room}
-use native.Mathlib.Omega.{arith}
-use borrow.Author.Needs.{needs}
 use Rattle.plan_text.proofs.put_row_line.Statement.{statement}
 use Rattle.plan_text.proofs.put_row_line.Tie as tie
-use Rattle.plan_text.proofs.put_row_line.Reads as reads
-use Rattle.plan_text.proofs.put_row_line.Lts as lts
-use Rattle.plan_text.proofs.put_number.Reads as put-number-reads
-use Rattle.plan_text.proofs.put_pair.Reads as put-pair-reads
 
--- src/lib.rt:104:42
 slice-aggregate-put-number : tie.Need-slice-aggregate-put-number
 slice-aggregate-put-number c = search needs
 
--- src/lib.rt:104:9
 put-number-requires : tie.Need-put-number-requires
 put-number-requires c κs = search needs
 
--- src/lib.rt:105:50
 slice-aggregate-put-number-2 : tie.Need-slice-aggregate-put-number-2
 slice-aggregate-put-number-2 c = search needs
 
--- src/lib.rt:105:9
 put-number-requires-2 : tie.Need-put-number-requires-2
 unfolding bytesOf
 put-number-requires-2 c κs =
     omega (arith, number-room wordSlot (c .before .before .before .before .before .before .before .before .args .slot) (c .before .before .before .before .put-number .ensures))
 
--- src/lib.rt:106:31
 slice-aggregate-put-pair : tie.Need-slice-aggregate-put-pair
 slice-aggregate-put-pair c = search needs
 
--- src/lib.rt:106:53
 slice-aggregate-put-pair-2 : tie.Need-slice-aggregate-put-pair-2
 slice-aggregate-put-pair-2 c = search needs
 
--- src/lib.rt:106:5
 put-pair-requires : tie.Need-put-pair-requires
 unfolding bytesOf
 put-pair-requires c κs =
@@ -45,11 +36,9 @@ put-pair-requires c κs =
     let two = number-room wordFlow (a .flow) (c .before .before .before .before .before .put-number2 .ensures) in
     omega arith
 
--- src/lib.rt:100:1
 same-length : tie.Need-same-length
 same-length c = search needs
 
--- src/lib.rt:100:1
 returns : tie.Need-returns
 unfolding bytesOf
 returns c =

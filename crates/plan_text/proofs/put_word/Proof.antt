@@ -1,8 +1,8 @@
 -- `plan_text::put_word` meets its contract. The loop's invariant: the buffer is the entry's with the word's first i bytes stored.
 -- The measure is what is left of the word. Assumes nothing.
+use Prim.Native.Nat.{ℕ, _+_, _-_, _≤_}
 use borrow.Author.Needs.{needs}
 use native.Mathlib.Omega.{arith}
-use Prim.Native.Nat.{ℕ, _+_, _-_, _≤_}
 use mathlib.Core.Path.{_≡_, ap, _∙_}
 use mathlib.Core.List.{List}
 use lib.ListN.{length, set, getD, take}
@@ -10,8 +10,6 @@ use lib.Seq.{sets, take-all}
 use Rattle.plan_text.proofs.Pieces.{sets-take-more}
 use Rattle.plan_text.proofs.put_word.Statement.{statement}
 use Rattle.plan_text.proofs.put_word.Tie as tie
-use Rattle.plan_text.proofs.put_word.Reads as reads
-use Rattle.plan_text.proofs.put_word.Lts as lts
 
 abbrev Inv-loop : tie.InvT-loop
 Inv-loop out₀ at word i₀ out i =
@@ -42,12 +40,11 @@ loop-again : tie.Need-loop-again Inv-loop μ-loop
 loop-again c =
     let a = c .before .before .before .args in
     let l = c .before .before .loop in
-    let word = a .word .now in
-    (
+    let word = a .word .now in (
       search needs,
       search needs,
       ap (λ (x : List ℕ). set x (a .at + l .i) (getD word (l .i) 0)) (l .inv .2)
-        ∙ sets-take-more (a .out .now) (a .at) word (l .i) (c .before .loop-test .taken),
+          ∙ sets-take-more (a .out .now) (a .at) word (l .i) (c .before .loop-test .taken),
     )
 
 add-result : tie.Need-add-result Inv-loop μ-loop

@@ -1,18 +1,16 @@
+-- `plan_text::lines::put_text` meets its contract. The loop's invariant: the first n lines stand at the buffer's start, and take at most
+-- 64 bytes each. The measure is what is left of the lines. Assumes nothing.
 use Prim.Native.Nat.{_*_, _-_, _≤_}
+use borrow.Author.Needs.{needs}
+use native.Mathlib.Omega.{arith}
 use mathlib.Core.Path.{_≡_, refl}
 use lib.ListN.{length}
 use Rattle.plan_text.specs.Put.{Put}
 use Rattle.plan_text.specs.Lines.{firstLines}
 use Rattle.plan_text.proofs.Pieces.{put-as, put-length}
 use Rattle.plan_text.proofs.LineCases.{line-most, text-none, text-more, text-whole}
-use borrow.Author.Needs.{needs}
-use native.Mathlib.Omega.{arith}
 use Rattle.plan_text.proofs.lines.put_text.Statement.{statement}
 use Rattle.plan_text.proofs.lines.put_text.Tie as tie
-use Rattle.plan_text.proofs.lines.put_text.Reads as reads
-use Rattle.plan_text.proofs.lines.put_text.Lts as lts
-use Rattle.plan_text.proofs.lines.line_count.Reads as line-count-reads
-use Rattle.plan_text.proofs.lines.put_line.Reads as put-line-reads
 
 abbrev Inv-loop : tie.InvT-loop
 Inv-loop out₀ table answer end at₀ n₀ out at n =
@@ -22,32 +20,26 @@ abbrev μ-loop : tie.MeasureT-loop
 μ-loop out₀ table answer end at₀ n₀ out at n =
     end - n
 
--- src/lines.rt:68:9
 line-count-requires : tie.Need-line-count-requires Inv-loop μ-loop
 line-count-requires c κs = search needs
 
--- src/lines.rt:71:5
 loop-holds : tie.Need-loop-holds Inv-loop μ-loop
 loop-holds c =
     let a = c .before .before .before .args in
     (search needs, search needs, refl, text-none (a .table .now) (a .answer))
 
--- src/lines.rt:72:9
 put-line-requires : tie.Need-put-line-requires Inv-loop μ-loop
 put-line-requires c κs =
     let start = c .before .before .before .before .before .before in
     let count = c .before .before .before .line-count .ensures in
     (omega arith, start .pre .0, omega arith)
 
--- src/lines.rt:73:13
 add-n : tie.Need-add-n Inv-loop μ-loop
 add-n c = search needs
 
--- src/lines.rt:71:5
 loop-less : tie.Need-loop-less Inv-loop μ-loop
 loop-less c = search needs
 
--- src/lines.rt:71:5
 loop-again : tie.Need-loop-again Inv-loop μ-loop
 loop-again c =
     let a = c .before .before .before .before .before .before .before .before .before .args in
@@ -57,11 +49,9 @@ loop-again c =
     let kept = put-length put in
     (omega arith, omega arith, omega arith, text-more (a .table .now) (a .answer) (l .n) (l .inv .3) put)
 
--- src/lines.rt:64:1
 same-length : tie.Need-same-length Inv-loop μ-loop
 same-length c = search needs
 
--- src/lines.rt:64:1
 returns : tie.Need-returns Inv-loop μ-loop
 returns c =
     let a = c .before .before .before .before .before .args in
