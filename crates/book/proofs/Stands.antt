@@ -1,24 +1,17 @@
 -- What stands where a flow of a book that passes starts: its head and its jobs lie inside the bytes, and their values are the book's.
 -- Assumes nothing.
-use mathlib.Core.Path.{_≡_, refl, sym, ap, _∙_}
-use Prim.Native.Nat.{ℕ, _+_, _*_, _≤_, _<_}
-use native.Mathlib.Omega.{arith}
+use mathlib.Core.Path.{_≡_, sym, ap, _∙_}
+use Prim.Native.Nat.{ℕ, _+_, _≤_, _<_}
 use mathlib.Core.List.{List}
-use lib.ListN.{length}
+use lib.ListN.{length, getD}
 use Rattle.rules.specs.declared.Verdict.the-variants.{Pass}
 use Rattle.rules.specs.Fields.{byte, field}
 use Rattle.rules.specs.Limits.{mostJobs}
-use Rattle.rules.specs.Book.{Job, Flow, flowCount, jobCount, flowOf, jobOf}
+use Rattle.rules.specs.Book.{Flow, flowCount, jobCount, flowOf, jobOf}
 use Rattle.rules.specs.Reading.{flowHead, jobRecord, flowStart, jobStart, jobAt, flowAt, bookOf, bookFault}
 use Rattle.rules.proofs.Passing.{flow-count, flow-of-book, job-count, job-of-flow, deadline-of-flow, FlowPasses, flow-of-passing}
-use Rattle.book.specs.Promise.{FlowStands}
-
--- three fields that are read at `at` are the job that stands there
-pub job-fields : (s : List ℕ) (at : ℕ) {size cap predecessors : ℕ} →
-    size ≡ field 4 s at → cap ≡ field 2 s (at + 4) → predecessors ≡ field 8 s (at + 6) →
-    _≡_ {A = Job} (record { size = size; cap = cap; predecessors = predecessors }) (jobAt s at)
-unfolding jobAt
-job-fields s at d e p = rw (d, e, p)
+use Rattle.book.specs.declared.Index.{Index}
+use Rattle.book.specs.Promise.{Indexed, FlowStands}
 
 -- how a walk over the heads meets each flow
 pub stands-at : (s : List ℕ) (f start : ℕ) → bookFault s ≡ Pass → f < byte s 7 → start ≡ flowStart s f → FlowStands s f start
@@ -57,3 +50,7 @@ module _ (s : List ℕ) (f start : ℕ) (stands : FlowStands s f start) where
 
     pub job-is : jobOf (flowOf (bookOf s) f) i ≡ jobAt s (jobStart start i)
     job-is = ap (λ (w : Flow). jobOf w i) flow-is ∙ job-of-flow s start i job-below
+
+-- where the index says that a flow starts, it starts
+pub indexed-stands : (s : List ℕ) (x : Index) (f : ℕ) → Indexed s x → f < flowCount (bookOf s) → FlowStands s f (getD (x .starts) f 0)
+indexed-stands s x f ix h = record { passes = ix .passes; flow-in = h; start-at = ix .starts f h }

@@ -1,13 +1,12 @@
 -- What straight-line stores of bytes leave: the bytes of a number, or of a row, one after the other. Assumes nothing.
-use mathlib.Core.Path.{_≡_, refl, sym, ap, _∙_}
-use Prim.Native.Nat.{ℕ, _+_, _/_, _%_, _<_}
+use mathlib.Core.Path.{_≡_, ap, _∙_}
+use Prim.Native.Nat.{ℕ, _+_, _<_}
 use native.Mathlib.Nat.{div-one, mod-eq-of-lt}
 use native.Mathlib.Numerals.{towards-suc}
-use mathlib.Core.List.{List, [], _∷_, _++_}
+use mathlib.Core.List.{List}
 use lib.ListN.{length, set}
 use lib.Seq.{sets, length-sets}
 use Rattle.rules.specs.Fields.{bytesOf}
-use Rattle.rules.specs.Rows.{Row}
 use Rattle.rules.specs.Table.{rowBytes}
 
 -- slot, flow, job and processors, stored in turn, are a row's bytes

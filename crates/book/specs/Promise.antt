@@ -3,11 +3,10 @@ use mathlib.Core.Path.{_≡_}
 use Prim.Native.Nat.{ℕ, _<_, _≤_}
 use mathlib.Core.List.{List}
 use lib.ListN.{getD}
-use Rattle.rules.specs.declared.Verdict.{Verdict}
 use Rattle.rules.specs.declared.Verdict.the-variants.{Pass}
 use Rattle.rules.specs.Walks.{listFrom}
 use Rattle.rules.specs.Limits.{mostJobs}
-use Rattle.rules.specs.Book.{Job, Flow, Book, flowCount, jobCount, flowOf}
+use Rattle.rules.specs.Book.{Job, Flow, flowCount, jobCount, flowOf}
 use Rattle.rules.specs.Reading.{flowStart, bookOf, bookFault}
 use Rattle.book.specs.declared.FlowHead.{FlowHead}
 use Rattle.book.specs.declared.Index.{Index}

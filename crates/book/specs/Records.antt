@@ -16,11 +16,13 @@ use Rattle.book.specs.declared.JobRecord.{JobRecord}
 use Rattle.book.specs.declared.JobRead.{JobRead}
 use Rattle.book.specs.declared.JobRead.the-variants.{Whole as WholeJob, Short as ShortJob}
 
+-- the values of the head at `at`
+abbrev pub headAt : List ℕ → ℕ → FlowHead
+headAt s at = record { deadline = field 2 s at; jobs = byte s (at + 2) }
+
 -- the head of a flow at `at`: short where the bytes end before it does
 unfoldable pub headRead : List ℕ → ℕ → HeadRead
-headRead s at =
-    if ltb (length s) (at + flowHead) then ShortHead
-    else WholeHead (record { deadline = field 2 s at; jobs = byte s (at + 2) })
+headRead s at = if ltb (length s) (at + flowHead) then ShortHead else WholeHead (headAt s at)
 
 -- the values of the record at `at`
 abbrev pub recordAt : List ℕ → ℕ → JobRecord

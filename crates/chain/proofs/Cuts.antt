@@ -120,7 +120,7 @@ module _ (w : Flow) (t : ℕ) where
   -- .. with its takes and its rate
   pub all-jobs : (width s : ℕ) (l : List ℕ) → RunSoFar w t (jobCount w) width s l → RunAt w t (record { width = width; rate = s; takes = l })
   unfolding rate
-  all-jobs width s l so-far = record { takes = so-far .takes .at; no-more = so-far .takes .rest; rate = so-far .rate; run = first-run width s l so-far }
+  all-jobs width s l so-far = record { takes = so-far .takes .front .values; no-more = so-far .takes .rest; rate = so-far .rate; run = first-run width s l so-far }
 
 -- ---- one job by the arrays' values
 module _ (x : FlowJobs) (y : Ideal) (input : ChainInput x) (ideal : IdealOf (flowFrom x) y) (t i : ℕ) (h : i < x .count) where

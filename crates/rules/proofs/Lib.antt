@@ -1,5 +1,6 @@
 -- What follows from the rules.
 pub mod MarkedPlans
+pub mod Demands
 pub mod Demand3Values
 pub mod Demand3
 pub mod Refusals
@@ -26,6 +27,7 @@ pub mod RowOrder
 pub mod RowSums
 pub mod ScheduleRows
 pub mod FlowRows
+pub mod WorkArea
 -- placing, what it guarantees, and what a refusal proves
 pub mod Greedy
 pub mod Necessity

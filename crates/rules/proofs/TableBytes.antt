@@ -30,7 +30,7 @@ pub record RowFits (r : Row) : Type 0 where
   pub job-fits : r .job < 256
   pub processors-fit : r .processors < 256 ^ 2
 
-row-bytes-length : (r : Row) → length (rowBytes r) ≡ rowLength
+pub row-bytes-length : (r : Row) → length (rowBytes r) ≡ rowLength
 unfolding rowBytes bytesOf
 row-bytes-length r = refl
 
@@ -60,7 +60,7 @@ row-read s at h =
     (field-read 2 s (at + 4) h)
 
 -- ---- the rows
-rows-bytes-length : (rows : List Row) → length (rowsBytes rows) ≡ rowLength * length rows
+pub rows-bytes-length : (rows : List Row) → length (rowsBytes rows) ≡ rowLength * length rows
 unfolding rowsBytes
 rows-bytes-length [] = refl
 rows-bytes-length (r ∷ rs) = length-append (rowBytes r) (rowsBytes rs) ∙ omega (arith, row-bytes-length r, rows-bytes-length rs)

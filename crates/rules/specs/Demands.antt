@@ -15,7 +15,7 @@ use Rattle.rules.specs.Book.{Flow, Book, flowCount, flowOf}
 use Rattle.rules.specs.Reading.{read, readBook, bookBytes}
 use Rattle.rules.specs.Service.{servedBefore}
 use Rattle.rules.specs.Rows.{Row, lateFlows, workZero}
-use Rattle.rules.specs.Placing.{rowsOf, plan}
+use Rattle.rules.specs.Placing.{planned, rowsOf, plan}
 use Rattle.rules.specs.Table.{tableLength, tableBytes}
 use Rattle.rules.specs.Planner.{PlanOutcome, planCall}
 use Rattle.rules.specs.Check.{CheckOutcome, checkCall}
@@ -49,6 +49,21 @@ pub record Demand1 : Type 0 where
   pub check-number : (book table area : List ℕ) →
       (checkCall book table area .answer .number ≤ 11) ⊎ ((14 ≤ checkCall book table area .answer .number) × (checkCall book table area .answer .number ≤ 21))
   pub check-refusal : (book table area : List ℕ) → 0 < checkCall book table area .answer .number → CheckRefusal area (checkCall book table area)
+
+-- ---- demand 2, first half: "The planner's table, its finishes and its count of late flows are those that the deadline-greedy rule on chains
+-- of pseudo-jobs gives, row for row."
+
+-- the outcome with the rows that the rules give; the finishes stand in the table
+pub record WritesPlan (b : Book) (out : List ℕ) (o : PlanOutcome) : Type 0 where
+  pub all-placed : plan b ≡ planned (rowsOf (plan b))
+  pub table : o .output ≡ tableBytes b (rowsOf (plan b)) ++ drop (tableLength b (rowsOf (plan b))) out
+  pub late-flows : o .answer .late ≡ lateFlows b (rowsOf (plan b))
+  pub table-length : o .answer .length ≡ tableLength b (rowsOf (plan b))
+
+unfoldable pub PlansByTheRules : Type 0
+PlansByTheRules =
+    (book out area : List ℕ) (b : Book) → readBook book ≡ read b → planCall book out area .answer .number ≡ 0 →
+    WritesPlan b out (planCall book out area)
 
 -- ---- demand 2, second half: "The table check accepts exactly the tables that are valid schedules of the book, written in the stated order
 -- under the right head and finishes."
@@ -111,3 +126,11 @@ AcceptsPlans =
     (book out area other : List ℕ) → planCall book out area .answer .number ≡ 0 → workBytes ≤ length other →
     checkCall book (take (planCall book out area .answer .length) (planCall book out area .output)) other .answer
     ≡ checkAccepted (planCall book out area .answer .late)
+
+-- ---- all of it
+pub record Demands : Type 0 where
+  pub refuses-by-the-list : Demand1
+  pub plans-by-the-rules : PlansByTheRules
+  pub accepts-exactly : AcceptsExactly
+  pub planned-or-infeasible : Demand3
+  pub accepts-plans : AcceptsPlans

@@ -99,9 +99,9 @@ returns c =
     let loop = c .before .loop in
     let ends = c .before .before .before .ends in
     record {
-      starts = λ i h. loop .inv .1 .at i (omega (arith, h, count-of jobs));
+      starts = λ i h. loop .inv .1 .front .values i (omega (arith, h, count-of jobs));
       ends = λ i h. end-in-array (flowFrom jobs) (jobs .count) i (ends .result) _ (omega (arith, h, count-of jobs)) (ends .ensures);
-      lasts = λ i h. loop .inv .2 .at i (omega (arith, h, count-of jobs));
+      lasts = λ i h. loop .inv .2 .front .values i (omega (arith, h, count-of jobs));
       path = c .before .before .path .ensures;
     }
 

@@ -1,41 +1,31 @@
+-- `bytes::read32` meets its contract. A field of four bytes is two fields of two (`field-add`). Assumes nothing.
 use native.Mathlib.Omega.{arith}
 use Rattle.rules.proofs.Fields.{field-add}
 use borrow.Author.Needs.{needs}
 use Rattle.book.proofs.bytes.read32.Statement.{statement}
 use Rattle.book.proofs.bytes.read32.Tie as tie
-use Rattle.book.proofs.bytes.read32.Reads as reads
-use Rattle.book.proofs.bytes.read32.Lts as lts
-use Rattle.book.proofs.bytes.read16.Reads as read16-reads
 
--- src/bytes.rt:20:6
 read16-requires : tie.Need-read16-requires
 read16-requires c κs = search needs
 
--- src/bytes.rt:20:6
 cast-result : tie.Need-cast-result
 cast-result c = search needs
 
--- src/bytes.rt:20:5
 mul-result : tie.Need-mul-result
 mul-result c = search needs
 
--- src/bytes.rt:20:49
 add-read16 : tie.Need-add-read16
 add-read16 c = search needs
 
--- src/bytes.rt:20:39
 read16-requires-2 : tie.Need-read16-requires-2
 read16-requires-2 c κs = search needs
 
--- src/bytes.rt:20:39
 cast-result-2 : tie.Need-cast-result-2
 cast-result-2 c = search needs
 
--- src/bytes.rt:20:5
 add-result : tie.Need-add-result
 add-result c = search needs
 
--- src/bytes.rt:16:1
 returns : tie.Need-returns
 returns c = let a = c .before .before .before .args in omega (arith, field-add 2 2 (a .s .now) (a .at))
 

@@ -1,41 +1,31 @@
+-- `bytes::read64` meets its contract. A field of eight bytes is two fields of four (`field-add`). Assumes nothing.
 use native.Mathlib.Omega.{arith}
 use Rattle.rules.proofs.Fields.{field-add}
 use borrow.Author.Needs.{needs}
 use Rattle.book.proofs.bytes.read64.Statement.{statement}
 use Rattle.book.proofs.bytes.read64.Tie as tie
-use Rattle.book.proofs.bytes.read64.Reads as reads
-use Rattle.book.proofs.bytes.read64.Lts as lts
-use Rattle.book.proofs.bytes.read32.Reads as read32-reads
 
--- src/bytes.rt:27:6
 read32-requires : tie.Need-read32-requires
 read32-requires c κs = search needs
 
--- src/bytes.rt:27:6
 cast-result : tie.Need-cast-result
 cast-result c = search needs
 
--- src/bytes.rt:27:5
 mul-result : tie.Need-mul-result
 mul-result c = search needs
 
--- src/bytes.rt:27:54
 add-read32 : tie.Need-add-read32
 add-read32 c = search needs
 
--- src/bytes.rt:27:44
 read32-requires-2 : tie.Need-read32-requires-2
 read32-requires-2 c κs = search needs
 
--- src/bytes.rt:27:44
 cast-result-2 : tie.Need-cast-result-2
 cast-result-2 c = search needs
 
--- src/bytes.rt:27:5
 add-result : tie.Need-add-result
 add-result c = search needs
 
--- src/bytes.rt:23:1
 returns : tie.Need-returns
 returns c = let a = c .before .before .before .args in omega (arith, field-add 4 4 (a .s .now) (a .at))
 

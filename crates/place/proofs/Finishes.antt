@@ -1,0 +1,68 @@
+-- What one flow's rows add to the finishes, and the late flows by deadlines and finishes.
+-- All rows of a flow are its own, so that they change its finish alone. Assumes nothing.
+use mathlib.Core.Path.{_≡_, refl, sym, ap, ap₂, subst, _∙_}
+use Prim.Native.Nat.{ℕ, _+_, _<_}
+use native.Mathlib.Numerals.{add-one}
+use native.Mathlib.Omega.{arith}
+use mathlib.Core.List.{List, _++_}
+use lib.ListN.{getD}
+use Rattle.rules.specs.Walks.{bit, sumTo}
+use Rattle.rules.specs.Book.{Flow, Book, flowCount, jobCount, flowOf}
+use Rattle.rules.specs.Rows.{Row, finishOf, isLate, lateFlows}
+use Rattle.rules.specs.Placing.{flowRows}
+use Rattle.rules.proofs.Sums.{sum-ext}
+use Rattle.rules.proofs.Rising.{_∈_}
+use Rattle.rules.proofs.RowSums.{finish-least}
+use Rattle.rules.proofs.FlowRows.{grid-in}
+use Rattle.rules.proofs.PlacedFlow.{shareIn}
+use Rattle.rules.proofs.PlannedRows.{flow-rows-grid}
+use Rattle.place.specs.Late.{lateBy, lateCount}
+use Rattle.place.proofs.OneSlot.{finish-append}
+
+-- ---- finishes
+-- rows of other flows
+finish-of-others : (rows : List Row) (f : ℕ) → ((r : Row) → r ∈ rows → r .flow ≡ f → ⊥) → finishOf rows f ≡ 0
+finish-of-others rows f h = omega (arith, finish-least rows f 0 (λ r m e. absurd (h r m e)))
+
+-- a flow's rows are its own
+flow-rows-own : (w : Flow) (f : ℕ) (free : ℕ → ℕ) (n : ℕ) (r : Row) → r ∈ flowRows w f free n → r .flow ≡ f
+flow-rows-own w f free n r m =
+    ap (λ (x : Row). x .flow) (grid-in f (jobCount w) n (shareIn w free) r (subst (λ (l : List Row). r ∈ l) (flow-rows-grid w f free n) m) .4)
+
+-- ---- rows so far, and those of flow f behind them
+module _ (rows : List Row) (w : Flow) (f : ℕ) (free : ℕ → ℕ) (n : ℕ) where
+  -- another flow's finish stays
+  pub finish-stays : (g : ℕ) → (g ≡ f → ⊥) → finishOf (rows ++ flowRows w f free n) g ≡ finishOf rows g
+  finish-stays g ne =
+      omega (
+        arith,
+        finish-append rows (flowRows w f free n) g,
+        finish-of-others (flowRows w f free n) g (λ r m e. ne (sym e ∙ flow-rows-own w f free n r m)),
+      )
+
+  -- the flow's own is that of its rows
+  pub finish-own : finishOf rows f ≡ 0 → finishOf (rows ++ flowRows w f free n) f ≡ finishOf (flowRows w f free n) f
+  finish-own e = omega (arith, finish-append rows (flowRows w f free n) f)
+
+-- ---- late flows
+pub late-by-deadline : (w : Flow) (finish : ℕ) → lateBy (w .deadline) finish ≡ isLate w finish
+unfolding lateBy isLate
+late-by-deadline w finish = refl
+
+-- no flow, and one flow more
+pub late-none : (deadlines finishes : List ℕ) → lateCount deadlines finishes 0 ≡ 0
+unfolding lateCount sumTo
+late-none deadlines finishes = refl
+
+pub late-next : (deadlines finishes : List ℕ) (n : ℕ) →
+    lateCount deadlines finishes (n + 1) ≡ lateCount deadlines finishes n + bit (lateBy (getD deadlines n 0) (getD finishes n 0))
+unfolding lateCount sumTo
+late-next deadlines finishes n = rw add-one refl
+
+-- the count over deadlines and finishes is that of the book's late flows
+pub late-counted : (b : Book) (rows : List Row) (deadlines finishes : List ℕ) →
+    ((f : ℕ) → f < flowCount b → getD deadlines f 0 ≡ flowOf b f .deadline) →
+    ((f : ℕ) → f < flowCount b → getD finishes f 0 ≡ finishOf rows f) → lateCount deadlines finishes (flowCount b) ≡ lateFlows b rows
+unfolding lateCount lateFlows
+late-counted b rows deadlines finishes d e =
+    sum-ext _ _ (flowCount b) (λ f l. ap bit (ap₂ lateBy (d f l) (e f l) ∙ late-by-deadline (flowOf b f) (finishOf rows f)))

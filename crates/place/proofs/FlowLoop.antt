@@ -1,0 +1,232 @@
+-- One flow from cut to cut: what is kept when the runs before ideal slot t are placed, and what comes of it when the path is reached or the
+-- limit of rule 6. Assumes nothing.
+use mathlib.Core.Path.{_≡_, refl, sym, ap, subst, _∙_}
+use mathlib.Core.Logic.{_⊎_, inl, inr}
+use Prim.Native.Nat.{ℕ, zero, suc, _+_, _*_, _-_, _≤_, _<_}
+use native.Mathlib.Nat.{sub-zero}
+use native.Mathlib.Omega.{arith}
+use mathlib.Core.List.{List, [], _∷_, _++_, append-nil}
+use lib.ListN.{length, getD}
+use Rattle.rules.specs.declared.Verdict.the-variants.{Pass}
+use Rattle.rules.specs.Limits.{slots, workBytes}
+use Rattle.rules.specs.Book.{Flow, Book, flowCount, jobCount, flowOf, InRange, FlowInRange}
+use Rattle.rules.specs.Reading.{bookOf, bookFault}
+use Rattle.rules.specs.Ideal.{path, takeOf}
+use Rattle.rules.specs.PseudoJobs.{PseudoJob, runs, chain, rate, work}
+use Rattle.rules.specs.Rows.{Row, usedIn, finishOf, workUsed}
+use Rattle.rules.specs.Placing.{Progress, progress, flowRows, freeProcessors, slotsFor, Plan, planned, infeasible, settled, placeFlow}
+use Rattle.rules.proofs.Passing.{pass-in-range}
+use Rattle.rules.proofs.Ideal.{Sized, in-range-sized}
+use Rattle.rules.proofs.PseudoJobs.{slot-rate-positive}
+use Rattle.rules.proofs.FlowRows.{used-append}
+use Rattle.book.specs.declared.FlowJobs.{FlowJobs}
+use Rattle.book.specs.Promise.{FlowStands, flowFrom, Loaded}
+use Rattle.chain.specs.declared.Ideal.{Ideal}
+use Rattle.chain.specs.declared.Run.{Run}
+use Rattle.chain.specs.Jobs.{ChainInput}
+use Rattle.chain.specs.Runs.{IdealOf, FirstRun, RunAt}
+use Rattle.chain.proofs.Starts.{count-of, input-of, path-most}
+use Rattle.place.specs.declared.Current.{Current}
+use Rattle.place.specs.declared.Placed.{Placed}
+use Rattle.place.specs.declared.Placed.the-variants.{To, Infeasible}
+use Rattle.place.specs.Output.{Put}
+use Rattle.place.specs.Service.{Serving, currentFlow, pseudoJob}
+use Rattle.place.specs.Flows.{standing, Beside, rowsUpTo, Underway, UnderwayBy, RunDone, WorkLeft, RunPlaced, RunAnswer, newRows, FlowDone, FlowInfeasible}
+use Rattle.place.proofs.OneSlot.{finish-nothing}
+use Rattle.place.proofs.Output.{put-none, put-same-length}
+use Rattle.place.proofs.Steps.{flow-rows-none, stays-finished, no-more-rows, own-rows-within-free}
+
+-- the flow when the runs before ideal slot t are placed, in the slots before `slot`
+pub record FlowSoFar (b : Book) (f : ℕ) (x : Beside) (t slot : ℕ) (out area : List ℕ) (next : ℕ) : Type 0 where
+  pub under : Underway b f x slot (standing (runs (flowOf b f) (path (flowOf b f) - t) t) 0) out area next
+  pub finish : finishOf (rowsUpTo b f x slot) f ≡ slot
+
+-- what flow f is placed beside by a call that is lent this output
+abbrev pub beside : List Row → List ℕ → List ℕ → ℕ → Beside
+beside rows bytes out at = record { rows = rows; area = bytes; output = out; place = at }
+
+module _ (b : Book) (f : ℕ) where
+  abbrev w : Flow
+  w = flowOf b f
+
+  pub flow-begins : (rows : List Row) (bytes out area : List ℕ) (at : ℕ) → area ≡ workUsed slots rows bytes → ((u : ℕ) → usedIn rows u ≤ b .processors) →
+      FlowSoFar b f (beside rows bytes out at) 0 0 out area at
+  flow-begins rows bytes out area at e within = record {
+    under = record {
+      within = within;
+      stands = first-progress;
+      area-used = e ∙ ap (λ all. workUsed slots all bytes) (sym (ap (rows ++_) no-rows ∙ append-nil rows));
+      put = rw no-rows (put-none out at);
+    };
+    finish = rw no-rows (finish-nothing f);
+  }
+    where
+      no-rows : flowRows w f (freeProcessors b rows) 0 ≡ []
+      no-rows = flow-rows-none w f (freeProcessors b rows)
+
+      first-progress : progress w (freeProcessors b rows) 0 ≡ standing (runs w (path w - 0) 0) 0
+      first-progress = unfold progress chain in ap (λ (n : ℕ). standing (runs w n 0) 0) (sym (sub-zero (path w)))
+
+  -- all runs are placed
+  pub flow-done : (rows : List Row) (bytes out₀ out area : List ℕ) (at t slot next : ℕ) → Sized w → jobCount w ≤ 64 → path w ≤ t → slot ≤ slotsFor w → slotsFor w ≤ 8192 →
+      next ≤ at + 384 * slot → FlowSoFar b f (beside rows bytes out₀ at) t slot out area next →
+      FlowDone b f rows bytes out₀ at out area slot next
+  flow-done rows bytes out₀ out area at t slot next sized few over l most room so-far =
+      record {
+        placed = unfold placeFlow in rw (ap (λ (g : Progress). g .left) at-limit) refl;
+        put = rw same (so-far .under .put);
+        area-used = so-far .under .area-used ∙ ap (λ more. workUsed slots (rows ++ more) bytes) (sym same);
+        ends = sym (ap (λ more. finishOf more f) same ∙ so-far .finish);
+        within = λ u. omega (arith, used-append rows (newRows b f rows) u, so-far .under .within u, own u);
+        next-within = omega arith;
+        finish-within = l;
+      }
+    where
+      nothing-left : progress w (freeProcessors b rows) slot ≡ standing [] 0
+      nothing-left =
+          let z : path w - t ≡ 0 = omega arith in
+          so-far .under .stands ∙ ap (λ (n : ℕ). standing (runs w n t) 0) z ∙ (unfold runs in refl)
+
+      rest : slot + (slotsFor w - slot) ≡ slotsFor w
+      rest = omega arith
+
+      at-limit : progress w (freeProcessors b rows) (slotsFor w) ≡ standing [] 0
+      at-limit = ap (progress w (freeProcessors b rows)) (sym rest) ∙ stays-finished w f (freeProcessors b rows) slot (slotsFor w - slot) 0 nothing-left
+
+      same : newRows b f rows ≡ flowRows w f (freeProcessors b rows) slot
+      same = ap (flowRows w f (freeProcessors b rows)) (sym rest) ∙ no-more-rows w f (freeProcessors b rows) slot (slotsFor w - slot) 0 nothing-left
+
+      own : (u : ℕ) → usedIn (newRows b f rows) u ≤ b .processors - usedIn rows u
+      own u = unfold freeProcessors in own-rows-within-free w f (freeProcessors b rows) sized (slotsFor w) u
+
+  -- the limit is reached and work is left
+  pub flow-stops : (rows : List Row) (bytes out₀ out area : List ℕ) (at limit : ℕ) → limit ≡ slotsFor w →
+      WorkLeft b f (beside rows bytes out₀ at) limit out area → FlowInfeasible b f rows bytes out₀ out area
+  flow-stops rows bytes out₀ out area at limit e left = record {
+    refused = unfold placeFlow in rw (ap (λ (g : Progress). g .left) (ap (progress w (freeProcessors b rows)) (sym e) ∙ left .under .stands)) refl;
+    others = rows ++ flowRows w f (freeProcessors b rows) limit;
+    area-used = left .under .area-used;
+    length-kept = put-same-length out₀ out at (left .next) _ (left .under .put);
+  }
+
+-- ---- the loop over cuts: what is kept from its begin on
+pub record FlowKept (b : Book) (f at limit : ℕ) (out₀ area₀ out area : List ℕ) (t slot next : ℕ) : Type 0 where
+  pub cut-to : t ≤ path (flowOf b f)
+  pub slot-to : slot ≤ limit
+  pub next-to : next ≤ at + 384 * slot
+  pub out-length : length out ≡ length out₀
+  pub area-length : length area ≡ length area₀
+  pub so-far : (rows : List Row) (bytes : List ℕ) → area₀ ≡ workUsed slots rows bytes → ((u : ℕ) → usedIn rows u ≤ b .processors) →
+      FlowSoFar b f (beside rows bytes out₀ at) t slot out area next
+
+pub flow-kept-first : (b : Book) (f at limit : ℕ) (out area : List ℕ) → FlowKept b f at limit out area out area 0 0 at
+flow-kept-first b f at limit out area = record {
+  cut-to = omega arith;
+  slot-to = omega arith;
+  next-to = omega arith;
+  out-length = refl;
+  area-length = refl;
+  so-far = λ rows bytes e within. flow-begins b f rows bytes out area at e within;
+}
+
+-- ---- the pseudo-job that begins at a cut, in service
+module _ (s : List ℕ) (f start : ℕ) (x : FlowJobs) (stands : FlowStands s f start) (loaded : Loaded s f x) where
+  flow-in-range : FlowInRange (bookOf s .processors) (flowOf (bookOf s) f)
+  flow-in-range = pass-in-range s (stands .passes) .each-flow f (stands .flow-in)
+
+  pub flow-sized : Sized (flowOf (bookOf s) f)
+  flow-sized = in-range-sized flow-in-range
+
+  pub jobs-few : jobCount (flowOf (bookOf s) f) ≤ 64
+  jobs-few = flow-in-range .jobs-most
+
+  pub deadline-held : x .deadline ≡ flowOf (bookOf s) f .deadline
+  deadline-held = unfold flowFrom in ap (λ (v : Flow). v .deadline) (loaded .values)
+
+  pub deadline-within : flowOf (bookOf s) f .deadline ≤ 4096
+  deadline-within = flow-in-range .deadline-most
+
+  count-held : x .count ≡ jobCount (flowOf (bookOf s) f)
+  count-held = sym (count-of x) ∙ ap jobCount (loaded .values)
+
+  pub chain-asked : ChainInput x
+  chain-asked = input-of x (bookOf s .processors) (pass-in-range s (stands .passes) .processors-most) (rw (loaded .values) flow-in-range)
+
+  pub path-fits : path (flowFrom x) ≤ 64000000
+  path-fits = path-most x chain-asked
+
+  pub path-held : (y : Ideal) → IdealOf (flowFrom x) y → y .path ≡ path (flowOf (bookOf s) f)
+  path-held y ideal = ideal .path ∙ ap path (loaded .values)
+
+  -- what the code holds of it
+  abbrev pub currentAt : ℕ → ℕ → Run → Current
+  currentAt t P r = record { flow = f; jobs = x .count; processors = P; first = t; width = r .width; rate = r .rate }
+
+  module _ (t P : ℕ) (r : Run) (at-cut : RunAt (flowFrom x) t r) where
+    run-here : RunAt (flowOf (bookOf s) f) t r
+    run-here = subst (λ (v : Flow). RunAt v t r) (loaded .values) at-cut
+
+    pub cut-within : t + r .width ≤ path (flowFrom x)
+    cut-within = at-cut .run .within
+
+    pub serving-at : P ≡ bookOf s .processors → length (r .takes) ≡ 64 → Serving s (currentAt t P r) (r .takes)
+    serving-at e whole = record {
+      passes = stands .passes;
+      flow-in = stands .flow-in;
+      jobs = count-held;
+      processors = e;
+      rate = run-here .rate;
+      rate-positive = rw (run-here .rate) positive;
+      width-positive = run-here .run .some;
+      takes-whole = omega (arith, count-held, jobs-few);
+      takes = λ i l. run-here .takes i (omega (arith, count-held));
+    }
+      where
+        positive : 0 < rate (flowOf (bookOf s) f) (record { first = t; width = r .width })
+        positive = unfold rate in slot-rate-positive (flowOf (bookOf s) f) flow-sized t (omega (arith, run-here .run .within, run-here .run .some))
+
+    -- where the flow stands at a cut, the run there is the current pseudo-job
+    pub at-cut-under : (y : Beside) (slot : ℕ) (out area : List ℕ) (next : ℕ) → FlowSoFar (bookOf s) f y t slot out area next →
+        UnderwayBy s (currentAt t P r) y slot (standing (pseudoJob (currentAt t P r) ∷ runs (flowOf (bookOf s) f) (path (flowOf (bookOf s) f) - (t + r .width)) (t + r .width)) 0) out area next
+    at-cut-under y slot out area next so-far =
+        subst (λ (ps : List PseudoJob). Underway (bookOf s) f y slot (standing ps 0) out area next) (run-here .run .step) (so-far .under)
+
+    pub flow-goes-on : (y : Beside) (slot at limit : ℕ) (out area out′ area′ : List ℕ) (slot′ next′ : ℕ) → FlowSoFar (bookOf s) f y t slot out area at →
+        RunPlaced s (currentAt t P r) slot at limit out area out′ area′ slot′ next′ → FlowSoFar (bookOf s) f y (t + r .width) slot′ out′ area′ next′
+    flow-goes-on y slot at limit out area out′ area′ slot′ next′ so-far placed =
+        let done = placed .finished y _ (at-cut-under y slot out area at so-far) in
+        record { under = done .under; finish = done .finish }
+
+    pub flow-kept-next : (at limit : ℕ) (out₀ area₀ out area out′ area′ : List ℕ) (slot next slot′ next′ : ℕ) →
+        FlowKept (bookOf s) f at limit out₀ area₀ out area t slot next →
+        (q : Placed) → RunAnswer s (currentAt t P r) slot next limit out area out′ area′ q → q ≡ To slot′ next′ →
+        length out′ ≡ length out → length area′ ≡ length area → FlowKept (bookOf s) f at limit out₀ area₀ out′ area′ (t + r .width) slot′ next′
+    flow-kept-next at limit out₀ area₀ out area out′ area′ slot next slot′ next′ k q answer told same-out same-area =
+        let placed : RunPlaced s (currentAt t P r) slot next limit out area out′ area′ slot′ next′ =
+        subst (λ (z : Placed). RunAnswer s (currentAt t P r) slot next limit out area out′ area′ z) told answer in
+        record {
+          cut-to = run-here .run .within;
+          slot-to = placed .slot-within;
+          next-to = omega (arith, placed .next-within, placed .slot-after, k .next-to);
+          out-length = same-out ∙ k .out-length;
+          area-length = same-area ∙ k .area-length;
+          so-far = λ rows bytes e within. flow-goes-on (beside rows bytes out₀ at) slot next limit out area out′ area′ slot′ next′ (k .so-far rows bytes e within) placed;
+        }
+
+    pub flow-kept-stops : (at limit : ℕ) (out₀ area₀ out area out′ area′ : List ℕ) (slot next : ℕ) → limit ≡ slotsFor (flowOf (bookOf s) f) →
+        FlowKept (bookOf s) f at limit out₀ area₀ out area t slot next →
+        (q : Placed) → RunAnswer s (currentAt t P r) slot next limit out area out′ area′ q → q ≡ Infeasible →
+        (rows : List Row) (bytes : List ℕ) → area₀ ≡ workUsed slots rows bytes → ((u : ℕ) → usedIn rows u ≤ bookOf s .processors) →
+        FlowInfeasible (bookOf s) f rows bytes out₀ out′ area′
+    flow-kept-stops at limit out₀ area₀ out area out′ area′ slot next e k q answer told rows bytes used within =
+        let left : RunAnswer s (currentAt t P r) slot next limit out area out′ area′ Infeasible =
+        subst (λ (z : Placed). RunAnswer s (currentAt t P r) slot next limit out area out′ area′ z) told answer in
+        flow-stops (bookOf s) f rows bytes out₀ out′ area′ at limit e
+        (left (beside rows bytes out₀ at) _ (at-cut-under (beside rows bytes out₀ at) slot out area next (k .so-far rows bytes used within)))
+
+  pub flow-kept-done : (at limit : ℕ) (out₀ area₀ out area : List ℕ) (t slot next : ℕ) → limit ≡ slotsFor (flowOf (bookOf s) f) → path (flowOf (bookOf s) f) ≤ t →
+      FlowKept (bookOf s) f at limit out₀ area₀ out area t slot next →
+      (rows : List Row) (bytes : List ℕ) → area₀ ≡ workUsed slots rows bytes → ((u : ℕ) → usedIn rows u ≤ bookOf s .processors) →
+      FlowDone (bookOf s) f rows bytes out₀ at out area slot next
+  flow-kept-done at limit out₀ area₀ out area t slot next e over k rows bytes q within =
+      flow-done (bookOf s) f rows bytes out₀ out area at t slot next flow-sized jobs-few over (omega (arith, k .slot-to)) (omega (arith, deadline-within)) (k .next-to) (k .so-far rows bytes q within)

@@ -1,0 +1,212 @@
+-- The planner's outcome, case by case, and what its passes leave: the area is zero again after a pass is cleared, and rows, finishes and head
+-- written in turn are the table. Assumes nothing.
+use mathlib.Core.Path.{_≡_, refl, sym, ap, ap₂, subst, _∙_}
+use Prim.Native.Nat.{ℕ, _+_, _*_, _≤_, _<_}
+use native.Mathlib.Omega.{arith}
+use mathlib.Core.List.{List, [], _∷_, _++_}
+use lib.ListN.{length, drop, replicate, length-replicate}
+use lib.Seq.{sets, drop-at}
+use borrow.Author.Tests.{lt-ltb, le-ltb}
+use Rattle.rules.specs.declared.Verdict.the-variants.{Pass, Refused}
+use Rattle.rules.specs.declared.PlanAnswer.{PlanAnswer}
+use Rattle.rules.specs.Answers.{none, planAccepted, planRefused}
+use Rattle.rules.specs.Limits.{slots, workBytes}
+use Rattle.rules.specs.Book.{Book, flowCount}
+use Rattle.rules.specs.Reading.{bookOf, bookFault, readBook}
+use Rattle.rules.specs.Rows.{Row, lateFlows, workUsed, workZero}
+use Rattle.rules.specs.Placing.{Plan, planned, infeasible, placeFirst, plan}
+use Rattle.rules.specs.Planner.{PlanOutcome, planOutcome, planReading, planCall}
+use Rattle.rules.specs.Table.{tableHead, tableLength, tableBytes}
+use Rattle.rules.proofs.WorkArea.{used-none, used-cleared}
+use Rattle.book.specs.declared.Index.{Index}
+use Rattle.book.specs.Promise.{Indexed}
+use Rattle.place.specs.declared.planner.Whole.{Whole}
+use Rattle.place.specs.declared.planner.Ended.{Ended}
+use Rattle.place.specs.declared.planner.Ended.the-variants.{Planned, Infeasible}
+use Rattle.place.specs.Call.{Leaves, Counted, Sized}
+use Rattle.place.specs.Head.{headBytes, finishBytes}
+use Rattle.place.specs.Late.{lateCount}
+use Rattle.place.specs.Output.{putRows}
+use Rattle.place.specs.Whole.{InOrder, Asked, PlacedFirst, endedOf, FirstPlaced}
+use Rattle.place.proofs.Assembly.{table-stored}
+use Rattle.place.proofs.Finishes.{late-counted}
+use Rattle.place.proofs.FirstFlows.{few-flows, place-most}
+
+-- ---- the area
+zero-rest : (n : ℕ) (area : List ℕ) → drop (2 * n) (workZero n area) ≡ drop (2 * n) area
+unfolding workZero
+zero-rest n area = drop-at (replicate (2 * n) 0) (drop (2 * n) area) (2 * n) (length-replicate (2 * n) 0)
+
+-- an area that is cleared twice is cleared
+pub zero-twice : (n : ℕ) (area : List ℕ) → workZero n (workZero n area) ≡ workZero n area
+zero-twice n area = ap (workZero n) (sym (used-none n area)) ∙ used-cleared n [] area
+
+-- the use of rows asks nothing of an area but what is past its slots
+used-by-rest : (n : ℕ) (rows : List Row) (a c : List ℕ) → workZero n a ≡ workZero n c → workUsed n rows a ≡ workUsed n rows c
+unfolding workUsed
+used-by-rest n rows a c e =
+    let rest : drop (2 * n) a ≡ drop (2 * n) c = sym (zero-rest n a) ∙ ap (drop (2 * n)) e ∙ zero-rest n c in
+    rw rest refl
+
+-- so the outcome does not ask whether the area was cleared before
+pub outcome-by-rest : (b : Book) (out a c : List ℕ) (p : Plan) → workZero slots a ≡ workZero slots c → planOutcome b out a p ≡ planOutcome b out c p
+unfolding planOutcome
+outcome-by-rest b out a c (planned rows) e = rw (e, used-by-rest slots rows a c e) refl
+outcome-by-rest b out a c (infeasible f) e = rw e refl
+
+-- ---- the outcome of a book that passes
+module _ (b : Book) (out area : List ℕ) where
+  pub outcome-infeasible : (f : ℕ) → plan b ≡ infeasible f →
+      planOutcome b out area (plan b) ≡ record { answer = planRefused 12 f none; output = out; area = workZero slots area }
+  unfolding planOutcome
+  outcome-infeasible f p = rw p refl
+
+  pub outcome-longer : (rows : List Row) → plan b ≡ planned rows → length out < tableLength b rows →
+      planOutcome b out area (plan b) ≡ record { answer = planRefused 13 none none; output = out; area = workZero slots area }
+  unfolding planOutcome
+  outcome-longer rows p l = rw (p, lt-ltb (length out) (tableLength b rows) l) refl
+
+  pub outcome-written : (rows : List Row) → plan b ≡ planned rows → tableLength b rows ≤ length out →
+      planOutcome b out area (plan b)
+      ≡ record {
+        answer = planAccepted (lateFlows b rows) (tableLength b rows);
+        output = tableBytes b rows ++ drop (tableLength b rows) out;
+        area = workUsed slots rows area;
+      }
+  unfolding planOutcome
+  outcome-written rows p l = rw (p, le-ltb (length out) (tableLength b rows) l) refl
+
+-- ---- the outcome of a call
+module _ (s out area : List ℕ) where
+  pub call-refused : (n f j : ℕ) → bookFault s ≡ Refused n f j → planCall s out area ≡ record { answer = planRefused n f j; output = out; area = area }
+  unfolding planCall readBook planReading
+  call-refused n f j e = rw e refl
+
+  pub call-short : bookFault s ≡ Pass → length area < workBytes → planCall s out area ≡ record { answer = planRefused 11 none none; output = out; area = area }
+  unfolding planCall readBook planReading
+  call-short e l = rw (e, lt-ltb (length area) workBytes l) refl
+
+  call-passing : bookFault s ≡ Pass → workBytes ≤ length area → planCall s out area ≡ planOutcome (bookOf s) out area (plan (bookOf s))
+  unfolding planCall readBook planReading
+  call-passing e l = rw (e, le-ltb (length area) workBytes l) refl
+
+-- ---- what is left in each case
+pub leaves : (o : PlanOutcome) (answer : PlanAnswer) (output area : List ℕ) → o ≡ record { answer = answer; output = output; area = area } →
+    (answer′ : PlanAnswer) (output′ area′ : List ℕ) → answer′ ≡ answer → output′ ≡ output → area′ ≡ area → Leaves o answer′ output′ area′
+leaves o answer output area e answer′ output′ area′ p q r = record {
+  answers = p ∙ sym (ap (λ (x : PlanOutcome). x .answer) e);
+  output-left = q ∙ sym (ap (λ (x : PlanOutcome). x .output) e);
+  area-left = r ∙ sym (ap (λ (x : PlanOutcome). x .area) e);
+}
+
+head-same : (m n p q f g : ℕ) → m ≡ n → p ≡ q → f ≡ g → headBytes m p f ≡ headBytes n q g
+head-same m n p q f g d e h = rw (d, e, h) refl
+
+pub leaves-passing : (s out area : List ℕ) → bookFault s ≡ Pass → workBytes ≤ length area → (answer : PlanAnswer) (out′ area′ : List ℕ) →
+    Leaves (planOutcome (bookOf s) out area (plan (bookOf s))) answer out′ area′ → Leaves (planCall s out area) answer out′ area′
+leaves-passing s out area p l answer out′ area′ h = subst (λ (o : PlanOutcome). Leaves o answer out′ area′) (sym (call-passing s out area p l)) h
+
+module _ (s : List ℕ) (x : Index) (order : List ℕ) (size : ℕ) (out area : List ℕ) (a : Asked s x order (x .flows) area) (z : Sized s size) where
+  -- the table has room for head and finishes
+  pub head-within : 8 + 2 * x .flows ≤ size
+  unfolding tableLength
+  head-within = omega (arith, z .size-of, a .indexed .flows)
+
+  -- "table longer than the lent output"
+  pub leaves-longer : length out < size → (answer : PlanAnswer) → answer ≡ planRefused 13 none none →
+      Leaves (planOutcome (bookOf s) out area (plan (bookOf s))) answer out area
+  leaves-longer l answer e =
+      leaves _ _ _ _ (outcome-longer (bookOf s) out area (z .rows) (z .planned-rows) (rw (z .size-of) at l)) answer out area e refl (a .zero)
+
+  -- rows, finishes and head are written
+  pub leaves-written : (out₁ out₂ out₃ area′ : List ℕ) (r : Whole) (late : ℕ) → size ≤ length out →
+      FirstPlaced (bookOf s) (x .flows) out area out₁ area′ r → out₂ ≡ sets out₁ 8 (finishBytes (r .finish) (x .flows)) →
+      out₃ ≡ sets out₂ 0 (headBytes size (x .processors) (x .flows)) → late ≡ lateCount (x .deadlines) (r .finish) (x .flows) →
+      Leaves (planOutcome (bookOf s) out area (plan (bookOf s))) (planAccepted late size) out₃ area′
+  unfolding plan
+  leaves-written out₁ out₂ out₃ area′ r late l f e₂ e₃ d =
+      leaves _ _ _ _ (outcome-written b out area rows (z .planned-rows) room) (planAccepted late size) out₃ area′
+      (ap₂ planAccepted (d ∙ ap (lateCount (x .deadlines) (r .finish)) q ∙ late-counted b rows (x .deadlines) (r .finish) (a .indexed .deadlines) (p .finish)) (z .size-of))
+      (e₃ ∙ ap (λ (o : List ℕ). sets o 0 (headBytes size (x .processors) (x .flows))) (e₂ ∙ ap (λ (o : List ℕ). sets o 8 (finishBytes (r .finish) (x .flows))) (p .put .output))
+      ∙ ap₂ (λ (n : ℕ) (h : List ℕ). sets (sets (putRows out (tableHead b) rows) 8 (finishBytes (r .finish) n)) 0 h) q (head-same size (tableLength b rows) (x .processors) (b .processors) (x .flows) (flowCount b) (z .size-of) (a .indexed .processors) q)
+      ∙ table-stored out (r .finish) b rows room (p .finish))
+      (p .area-used)
+    where
+      b : Book
+      b = bookOf s
+
+      rows : List Row
+      rows = z .rows
+
+      q : x .flows ≡ flowCount b
+      q = a .indexed .flows
+
+      room : tableLength b rows ≤ length out
+      room = rw (z .size-of) at l
+
+      p : PlacedFirst b (x .flows) rows out area out₁ area′ (r .finish) (tableLength b rows)
+      p = f .when-planned rows (ap (placeFirst b) q ∙ z .planned-rows)
+
+-- ---- the first placing
+-- an area that is cleared may be placed in
+pub asked-cleared : (s : List ℕ) (x : Index) (order area area′ : List ℕ) → Indexed s x → InOrder s order → workBytes ≤ length area′ →
+    area′ ≡ workZero slots area → Asked s x order (x .flows) area′
+asked-cleared s x order area area′ i o l e = record {
+  indexed = i;
+  in-order = o;
+  within = omega (arith, i .flows);
+  long-enough = l;
+  zero = e ∙ sym (zero-twice slots area) ∙ ap (workZero slots) (sym e);
+}
+
+no-bytes : (part out : List ℕ) → length part ≡ 0 → part ++ out ≡ out
+no-bytes [] out e = refl
+no-bytes (x ∷ xs) out e = absurd (omega arith)
+
+-- rows that were put into no bytes are counted
+pub counted : (s : List ℕ) (x : Index) (order out area part part′ area₁ area₂ area₃ : List ℕ) (r : Whole) → Asked s x order (x .flows) area₁ →
+    area₁ ≡ workZero slots area → length part′ ≡ 0 → FirstPlaced (bookOf s) (x .flows) part area₁ part′ area₂ r → area₃ ≡ workZero slots area₂ →
+    Counted (bookOf s) out area (part′ ++ out) area₃ (r .ended)
+unfolding plan
+counted s x order out area part part′ area₁ area₂ area₃ r a e l f d = record {
+  ends = f .ends ∙ ap (λ (n : ℕ). endedOf b (placeFirst b n)) q;
+  fits = λ rows p.
+      omega (arith, few-flows a, place-most b (x .flows) rows part area₁ part′ area₂ (r .finish) (tableLength b rows) (omega arith) (omega (arith, few-flows a)) (f .when-planned rows (ap (placeFirst b) q ∙ p)));
+  output-kept = no-bytes part′ out l;
+  area-zero = d ∙ f .cleared ∙ ap (workZero slots) e ∙ zero-twice slots area;
+}
+  where
+    b : Book
+    b = bookOf s
+
+    q : x .flows ≡ flowCount b
+    q = a .indexed .flows
+
+module _ (s out area out′ area′ : List ℕ) (ended : Ended) (k : Counted (bookOf s) out area out′ area′ ended) where
+  -- the flows are planned, and their table has this size
+  pub sized : (size : ℕ) → ended ≡ Planned size → Sized s size
+  sized size e = go (plan (bookOf s)) refl (sym e ∙ k .ends)
+    where
+      go : (p : Plan) → plan (bookOf s) ≡ p → Planned size ≡ endedOf (bookOf s) p → Sized s size
+      go (planned rows) d h =
+          let same : size ≡ tableLength (bookOf s) rows = cc in
+          record { rows = rows; planned-rows = d; size-of = same; size-most = omega (arith, k .fits rows d) }
+      go (infeasible f) d h = absurd (let z : _≡_ {A = ℕ} 0 1 = cc in omega arith)
+
+  -- "infeasible by rule 6", with that flow
+  pub leaves-infeasible : (f : ℕ) (answer : PlanAnswer) → ended ≡ Infeasible f → answer ≡ planRefused 12 f none →
+      Leaves (planOutcome (bookOf s) out area (plan (bookOf s))) answer out′ area′
+  leaves-infeasible f answer e h =
+      leaves _ _ _ _ (outcome-infeasible (bookOf s) out area f (go (plan (bookOf s)) refl (sym e ∙ k .ends))) answer out′ area′ h (k .output-kept) (k .area-zero)
+    where
+      go : (p : Plan) → plan (bookOf s) ≡ p → Infeasible f ≡ endedOf (bookOf s) p → plan (bookOf s) ≡ infeasible f
+      go (planned rows) d g = absurd (let z : _≡_ {A = ℕ} 0 1 = cc in omega arith)
+      go (infeasible g) d h = let same : f ≡ g = cc in d ∙ ap infeasible (sym same)
+
+  -- what is left after the second placing is what the call leaves
+  pub leaves-after : (answer : PlanAnswer) (out″ area″ : List ℕ) → Leaves (planOutcome (bookOf s) out′ area′ (plan (bookOf s))) answer out″ area″ →
+      Leaves (planOutcome (bookOf s) out area (plan (bookOf s))) answer out″ area″
+  leaves-after answer out″ area″ h =
+      subst (λ (o : PlanOutcome). Leaves o answer out″ area″)
+      (ap (λ (o : List ℕ). planOutcome (bookOf s) o area′ (plan (bookOf s))) (k .output-kept)
+      ∙ outcome-by-rest (bookOf s) out area′ area (plan (bookOf s)) (ap (workZero slots) (k .area-zero) ∙ zero-twice slots area)) h

@@ -1,0 +1,76 @@
+-- Rows put into an output, one after the other. Assumes nothing.
+use mathlib.Core.Path.{_≡_, refl, sym, ap, _∙_}
+use Prim.Native.Nat.{ℕ, zero, suc, _+_, _*_, _≤_, _<_}
+use native.Mathlib.Nat.{not-suc-le-zero, add-zero, add-assoc}
+use native.Mathlib.Omega.{arith}
+use mathlib.Core.Bool.{Bool, true, false}
+use mathlib.Core.List.{List, [], _∷_, _++_}
+use lib.ListN.{length, length-append}
+use lib.Seq.{sets, length-sets}
+use lib.Dec.{leb}
+use borrow.Author.Tests.{le-leb, lt-leb}
+use Rattle.rules.specs.Walks.{if_then_else_}
+use Rattle.rules.specs.Rows.{Row, rowFor}
+use Rattle.rules.specs.Table.{rowBytes}
+use Rattle.place.specs.Output.{putRow, putRows, Put}
+
+-- a row
+abbrev pub row : ℕ → ℕ → ℕ → ℕ → Row
+row t f i n = record { slot = t; flow = f; job = i; processors = n }
+
+pub row-for-some : (t f i n : ℕ) → (n ≡ 0 → ⊥) → rowFor t f i n ≡ row t f i n ∷ []
+unfolding rowFor
+row-for-some t f i zero ne = absurd (ne refl)
+row-for-some t f i (suc n) ne = refl
+
+pub row-for-none : (t f i n : ℕ) → n ≡ 0 → rowFor t f i n ≡ []
+unfolding rowFor
+row-for-none t f i n e = rw e refl
+
+-- a row that fits, one that does not, and none
+pub put-fits : (out : List ℕ) (at t f i n : ℕ) → (n ≡ 0 → ⊥) → at + 6 ≤ length out → Put out at (rowFor t f i n) (sets out at (rowBytes (row t f i n))) (at + 6)
+unfolding putRows putRow
+put-fits out at t f i n ne l = record { output = rw (row-for-some t f i n ne, le-leb (at + 6) (length out) l) refl; place = rw (row-for-some t f i n ne) refl }
+
+pub put-too-far : (out : List ℕ) (at t f i n : ℕ) → (n ≡ 0 → ⊥) → length out < at + 6 → Put out at (rowFor t f i n) out (at + 6)
+unfolding putRows putRow
+put-too-far out at t f i n ne l = record { output = rw (row-for-some t f i n ne, lt-leb (at + 6) (length out) l) refl; place = rw (row-for-some t f i n ne) refl }
+
+pub put-none : (out : List ℕ) (at : ℕ) → Put out at [] out at
+unfolding putRows
+put-none out at = record { output = refl; place = sym (add-zero at) }
+
+pub put-nothing : (out : List ℕ) (at t f i n : ℕ) → n ≡ 0 → Put out at (rowFor t f i n) out at
+put-nothing out at t f i n e = rw (row-for-none t f i n e) (put-none out at)
+
+-- rows after rows
+pub put-append : (out : List ℕ) (at : ℕ) (xs ys : List Row) → putRows out at (xs ++ ys) ≡ putRows (putRows out at xs) (at + 6 * length xs) ys
+unfolding putRows
+put-append out at [] ys = rw add-zero refl
+put-append out at (x ∷ xs) ys =
+    let e : at + 6 + 6 * length xs ≡ at + 6 * suc (length xs) = omega arith in
+    rw (← e) (put-append (putRow out at x) (at + 6) xs ys)
+
+put-row-length : (out : List ℕ) (at : ℕ) (r : Row) → length (putRow out at r) ≡ length out
+unfolding putRow
+put-row-length out at r = go (leb (at + 6) (length out))
+  where
+    go : (b : Bool) → length (if b then sets out at (rowBytes r) else out) ≡ length out
+    go true = length-sets out at (rowBytes r)
+    go false = refl
+
+pub put-length : (out : List ℕ) (at : ℕ) (rows : List Row) → length (putRows out at rows) ≡ length out
+unfolding putRows
+put-length out at [] = refl
+put-length out at (r ∷ rs) = put-length (putRow out at r) (at + 6) rs ∙ put-row-length out at r
+
+-- rows put after rows
+pub put-more : (out out′ out″ : List ℕ) (at next next′ : ℕ) (xs ys : List Row) → Put out at xs out′ next → Put out′ next ys out″ next′ → Put out at (xs ++ ys) out″ next′
+put-more out out′ out″ at next next′ xs ys p q =
+    record {
+      output = q .output ∙ rw (p .output, p .place) (sym (put-append out at xs ys));
+      place = rw length-append (omega (arith, p .place, q .place));
+    }
+
+pub put-same-length : (out out′ : List ℕ) (at next : ℕ) (rows : List Row) → Put out at rows out′ next → length out′ ≡ length out
+put-same-length out out′ at next rows p = rw (p .output) (put-length out at rows)

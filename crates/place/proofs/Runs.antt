@@ -1,0 +1,120 @@
+-- A pseudo-job on its way from slot to slot: while units are left it is the current one, and when the last are given it is done and the flow
+-- goes on to the next in the slot after. Assumes nothing.
+use mathlib.Core.Path.{_≡_, refl, sym, ap, subst, _∙_}
+use mathlib.Core.Logic.{_⊎_, inl, inr}
+use Prim.Native.Nat.{ℕ, zero, suc, _+_, _*_, _-_, _≤_, _<_, min}
+use native.Mathlib.Nat.{mul-le-mul-right}
+use native.Mathlib.Omega.{arith}
+use mathlib.Core.List.{List, [], _∷_, _++_}
+use lib.ListN.{length}
+use Rattle.rules.specs.Limits.{slots}
+use Rattle.rules.specs.Book.{Flow, Book, flowOf}
+use Rattle.rules.specs.Reading.{bookOf}
+use Rattle.rules.specs.PseudoJobs.{PseudoJob, rate, work}
+use Rattle.rules.specs.Placing.{Progress, given, afterSlot, freeProcessors}
+use Rattle.place.specs.declared.Current.{Current}
+use Rattle.place.specs.declared.Served.{Served}
+use Rattle.place.specs.Service.{Serving, currentFlow, pseudoJob}
+use Rattle.place.specs.Flows.{standing, Beside, UnderwayBy, SlotServed, RunDone, WorkLeft, RunPlaced}
+use Rattle.rules.proofs.Division.{lt-or-ge}
+use Rattle.place.proofs.Given.{work-held}
+use Rattle.place.proofs.Serving.{processors-within}
+use Rattle.place.proofs.Steps.{after-slot-goes-on, after-slot-finishes}
+use Rattle.place.proofs.Underway.{slot-finish}
+
+-- the pseudo-job of whose units `done` are given before slot `slot`
+pub record RunSoFar (s : List ℕ) (c : Current) (x : Beside) (ps : List PseudoJob) (slot done : ℕ) (out area : List ℕ) (next : ℕ) : Type 0 where
+  pub going-on : done < work (currentFlow s c) (pseudoJob c) → UnderwayBy s c x slot (standing (pseudoJob c ∷ ps) done) out area next
+  pub over : done ≡ work (currentFlow s c) (pseudoJob c) → RunDone s c x ps slot out area next
+
+module _ (s : List ℕ) (c : Current) (a : List ℕ) (v : Serving s c a) (x : Beside) (ps : List PseudoJob) where
+  pub run-begins : (slot : ℕ) (out area : List ℕ) (next : ℕ) → 0 < work (currentFlow s c) (pseudoJob c) →
+      UnderwayBy s c x slot (standing (pseudoJob c ∷ ps) 0) out area next → RunSoFar s c x ps slot 0 out area next
+  run-begins slot out area next some u = record { going-on = λ l. u; over = λ e. absurd (omega arith) }
+
+  pub run-goes-on : (slot done : ℕ) (out area out′ area′ : List ℕ) (next : ℕ) (r : Served) → slot < slots → done < work (currentFlow s c) (pseudoJob c) →
+      RunSoFar s c x ps slot done out area next → SlotServed s c next done slot out area out′ area′ r →
+      RunSoFar s c x ps (slot + 1) (done + r .give) out′ area′ (r .next)
+  run-goes-on slot done out area out′ area′ next r inside left so-far served =
+      let w = currentFlow s c in
+      let p = pseudoJob c in
+      let free = freeProcessors (bookOf s) (x .rows) slot in
+      let u = so-far .going-on left in
+      let e : r .give ≡ given w p done free = served .gives x ps u in
+      let later : slot + 1 ≡ suc slot = omega arith in
+      let after = served .serves x ps u in
+      rw later (record {
+        going-on = λ l.
+            subst (λ (g : Progress). UnderwayBy s c x (suc slot) g out′ area′ (r .next))
+            (after-slot-goes-on w (c .flow) slot p ps done free (omega arith) ∙ ap (λ (n : ℕ). standing (p ∷ ps) (done + n)) (sym e)) after;
+        over = λ q. record {
+          under = subst (λ (g : Progress). UnderwayBy s c x (suc slot) g out′ area′ (r .next)) (after-slot-finishes w (c .flow) slot p ps done free (omega arith)) after;
+          finish =
+              slot-finish (bookOf s) (c .flow) x slot p ps done out area next (omega (arith, v .processors, processors-within s c a v)) inside u
+              (omega (arith, v .rate, v .rate-positive)) (omega arith) (omega arith);
+        };
+      })
+
+  -- the limit is reached while units are left
+  pub run-stops : (slot done limit : ℕ) (out area : List ℕ) (next : ℕ) → slot ≡ limit → done < work (currentFlow s c) (pseudoJob c) →
+      RunSoFar s c x ps slot done out area next → WorkLeft (bookOf s) (c .flow) x limit out area
+  run-stops slot done limit out area next e left so-far =
+      record { current = pseudoJob c; later = ps; done = done; next = next; under = rw (← e) (so-far .going-on left) }
+
+-- ---- the loop over slots: what is kept from its begin at slot `from` on
+pub record RunKept (s : List ℕ) (c : Current) (from limit at : ℕ) (out₀ area₀ out area : List ℕ) (done slot next : ℕ) : Type 0 where
+  pub slot-from : from ≤ slot
+  pub slot-to : slot ≤ limit
+  pub done-to : done ≤ work (currentFlow s c) (pseudoJob c)
+  pub next-to : next ≤ at + 384 * (slot - from)
+  pub nothing-yet : slot ≡ from → done ≡ 0
+  pub out-length : length out ≡ length out₀
+  pub area-length : length area ≡ length area₀
+  pub so-far : (x : Beside) (ps : List PseudoJob) → UnderwayBy s c x from (standing (pseudoJob c ∷ ps) 0) out₀ area₀ at → RunSoFar s c x ps slot done out area next
+
+module _ (s : List ℕ) (c : Current) (a : List ℕ) (v : Serving s c a) (from limit at : ℕ) (out₀ area₀ : List ℕ) where
+  some-work : 0 < work (currentFlow s c) (pseudoJob c)
+  some-work = omega (arith, work-held s c a v, mul-le-mul-right {m = 1} {n = c .width} (c .rate) (v .width-positive), v .rate-positive)
+
+  pub run-kept-first : from ≤ limit → RunKept s c from limit at out₀ area₀ out₀ area₀ 0 from at
+  run-kept-first l = record {
+    slot-from = omega arith;
+    slot-to = l;
+    done-to = omega arith;
+    next-to = omega arith;
+    nothing-yet = λ e. refl;
+    out-length = refl;
+    area-length = refl;
+    so-far = λ x ps u. run-begins s c a v x ps from out₀ area₀ at some-work u;
+  }
+
+  module _ (out area : List ℕ) (done slot next : ℕ) (k : RunKept s c from limit at out₀ area₀ out area done slot next) where
+    pub run-kept-next : (out′ area′ : List ℕ) (r : Served) → limit ≤ slots → slot < limit → done < work (currentFlow s c) (pseudoJob c) →
+        SlotServed s c next done slot out area out′ area′ r → length out′ ≡ length out → length area′ ≡ length area →
+        RunKept s c from limit at out₀ area₀ out′ area′ (done + r .give) (slot + 1) (r .next)
+    run-kept-next out′ area′ r most inside left served same-out same-area = record {
+      slot-from = omega (arith, k .slot-from);
+      slot-to = omega arith;
+      done-to = served .give-within;
+      next-to = omega (arith, served .next-within, k .next-to, k .slot-from);
+      nothing-yet = λ e. absurd (omega (arith, k .slot-from));
+      out-length = same-out ∙ k .out-length;
+      area-length = same-area ∙ k .area-length;
+      so-far = λ x ps u. run-goes-on s c a v x ps slot done out area out′ area′ next r (omega arith) left (k .so-far x ps u) served;
+    }
+
+    pub run-kept-stops : limit ≤ slot → done < work (currentFlow s c) (pseudoJob c) →
+        (x : Beside) (ps : List PseudoJob) → UnderwayBy s c x from (standing (pseudoJob c ∷ ps) 0) out₀ area₀ at → WorkLeft (bookOf s) (c .flow) x limit out area
+    run-kept-stops l left x ps u = run-stops s c a v x ps slot done limit out area next (omega (arith, k .slot-to)) left (k .so-far x ps u)
+
+    pub run-kept-done : work (currentFlow s c) (pseudoJob c) ≤ done → RunPlaced s c from at limit out₀ area₀ out area slot next
+    run-kept-done l = record {
+      slot-after = go (lt-or-ge from slot);
+      slot-within = k .slot-to;
+      next-within = k .next-to;
+      finished = λ x ps u. k .so-far x ps u .over (omega (arith, k .done-to));
+    }
+      where
+        go : (from < slot) ⊎ (slot ≤ from) → from < slot
+        go (inl m) = m
+        go (inr m) = absurd (omega (arith, k .nothing-yet (omega (arith, k .slot-from)), some-work))

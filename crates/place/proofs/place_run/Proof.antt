@@ -1,0 +1,124 @@
+-- One pseudo-job, slot after slot. The invariant is `RunKept`; the measure is what is left of the slots before the limit. Assumes nothing.
+use Prim.Native.Nat.{_-_}
+use borrow.Author.Needs.{needs}
+use native.Mathlib.Omega.{arith}
+use Rattle.place.proofs.Given.{work-held}
+use Rattle.place.proofs.Runs.{RunKept, run-kept-first, run-kept-next, run-kept-stops, run-kept-done}
+use Rattle.place.proofs.place_run.Statement.{statement}
+use Rattle.place.proofs.place_run.Tie as tie
+use Rattle.place.proofs.place_run.Reads as reads
+use Rattle.place.proofs.place_run.Lts as lts
+use Rattle.place.proofs.serve_slot.Reads as serve-slot-reads
+use Rattle.place.proofs.work_of.Reads as work-of-reads
+
+abbrev Inv-loop : tie.InvT-loop
+Inv-loop book takes out₀ area₀ at c from limit total done₀ slot₀ next₀ out area done slot next = RunKept book c from limit at out₀ area₀ out area done slot next
+
+abbrev μ-loop : tie.MeasureT-loop
+μ-loop book takes out₀ area₀ at c from limit total done₀ slot₀ next₀ out area done slot next = limit - slot
+
+-- src/lib.rt:144:9
+work-of-requires : tie.Need-work-of-requires Inv-loop μ-loop
+work-of-requires c κs = tt
+
+-- src/lib.rt:148:5
+loop-holds : tie.Need-loop-holds Inv-loop μ-loop
+loop-holds c =
+    let a = c .before .before .before .before .before .args in
+    let v = c .before .before .before .before .before .pre in
+    run-kept-first (a .book .now) (a .c) (a .takes .now) (v .0) (a .from) (a .limit) (a .at) (a .out .now) (a .area .now) (v .2)
+
+-- src/lib.rt:150:13
+same-length : tie.Need-same-length Inv-loop μ-loop
+same-length c = c .before .before .loop .inv .out-length
+
+-- src/lib.rt:150:13
+same-length-2 : tie.Need-same-length-2 Inv-loop μ-loop
+same-length-2 c = c .before .before .loop .inv .area-length
+
+-- src/lib.rt:150:13
+returns : tie.Need-returns Inv-loop μ-loop
+returns c =
+    let a = c .before .before .before .before .before .before .before .before .args in
+    let v = c .before .before .before .before .before .before .before .before .pre in
+    let l = c .before .before .loop in
+    let total = c .before .before .before .work-of .ensures in
+    run-kept-stops (a .book .now) (a .c) (a .takes .now) (v .0) (a .from) (a .limit) (a .at) (a .out .now) (a .area .now) (l .out) (l .area) (l .done) (l .slot) (l .next) (l .inv) (c .if1 .taken) (omega (arith, c .before .loop-test .taken, work-held (a .book .now) (a .c) (a .takes .now) (v .0)))
+
+-- src/lib.rt:152:13
+serve-slot-requires : tie.Need-serve-slot-requires Inv-loop μ-loop
+serve-slot-requires c κs =
+    let a = c .before .before .before .before .before .before .before .before .before .before .args in
+    let v = c .before .before .before .before .before .before .before .before .before .before .pre in
+    let l = c .before .before .before .before .loop in
+    let total = c .before .before .before .before .before .work-of .ensures in
+    (v .0, omega (arith, v .1, l .inv .area-length), l .inv .done-to, omega (arith, c .before .before .if1 .left), omega (arith, c .before .before .if1 .left, l .inv .next-to, l .inv .slot-from))
+
+-- src/lib.rt:154:23
+cast-done : tie.Need-cast-done Inv-loop μ-loop
+cast-done c = search needs
+
+-- src/lib.rt:154:16
+add-done : tie.Need-add-done Inv-loop μ-loop
+add-done c =
+    let a = c .before .before .before .before .before .before .before .before .before .before .before .before .before .before .before .before .args in
+    let v = c .before .before .before .before .before .before .before .before .before .before .before .before .before .before .before .before .pre in
+    let l = c .before .before .before .before .before .before .before .before .before .before .loop in
+    let total = c .before .before .before .before .before .before .before .before .before .before .before .work-of .ensures in
+    omega (arith, c .before .before .before .before .before .serve-slot .ensures .give-within, work-held (a .book .now) (a .c) (a .takes .now) (v .0))
+
+-- src/lib.rt:155:16
+add-slot : tie.Need-add-slot Inv-loop μ-loop
+add-slot c = omega (arith, c .before .before .before .before .before .before .before .before .if1 .left, c .before .before .before .before .before .before .before .before .before .before .before .before .before .before .before .before .pre .3)
+
+-- src/lib.rt:148:5
+loop-less : tie.Need-loop-less Inv-loop μ-loop
+loop-less c = omega (arith, c .before .before .before .before .before .before .before .before .if1 .left)
+
+-- src/lib.rt:148:5
+loop-again : tie.Need-loop-again Inv-loop μ-loop
+loop-again c =
+    let a = c .before .before .before .before .before .before .before .before .before .before .before .before .before .before .before .before .args in
+    let v = c .before .before .before .before .before .before .before .before .before .before .before .before .before .before .before .before .pre in
+    let l = c .before .before .before .before .before .before .before .before .before .before .loop in
+    let total = c .before .before .before .before .before .before .before .before .before .before .before .work-of .ensures in
+    let served = c .before .before .before .before .before .serve-slot in
+    run-kept-next (a .book .now) (a .c) (a .takes .now) (v .0) (a .from) (a .limit) (a .at) (a .out .now) (a .area .now) (l .out) (l .area) (l .done) (l .slot) (l .next) (l .inv) (served .last .1 .1 .0) (served .last .1 .1 .1 .0) (served .result) (v .3) (c .before .before .before .before .before .before .before .before .if1 .left) (omega (arith, c .before .before .before .before .before .before .before .before .before .loop-test .taken, work-held (a .book .now) (a .c) (a .takes .now) (v .0))) (served .ensures) (omega arith) (omega arith)
+
+-- src/lib.rt:140:1
+same-length-3 : tie.Need-same-length-3 Inv-loop μ-loop
+same-length-3 c = c .before .loop .inv .out-length
+
+-- src/lib.rt:140:1
+same-length-4 : tie.Need-same-length-4 Inv-loop μ-loop
+same-length-4 c = c .before .loop .inv .area-length
+
+-- src/lib.rt:140:1
+returns-2 : tie.Need-returns-2 Inv-loop μ-loop
+returns-2 c =
+    let a = c .before .before .before .before .before .before .before .args in
+    let v = c .before .before .before .before .before .before .before .pre in
+    let l = c .before .loop in
+    let total = c .before .before .work-of .ensures in
+    run-kept-done (a .book .now) (a .c) (a .takes .now) (v .0) (a .from) (a .limit) (a .at) (a .out .now) (a .area .now) (l .out) (l .area) (l .done) (l .slot) (l .next) (l .inv) (omega (arith, c .loop-test .left, work-held (a .book .now) (a .c) (a .takes .now) (v .0)))
+
+pub place-run-spec : {M : Type 1} → statement M
+place-run-spec =
+    tie.close
+    (tie.spec
+    Inv-loop
+    μ-loop
+    work-of-requires
+    loop-holds
+    same-length
+    same-length-2
+    returns
+    serve-slot-requires
+    cast-done
+    add-done
+    add-slot
+    loop-less
+    loop-again
+    same-length-3
+    same-length-4
+    returns-2)

@@ -1,0 +1,117 @@
+-- One slot: what is read of the area, what is given, and the rows that are put and counted in. Assumes nothing.
+use mathlib.Core.Path.{sym, _∙_}
+use native.Mathlib.Omega.{arith}
+use Rattle.place.proofs.Given.{work-held, give-within-work, served-nothing, served-some}
+use borrow.Author.Needs.{needs}
+use Rattle.place.proofs.serve_slot.Statement.{statement}
+use Rattle.place.proofs.serve_slot.Tie as tie
+use Rattle.place.proofs.serve_slot.Reads as reads
+use Rattle.place.proofs.serve_slot.Lts as lts
+use Rattle.book.proofs.bytes.read16.Reads as read16-reads
+use Rattle.book.proofs.bytes.write16.Reads as write16-reads
+use Rattle.place.proofs.give_of.Reads as give-of-reads
+use Rattle.place.proofs.put_slot.Reads as put-slot-reads
+use Rattle.place.proofs.work_of.Reads as work-of-reads
+
+-- src/lib.rt:129:36
+mul-read16 : tie.Need-mul-read16
+mul-read16 c = search needs
+
+-- src/lib.rt:129:9
+read16-requires : tie.Need-read16-requires
+read16-requires c κs = search needs
+
+-- src/lib.rt:130:32
+work-of-requires : tie.Need-work-of-requires
+work-of-requires c κs = search needs
+
+-- src/lib.rt:130:32
+sub-give-of : tie.Need-sub-give-of
+sub-give-of c =
+    let a = c .before .before .before .before .before .before .before .args in
+    let v = c .before .before .before .before .before .before .before .pre in
+    omega (arith, c .work-of .ensures, work-held (a .book .now) (a .c) (a .takes .now) (v .0), v .2)
+
+-- src/lib.rt:130:9
+give-of-requires : tie.Need-give-of-requires
+give-of-requires c κs = search needs
+
+-- src/lib.rt:132:9
+same-length : tie.Need-same-length
+same-length c = search needs
+
+-- src/lib.rt:132:9
+returns : tie.Need-returns
+returns c =
+    let a = c .before .before .before .before .before .before .before .before .before .args in
+    let v = c .before .before .before .before .before .before .before .before .before .pre in
+    let used = c .before .before .before .read16 in
+    let total = c .before .before .work-of in
+    let give = c .before .give-of in
+    served-nothing (a .book .now) (a .c) (a .takes .now) (v .0) (a .at) (a .done) (a .slot) (total .result) (used .result) (a .out .now) (a .area .now) (total .ensures) (v .2) (v .3) (used .ensures) (sym (give .ensures) ∙ c .if1 .taken)
+
+-- src/lib.rt:134:9
+put-slot-requires : tie.Need-put-slot-requires
+put-slot-requires c κs =
+    let a = c .before .before .before .before .before .before .before .before .before .before .args in
+    let v = c .before .before .before .before .before .before .before .before .before .before .pre in
+    let used = c .before .before .before .before .read16 in
+    let total = c .before .before .before .work-of in
+    let give = c .before .before .give-of in
+    let within = give-within-work (a .book .now) (a .c) (a .takes .now) (v .0) (a .at) (a .done) (a .slot) (total .result) (used .result) (a .out .now) (a .area .now) (total .ensures) (v .2) (v .3) (used .ensures) in
+    (v .0, rw (give .ensures) within, omega (arith, give .ensures), v .3, v .4)
+
+-- src/lib.rt:135:26
+mul-write16 : tie.Need-mul-write16
+mul-write16 c = search needs
+
+-- src/lib.rt:135:43
+cast-write16 : tie.Need-cast-write16
+cast-write16 c = search needs
+
+-- src/lib.rt:135:36
+add-write16 : tie.Need-add-write16
+add-write16 c = search needs
+
+-- src/lib.rt:135:5
+write16-requires : tie.Need-write16-requires
+write16-requires c κs = search needs
+
+-- src/lib.rt:125:1
+same-length-2 : tie.Need-same-length-2
+same-length-2 c = search needs
+
+-- src/lib.rt:125:1
+same-length-3 : tie.Need-same-length-3
+same-length-3 c = search needs
+
+-- src/lib.rt:125:1
+returns-2 : tie.Need-returns-2
+returns-2 c =
+    let a = c .before .before .before .before .before .before .before .before .before .before .before .before .before .before .before .before .before .args in
+    let v = c .before .before .before .before .before .before .before .before .before .before .before .before .before .before .before .before .before .pre in
+    let used = c .before .before .before .before .before .before .before .before .before .before .before .read16 in
+    let total = c .before .before .before .before .before .before .before .before .before .before .work-of in
+    let give = c .before .before .before .before .before .before .before .before .before .give-of in
+    let put = c .before .before .before .before .before .before .put-slot in
+    served-some (a .book .now) (a .c) (a .takes .now) (v .0) (a .at) (a .done) (a .slot) (total .result) (used .result) (a .out .now) (a .area .now) (total .ensures) (v .2) (v .3) (used .ensures) (give .result) (put .last .1 .1 .0) (c .before .before .write16 .last .0) (put .result) (give .ensures) (put .ensures) (c .before .before .write16 .ensures)
+
+pub serve-slot-spec : {M : Type 1} → statement M
+serve-slot-spec =
+    tie.close
+    (tie.spec
+    mul-read16
+    read16-requires
+    work-of-requires
+    sub-give-of
+    give-of-requires
+    same-length
+    returns
+    put-slot-requires
+    mul-write16
+    cast-write16
+    add-write16
+    write16-requires
+    same-length-2
+    same-length-3
+    returns-2)

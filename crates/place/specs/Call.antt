@@ -1,0 +1,34 @@
+-- What a call of the planner leaves behind, and what its last part asks. Assumes nothing.
+use mathlib.Core.Path.{_≡_}
+use Prim.Native.Nat.{ℕ, _≤_}
+use mathlib.Core.List.{List}
+use Rattle.rules.specs.declared.PlanAnswer.{PlanAnswer}
+use Rattle.rules.specs.Limits.{slots}
+use Rattle.rules.specs.Book.{Book}
+use Rattle.rules.specs.Reading.{bookOf}
+use Rattle.rules.specs.Rows.{Row, workZero}
+use Rattle.rules.specs.Placing.{planned, plan}
+use Rattle.rules.specs.Planner.{PlanOutcome}
+use Rattle.rules.specs.Table.{tableLength}
+use Rattle.place.specs.declared.planner.Ended.{Ended}
+use Rattle.place.specs.Whole.{endedOf}
+
+-- answer, output and work area are those of the outcome
+pub record Leaves (o : PlanOutcome) (answer : PlanAnswer) (output area : List ℕ) : Type 0 where
+  pub answers : answer ≡ o .answer
+  pub output-left : output ≡ o .output
+  pub area-left : area ≡ o .area
+
+-- all flows are placed once, to count the rows: the output is as it was, and the area is cleared
+pub record Counted (b : Book) (out area out′ area′ : List ℕ) (r : Ended) : Type 0 where
+  pub ends : r ≡ endedOf b (plan b)
+  pub fits : (rows : List Row) → plan b ≡ planned rows → tableLength b rows ≤ 201326728
+  pub output-kept : out′ ≡ out
+  pub area-zero : area′ ≡ workZero slots area
+
+-- all flows of the book are planned, and their table is `size` bytes long, which four bytes can hold
+pub record Sized (s : List ℕ) (size : ℕ) : Type 0 where
+  pub rows : List Row
+  pub planned-rows : plan (bookOf s) ≡ planned rows
+  pub size-of : size ≡ tableLength (bookOf s) rows
+  pub size-most : size ≤ 201326728

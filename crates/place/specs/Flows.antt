@@ -1,0 +1,107 @@
+-- One flow on its way through the slots, as the code places it: what it is placed beside, where it stands after some slots, and what the
+-- routines leave behind. Assumes nothing.
+use mathlib.Core.Path.{_≡_}
+use Prim.Native.Nat.{ℕ, suc, _+_, _*_, _-_, _<_, _≤_}
+use mathlib.Core.List.{List, [], _∷_, _++_}
+use lib.ListN.{length}
+use Rattle.rules.specs.Limits.{slots}
+use Rattle.rules.specs.Book.{Flow, Book, flowOf}
+use Rattle.rules.specs.Reading.{bookOf}
+use Rattle.rules.specs.PseudoJobs.{PseudoJob, work}
+use Rattle.rules.specs.Rows.{Row, usedIn, finishOf, workUsed}
+use Rattle.rules.specs.Placing.{Progress, given, afterSlot, progress, flowRows, freeProcessors, slotsFor, Plan, planned, infeasible, placeFlow}
+use Rattle.place.specs.declared.Current.{Current}
+use Rattle.place.specs.declared.Served.{Served}
+use Rattle.place.specs.declared.Placed.{Placed}
+use Rattle.place.specs.declared.Placed.the-variants.{To, Infeasible}
+use Rattle.place.specs.Output.{putRows, Put}
+use Rattle.place.specs.Service.{currentFlow, pseudoJob}
+
+-- where a flow stands: the pseudo-jobs left, and the units done of the first of them
+abbrev pub standing : List PseudoJob → ℕ → Progress
+standing left done = record { left = left; done = done }
+
+-- what a flow is placed beside: the rows of the flows before it, the bytes of the area past the slots, and the output and the place in it at
+-- which its own rows begin
+pub record Beside : Type 0 where
+  pub rows : List Row
+  pub area : List ℕ
+  pub output : List ℕ
+  pub place : ℕ
+
+-- the rows of its first t slots
+abbrev pub rowsUpTo : Book → ℕ → Beside → ℕ → List Row
+rowsUpTo b f x t = flowRows (flowOf b f) f (freeProcessors b (x .rows)) t
+
+-- after its first t slots the flow stands at g, the area holds the use of all rows so far, and its own rows are put
+pub record Underway (b : Book) (f : ℕ) (x : Beside) (t : ℕ) (g : Progress) (out area : List ℕ) (next : ℕ) : Type 0 where
+  pub within : (u : ℕ) → usedIn (x .rows) u ≤ b .processors
+  pub stands : progress (flowOf b f) (freeProcessors b (x .rows)) t ≡ g
+  pub area-used : area ≡ workUsed slots (x .rows ++ rowsUpTo b f x t) (x .area)
+  pub put : Put (x .output) (x .place) (rowsUpTo b f x t) out next
+
+-- ---- one slot
+-- the flow of the pseudo-job in service, on its way
+abbrev pub UnderwayBy : List ℕ → Current → Beside → ℕ → Progress → List ℕ → List ℕ → ℕ → Type 0
+UnderwayBy s c x t g out area next = Underway (bookOf s) (c .flow) x t g out area next
+
+pub record SlotServed (s : List ℕ) (c : Current) (at done slot : ℕ) (out area out′ area′ : List ℕ) (r : Served) : Type 0 where
+  pub give-within : done + r .give ≤ work (currentFlow s c) (pseudoJob c)
+  pub next-within : r .next ≤ at + 384
+  pub gives : (x : Beside) (ps : List PseudoJob) → UnderwayBy s c x slot (standing (pseudoJob c ∷ ps) done) out area at →
+      r .give ≡ given (currentFlow s c) (pseudoJob c) done (freeProcessors (bookOf s) (x .rows) slot)
+  pub serves : (x : Beside) (ps : List PseudoJob) → UnderwayBy s c x slot (standing (pseudoJob c ∷ ps) done) out area at →
+      UnderwayBy s c x (suc slot) (afterSlot (currentFlow s c) (pseudoJob c ∷ ps) done (freeProcessors (bookOf s) (x .rows) slot)) out′ area′ (r .next)
+
+-- ---- one pseudo-job
+-- it is finished, and its last slot is the flow's last used slot so far
+pub record RunDone (s : List ℕ) (c : Current) (x : Beside) (ps : List PseudoJob) (slot : ℕ) (out area : List ℕ) (next : ℕ) : Type 0 where
+  pub under : UnderwayBy s c x slot (standing ps 0) out area next
+  pub finish : finishOf (rowsUpTo (bookOf s) (c .flow) x slot) (c .flow) ≡ slot
+
+-- work is left after t slots
+pub record WorkLeft (b : Book) (f : ℕ) (x : Beside) (t : ℕ) (out area : List ℕ) : Type 0 where
+  pub current : PseudoJob
+  pub later : List PseudoJob
+  pub done : ℕ
+  pub next : ℕ
+  pub under : Underway b f x t (standing (current ∷ later) done) out area next
+
+pub record RunPlaced (s : List ℕ) (c : Current) (from at limit : ℕ) (out area out′ area′ : List ℕ) (slot next : ℕ) : Type 0 where
+  pub slot-after : from < slot
+  pub slot-within : slot ≤ limit
+  pub next-within : next ≤ at + 384 * (slot - from)
+  pub finished : (x : Beside) (ps : List PseudoJob) → UnderwayBy s c x from (standing (pseudoJob c ∷ ps) 0) out area at → RunDone s c x ps slot out′ area′ next
+
+-- what the placing of a pseudo-job from slot `from` on answers
+abbrev pub RunAnswer : List ℕ → Current → ℕ → ℕ → ℕ → List ℕ → List ℕ → List ℕ → List ℕ → Placed → Type 0
+RunAnswer s c from at limit out area out′ area′ (To slot next) = RunPlaced s c from at limit out area out′ area′ slot next
+RunAnswer s c from at limit out area out′ area′ Infeasible =
+    (x : Beside) (ps : List PseudoJob) → UnderwayBy s c x from (standing (pseudoJob c ∷ ps) 0) out area at → WorkLeft (bookOf s) (c .flow) x limit out′ area′
+
+-- ---- one flow
+-- the rows of flow f beside those of the flows before it
+abbrev pub newRows : Book → ℕ → List Row → List Row
+newRows b f rows = flowRows (flowOf b f) f (freeProcessors b rows) (slotsFor (flowOf b f))
+
+-- its rows are put and counted in
+pub record FlowDone (b : Book) (f : ℕ) (rows : List Row) (area out : List ℕ) (at : ℕ) (out′ area′ : List ℕ) (finish next : ℕ) : Type 0 where
+  pub placed : placeFlow b f rows ≡ planned (rows ++ newRows b f rows)
+  pub put : Put out at (newRows b f rows) out′ next
+  pub area-used : area′ ≡ workUsed slots (rows ++ newRows b f rows) area
+  pub ends : finish ≡ finishOf (newRows b f rows) f
+  pub within : (t : ℕ) → usedIn (rows ++ newRows b f rows) t ≤ b .processors
+  pub next-within : next ≤ at + 3145728
+  pub finish-within : finish ≤ slotsFor (flowOf b f)
+
+-- it makes the book infeasible
+pub record FlowInfeasible (b : Book) (f : ℕ) (rows : List Row) (area out out′ area′ : List ℕ) : Type 0 where
+  pub refused : placeFlow b f rows ≡ infeasible f
+  pub others : List Row
+  pub area-used : area′ ≡ workUsed slots others area
+  pub length-kept : length out′ ≡ length out
+
+-- what the placing of flow f answers
+abbrev pub FlowPlaced : Book → ℕ → List Row → List ℕ → List ℕ → ℕ → List ℕ → List ℕ → Placed → Type 0
+FlowPlaced b f rows area out at out′ area′ (To finish next) = FlowDone b f rows area out at out′ area′ finish next
+FlowPlaced b f rows area out at out′ area′ Infeasible = FlowInfeasible b f rows area out out′ area′

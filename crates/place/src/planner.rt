@@ -1,0 +1,159 @@
+// Flows placed in service order, and the planner's core.
+ghost use mathlib.Core.Path.{_≡_};
+ghost use Prim.Native.Nat.{_≤_};
+ghost use lib.ListN.{length};
+ghost use Rattle.rules.specs.declared.Verdict.the-variants.{Pass};
+ghost use Rattle.rules.specs.Answers.{planRefused};
+ghost use Rattle.rules.specs.Limits.{workBytes};
+ghost use Rattle.rules.specs.Reading.{bookOf, bookFault};
+ghost use Rattle.rules.specs.Placing.{plan};
+ghost use Rattle.rules.specs.Planner.{planOutcome, planCall};
+ghost use Rattle.book.specs.Promise.{Indexed};
+ghost use Rattle.place.specs.Call.{Leaves, Counted, Sized};
+ghost use Rattle.place.specs.Whole.{InOrder, Asked, FirstPlaced};
+use super::Placed;
+use super::late;
+use super::table;
+use book::Index;
+use book::bytes;
+use rules::PlanAnswer;
+use rules::Verdict;
+
+// How the placing of flows ends: with the place after the last row, or with a flow that makes the book infeasible.
+pub enum Ended {
+    Planned(usize),
+    Infeasible(u8),
+}
+
+// The end of placing, and the finish of each flow, 0 where it is not placed.
+pub struct Whole {
+    pub ended: Ended,
+    pub finish: [u16; 64],
+}
+
+// The first `count` flows in service order, each from slot 0 beside those before it.
+pub fn place_first(
+    book: &[u8],
+    out: &mut [u8],
+    work: &mut [u8],
+    x: Index,
+    order: [u8; 64],
+    count: usize,
+) -> Whole
+    requires { ⌜ Asked (now book) x order count (now work) ⌝ }
+    ensures { λ r. ⌜ FirstPlaced (bookOf (now (book .entry))) count (now (out .entry)) (now (work .entry)) (now (out .exit)) (now (work .exit)) r ⌝ }
+{
+    let processors = x.processors;
+    let mut finish = [0u16; 64];
+    let mut next = 8 + 2 * x.flows;
+    let mut k: usize = 0;
+    while k < count {
+        let flow = order[k];
+        let f = bytes::wide(flow);
+        let start = x.starts[f];
+        let Placed::To(end, after) = super::place_flow(book, out, work, next, start, f, processors)
+        else {
+            return Whole {
+                ended: Ended::Infeasible(flow),
+                finish,
+            };
+        };
+        finish[f] = end as u16;
+        next = after;
+        k = k + 1;
+    }
+    Whole {
+        ended: Ended::Planned(next),
+        finish,
+    }
+}
+
+// The answer that turns a call down by a number of the list, at a place.
+pub fn refusal(number: u8, flow: u8, job: u8) -> PlanAnswer
+    ensures { λ r. ⌜ r ≡ planRefused number flow job ⌝ }
+{
+    PlanAnswer {
+        number,
+        flow,
+        job,
+        late: 0,
+        length: 0,
+    }
+}
+
+// 13 where the table is longer than the output; otherwise the rows once more, now into the output, then finishes and head.
+pub fn write_table(
+    book: &[u8],
+    output: &mut [u8],
+    work: &mut [u8],
+    x: Index,
+    order: [u8; 64],
+    size: usize,
+) -> PlanAnswer
+    requires { ⌜ Asked (now book) x order (x .flows) (now work) × Sized (now book) size ⌝ }
+    ensures { λ r. ⌜ Leaves (planOutcome (bookOf (now (book .entry))) (now (output .entry)) (now (work .entry)) (plan (bookOf (now (book .entry))))) r (now (output .exit)) (now (work .exit)) ⌝ }
+{
+    if output.len() < size {
+        return refusal(13, 255, 255);
+    }
+    let flows = x.flows;
+    let processors = x.processors;
+    let deadlines = x.deadlines;
+    let second = place_first(book, output, work, x, order, flows);
+    let finish = second.finish;
+    table::put_finishes(output, finish, flows);
+    table::put_head(output, size as u32, processors, flows as u8);
+    PlanAnswer {
+        number: 0,
+        flow: 255,
+        job: 255,
+        late: late::late_flows(deadlines, finish, flows),
+        length: size as u32,
+    }
+}
+
+// How the placing of all flows ends: they are placed once, with no output, and the work area is zero before and after.
+pub fn count_rows(
+    book: &[u8],
+    output: &mut [u8],
+    work: &mut [u8],
+    x: Index,
+    order: [u8; 64],
+) -> Ended
+    requires { ⌜ Indexed (now book) x × InOrder (now book) order × (workBytes ≤ length (now work)) ⌝ }
+    ensures { λ r. ⌜ Counted (bookOf (now (book .entry))) (now (output .entry)) (now (work .entry)) (now (output .exit)) (now (work .exit)) r ⌝ }
+{
+    let flows = x.flows;
+    bytes::clear(work);
+    let first = place_first(book, &mut output[..0], work, x, order, flows);
+    bytes::clear(work);
+    first.ended
+}
+
+// The plan of a book that passes, with a work area that is long enough: 12 by the first placing, before the output is touched.
+pub fn plan_passing(book: &[u8], output: &mut [u8], work: &mut [u8]) -> PlanAnswer
+    requires { ⌜ (bookFault (now book) ≡ Pass) × (workBytes ≤ length (now work)) ⌝ }
+    ensures { λ r. ⌜ Leaves (planOutcome (bookOf (now (book .entry))) (now (output .entry)) (now (work .entry)) (plan (bookOf (now (book .entry))))) r (now (output .exit)) (now (work .exit)) ⌝ }
+{
+    let x = book::index_of(book);
+    let order = book::service_order(book, x);
+    let ended = count_rows(book, output, work, x, order);
+    match ended {
+        Ended::Infeasible(f) => refusal(12, f, 255),
+        Ended::Planned(size) => write_table(book, output, work, x, order, size),
+    }
+}
+
+// The planner: the whole outcome of a call, for every book, output and work area.
+pub fn plan_book(book: &[u8], output: &mut [u8], work: &mut [u8]) -> PlanAnswer
+    ensures { λ r. ⌜ Leaves (planCall (now (book .entry)) (now (output .entry)) (now (work .entry))) r (now (output .exit)) (now (work .exit)) ⌝ }
+{
+    let v = book::verdict_of(book);
+    if let Verdict::Refused { number, flow, job } = v {
+        return refusal(number, flow, job);
+    }
+    if work.len() < 16384 {
+        return refusal(11, 255, 255);
+    }
+    plan_passing(book, output, work)
+}
