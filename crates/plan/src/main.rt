@@ -5,7 +5,6 @@ ghost use lib.ListN.{length};
 ghost use Rattle.rules.specs.Limits.{workBytes};
 ghost use Rattle.plan_text.specs.Put.{Put};
 ghost use Rattle.plan_text.specs.Printed.{lentBytes, textBytes, printed, Prints};
-
 use libc::STDOUT_FILENO;
 use plan_text::lines;
 use rules::PlanAnswer;

@@ -3,3 +3,4 @@ pub mod Pieces
 pub mod LineCases
 pub mod TableText
 pub mod PrintedAnswers
+pub mod Decimal
