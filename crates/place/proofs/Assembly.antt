@@ -2,7 +2,7 @@
 -- Each store replaces a part of the output by one as long, so that in the end the parts stand one after the other. Assumes nothing.
 use mathlib.Core.Path.{_≡_, refl, sym, ap, _∙_}
 use Prim.Native.Nat.{ℕ, suc, _+_, _*_, _≤_, _<_}
-use native.Mathlib.Nat.{add-zero, div-one, mod-eq-of-lt}
+use native.Mathlib.Nat.{div-one, mod-eq-of-lt}
 use native.Mathlib.Numerals.{towards-suc, add-one}
 use native.Mathlib.Omega.{arith}
 use mathlib.Core.List.{List, [], _∷_, _++_, append-assoc}
@@ -15,18 +15,11 @@ use Rattle.rules.specs.Book.{Book, flowCount}
 use Rattle.rules.specs.Rows.{Row, finishOf}
 use Rattle.rules.specs.Table.{tableHead, tableLength, rowBytes, rowsBytes, tableBytes}
 use Rattle.rules.proofs.Walks.{join-ext, join-snoc}
-use Rattle.rules.proofs.Fields.{bytes-length, join-bytes-length}
+use Rattle.rules.proofs.Fields.{bytes-length, join-bytes-length, sets-append}
 use Rattle.rules.proofs.TableBytes.{row-bytes-length, rows-bytes-length}
 use Rattle.rules.proofs.WorkArea.{sets-between}
 use Rattle.place.specs.Output.{putRow, putRows}
 use Rattle.place.specs.Head.{headBytes, finishBytes}
-
--- stores after stores
-pub sets-append : (s : List ℕ) (at : ℕ) (xs ys : List ℕ) → sets (sets s at xs) (at + length xs) ys ≡ sets s at (xs ++ ys)
-sets-append s at [] ys = rw add-zero refl
-sets-append s at (x ∷ xs) ys =
-    let e : at + suc (length xs) ≡ suc at + length xs = omega arith in
-    rw e (sets-append (set s at x) (suc at) xs ys)
 
 -- ---- rows
 -- rows that all fit are their bytes, stored

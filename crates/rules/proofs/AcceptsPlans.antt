@@ -28,7 +28,7 @@ use Rattle.rules.proofs.PlannedTable.{planned-table-is-schedule-table}
 use Rattle.rules.proofs.AcceptsExactly.{accepts-exactly}
 
 -- a book that is not read is refused by a number from 1 on
-unread-number : (s : List ℕ) (n f j : ℕ) → readBook s ≡ unread n f j → 1 ≤ n
+pub unread-number : (s : List ℕ) (n f j : ℕ) → readBook s ≡ unread n f j → 1 ≤ n
 unfolding readBook
 unread-number s n f j = go (bookFault s) refl
   where

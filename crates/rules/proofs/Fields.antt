@@ -5,8 +5,8 @@ use native.Mathlib.Nat.{add-zero, zero-add, add-suc, add-assoc, mul-assoc, add-m
 use native.Mathlib.Omega.{arith}
 use mathlib.Core.Logic.{_⊎_, inl, inr}
 use mathlib.Core.List.{List, [], _∷_, _++_}
-use lib.ListN.{length, getD, length-append, List·getD-append}
-use lib.Seq.{getD-append-add, ext-getD}
+use lib.ListN.{length, getD, set, length-append, List·getD-append}
+use lib.Seq.{getD-append-add, ext-getD, sets}
 use Rattle.rules.specs.Walks.{sumTo, joinFrom}
 use Rattle.rules.specs.Fields.{byte, field, bytesOf, AllBytes}
 use Rattle.rules.proofs.Division.{lt-or-ge}
@@ -205,3 +205,10 @@ pub stands-join-at : (s : List ℕ) (at : ℕ) (g : ℕ → List ℕ) (c n : ℕ
 stands-join-at s at g c n e h k l =
     let width : sumTo (λ j. length (g j)) k ≡ c * k = sum-ext (λ j. length (g j)) (λ j. c) k (λ j m. e j (omega arith)) ∙ sum-const c k in
     rw width at (stands-join s at g n h k l)
+
+-- ---- stores one after the other are one run of stores
+pub sets-append {ℓ} : {A : Type ℓ} (l : List A) (at : ℕ) (a b : List A) → sets (sets l at a) (at + length a) b ≡ sets l at (a ++ b)
+sets-append l at [] b = rw add-zero refl
+sets-append l at (x ∷ a) b =
+    let e : at + suc (length a) ≡ suc at + length a = omega arith in
+    rw e (sets-append (set l at x) (suc at) a b)

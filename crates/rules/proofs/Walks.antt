@@ -175,3 +175,11 @@ pub any-ext : (q p : ℕ → Bool) (n : ℕ) → ((k : ℕ) → k < n → q k �
 unfolding anyTo
 any-ext q p zero h = refl
 any-ext q p (suc n) h = rw (any-ext q p n (λ k l. h k (omega arith)), h n (omega arith)) refl
+
+-- walks from two starts that meet the same lists
+pub join-moved {ℓ} : {A : Type ℓ} (g h : ℕ → List A) (n s u : ℕ) → ((k : ℕ) → k < n → g (s + k) ≡ h (u + k)) → joinFrom g n s ≡ joinFrom h n u
+unfolding joinFrom
+join-moved g h zero s u e = refl
+join-moved g h (suc n) s u e =
+    let z : g s ≡ h u = rw (add-zero s, add-zero u) at (e 0 (omega arith)) in
+    rw (z, join-moved g h n (s + 1) (u + 1) (λ k l. rw (← next-start s k, ← next-start u k) (e (suc k) (omega arith)))) refl

@@ -15,4 +15,5 @@ pub mod Planner
 pub mod Check
 pub mod Schedule
 pub mod Cut
+pub mod Text
 pub mod Demands
