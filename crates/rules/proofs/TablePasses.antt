@@ -39,7 +39,7 @@ pub record RowPasses (b : Book) (rows : List Row) (k : ℕ) : Type 0 where
   pub processors-kept : usedIn (take k rows) (getD rows k noRow .slot) + getD rows k noRow .processors ≤ b .processors
   pub predecessors-done : PredecessorsDone b (take k rows) (getD rows k noRow)
 
-lacks-none : (b : Book) (soFar : List Row) (r : Row) → lacksPredecessor b soFar r ≡ false → PredecessorsDone b soFar r
+pub lacks-none : (b : Book) (soFar : List Row) (r : Row) → lacksPredecessor b soFar r ≡ false → PredecessorsDone b soFar r
 unfolding lacksPredecessor PredecessorsDone
 lacks-none b soFar r e k l p =
     ltb-false (doneBefore soFar (r .flow) k (r .slot)) (jobOf (flowOf b (r .flow)) k .size) (second _ _ p (any-none _ (r .job) e k l))
@@ -48,7 +48,7 @@ lacks-none b soFar r e k l p =
     second true y p e = e
     second false y p e = absurd (true≢false (sym p))
 
-none-lacks : (b : Book) (soFar : List Row) (r : Row) → PredecessorsDone b soFar r → lacksPredecessor b soFar r ≡ false
+pub none-lacks : (b : Book) (soFar : List Row) (r : Row) → PredecessorsDone b soFar r → lacksPredecessor b soFar r ≡ false
 unfolding lacksPredecessor PredecessorsDone
 none-lacks b soFar r h =
     any-false _ (r .job)

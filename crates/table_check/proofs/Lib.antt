@@ -7,3 +7,4 @@ pub mod Heads
 pub mod Turns
 pub mod Finals
 pub mod Judging
+pub mod Started

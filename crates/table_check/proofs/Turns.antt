@@ -6,7 +6,9 @@ use mathlib.Core.Bool.{Bool, true, false}
 use mathlib.Core.List.{List, [], _∷_, _++_}
 use native.Mathlib.Numerals.{add-one}
 use native.Mathlib.Omega.{arith}
-use borrow.Author.Tests.{ltb-false}
+use lib.Dec.{ltb}
+use Rattle.rules.specs.Walks.{if_then_else_}
+use borrow.Author.Tests.{ltb-true, ltb-false}
 use lib.ListN.{length, getD, take, set, length-set, length-take}
 use lib.Seq.{sets, length-sets, take-all}
 use Rattle.rules.specs.declared.Verdict.{Verdict}
@@ -30,10 +32,11 @@ use Rattle.book.specs.declared.JobRecord.{JobRecord}
 use Rattle.book.specs.Promise.{Indexed, jobFrom, FlowStands}
 use Rattle.table_check.specs.declared.Row.{Row}
 use Rattle.table_check.specs.declared.Walked.{Walked}
-use Rattle.table_check.specs.Tally.{rowFrom, rowKey, keyOf, leastKey, place, earlyNumber, lateNumber, lacksAt, readyAfter, Tally}
+use Rattle.table_check.specs.Tally.{rowFrom, rowKey, keyOf, leastKey, place, earlyNumber, lateNumber, lacksAt, asked, readyAfter, Tally}
 use Rattle.table_check.specs.Walk.{Ready, Summed, RowsWalked}
 use Rattle.table_check.proofs.Heads.{head-passes, field-below}
-use Rattle.table_check.proofs.Tallies.{Counts}
+use Rattle.table_check.proofs.Tallies.{Counts, finish-most}
+use Rattle.table_check.proofs.Started.{started-lacks-none}
 use Rattle.table_check.proofs.RowFaults.{EarlyPassed, LatePassed, in-book-of, flow-unknown, early-fault, early-passed, late-fault, late-passed, lacks-fault, lacks-by-ready}
 use Rattle.table_check.proofs.Walking.{Walking, row-at, rows-length, walking-none, counts, walking-next}
 
@@ -85,6 +88,14 @@ one-tested q k e d = rw (add-one, e, d) refl
 
 pub all-tested : (q : ℕ → Bool) (k n : ℕ) → k ≤ n → n ≤ k → anyTo q k ≡ false → anyTo q n ≡ false
 all-tested q k n h l e = let same : n ≡ k = omega arith in ap (anyTo q) same ∙ e
+
+pub asked-most : (n total i : ℕ) → n ≡ asked total i → n ≤ i
+unfolding asked
+asked-most n total i = go (ltb 0 total)
+  where
+    go : (t : Bool) → n ≡ (if t then 0 else i) → n ≤ i
+    go true e = omega arith
+    go false e = omega arith
 
 -- ---- the walk begins
 pub ready-flows : {book table work : List ℕ} {x : Index} → Ready book table work x → x .flows ≤ 64
@@ -282,6 +293,27 @@ module _ {book table area : List ℕ} {processors flows : ℕ} {starts deadlines
     lacks-stops k h e =
         lacks-fault (bookOf book) (tableRows (bookOf book) table) row (rowFrom r) (turn .row-is) (turn .early) (turn .late)
         (tests ∙ any-true (λ m. lacksAt (job .predecessors) m (r .slot) (getD ready (place f m) 0)) i k h e)
+
+    -- a job that has a total lacks none: its first row was asked
+    pub all-asked : (ask : ℕ) → ask ≡ asked (getD totals (place f i) 0) i →
+        anyTo (λ m. lacksAt (job .predecessors) m (r .slot) (getD ready (place f m) 0)) ask ≡ false →
+        anyTo (λ m. lacksAt (job .predecessors) m (r .slot) (getD ready (place f m) 0)) i ≡ false
+    unfolding asked
+    all-asked ask e none = go (ltb 0 (getD totals (place f i) 0)) refl
+      where
+        rows′ : List rules.Row
+        rows′ = tableRows (bookOf book) table
+
+        latest : finishOf (take row rows′) (r .flow) ≤ r .slot + 1
+        latest = finish-most (bookOf book) range area (take row rows′) least totals ready finish work (begun .walking .tally) (rowFrom r) can-count
+
+        go : (t : Bool) → ltb 0 (getD totals (place f i) 0) ≡ t → anyTo (λ m. lacksAt (job .predecessors) m (r .slot) (getD ready (place f m) 0)) i ≡ false
+        go true h =
+            sym tests ∙ started-lacks-none (bookOf book) rows′ row (begun .walking .within) (begun .walking .passed) (rowFrom r) latest
+            (omega (arith, ltb-true 0 (getD totals (place f i) 0) h, total-is))
+        go false h =
+            let all : ask ≡ i = e ∙ rw h refl in
+            ap (anyTo (λ m. lacksAt (job .predecessors) m (r .slot) (getD ready (place f m) 0))) (sym all) ∙ none
 
     pub begun-next : anyTo (λ m. lacksAt (job .predecessors) m (r .slot) (getD ready (place f m) 0)) i ≡ false → (v : Verdict) (work′ : List ℕ) (total-v ready-v : ℕ) → v ≡ Pass →
         work′ ≡ sets work at (bytesOf 2 (used + r .processors)) →

@@ -38,6 +38,10 @@ leastKey b rows (suc k) = suc (rowKey b (getD rows k noRow))
 abbrev pub place : ℕ → ℕ → ℕ
 place f i = 64 * f + i
 
+-- how many predecessors are asked at a row of job i, which has this total so far
+unfoldable pub asked : ℕ → ℕ → ℕ
+asked total i = if ltb 0 total then 0 else i
+
 -- the first slot before which a job has its full size, once its total goes from `before` to `after` by a row in `slot`; 65,535 while it has not
 unfoldable pub readyAfter : ℕ → ℕ → ℕ → ℕ → ℕ → ℕ
 readyAfter ready before after size slot = if ltb after size then 65535 else if leb size before then ready else slot + 1

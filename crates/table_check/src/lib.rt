@@ -10,7 +10,7 @@ ghost use Rattle.rules.specs.Limits.{slots, workBytes};
 ghost use Rattle.rules.specs.Book.{Flow, flowCount};
 ghost use Rattle.rules.specs.Rows.{isLate};
 ghost use Rattle.rules.specs.Table.{rowAt};
-ghost use Rattle.table_check.specs.Tally.{rowFrom, keyOf, headFault, earlyNumber, lateNumber, lacksAt, readyAfter};
+ghost use Rattle.table_check.specs.Tally.{rowFrom, keyOf, headFault, earlyNumber, lateNumber, lacksAt, asked, readyAfter};
 ghost use Rattle.rules.specs.Answers.{firstFault, checkAccepted, checkRefused};
 ghost use Rattle.rules.specs.Reading.{bookOf};
 ghost use Rattle.rules.specs.Check.{CheckOutcome, checkCall};
@@ -138,6 +138,16 @@ pub fn lacks(predecessors: u64, k: usize, slot: u16, ready: u16) -> bool
     false
 }
 
+// How many predecessors are asked at a row of job i: all that may be at its first row, and none once it has a total, since they were asked then.
+pub fn to_ask(total: u64, i: usize) -> usize
+    ensures { λ n. ⌜ n ≡ asked total i ⌝ }
+{
+    if 0 < total {
+        return 0;
+    }
+    i
+}
+
 // The first slot before which a job has its full size, once its total goes from `before` to `after` by a row in `slot`.
 pub fn ready_after(ready: u16, before: u64, after: u64, size: u32, slot: u16) -> u16
     requires { ⌜ slot < slots ⌝ }
@@ -211,8 +221,9 @@ pub fn walk_rows(book: &[u8], table: &[u8], x: Index, work: &mut [u8]) -> Walked
             bad = refused(late, r);
             break 'rows;
         }
+        let ask = to_ask(totals[64 * f + i], i);
         let mut k: usize = 0;
-        while k < i {
+        while k < ask {
             if lacks(job.predecessors, k, r.slot, ready[64 * f + k]) {
                 bad = refused(19, r);
                 break 'rows;

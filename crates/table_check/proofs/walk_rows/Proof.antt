@@ -5,8 +5,8 @@ use lib.ListN.{length, getD, length-replicate, getD-replicate}
 use Rattle.rules.specs.declared.Verdict.the-variants.{Pass}
 use Rattle.rules.specs.Walks.{anyTo}
 use Rattle.rules.specs.Fields.{AllBytes}
-use Rattle.table_check.specs.Tally.{place, lacksAt}
-use Rattle.table_check.proofs.Turns.{Known, Begun, Turn, none-tested, one-tested, all-tested, ready-flows, ready-head, slot-inside, known-of, begun-none, work-long, unknown-stops, early-stops, stands, job-inside, late-asks, late-stops, turn-of, flow-few, job-few, slot-few, at-inside, use-fits, total-fits, lacks-stops, begun-next, walk-stops, walk-ends}
+use Rattle.table_check.specs.Tally.{place, lacksAt, asked}
+use Rattle.table_check.proofs.Turns.{Known, Begun, Turn, none-tested, one-tested, all-tested, asked-most, all-asked, ready-flows, ready-head, slot-inside, known-of, begun-none, work-long, unknown-stops, early-stops, stands, job-inside, late-asks, late-stops, turn-of, flow-few, job-few, slot-few, at-inside, use-fits, total-fits, lacks-stops, begun-next, walk-stops, walk-ends}
 use borrow.Author.Needs.{needs}
 use native.Mathlib.Omega.{arith}
 use Rattle.table_check.proofs.walk_rows.Statement.{statement}
@@ -22,18 +22,19 @@ use Rattle.book.proofs.job_of.Reads as job-of-reads
 use Rattle.table_check.proofs.early_fault.Reads as early-fault-reads
 use Rattle.table_check.proofs.key_of.Reads as key-of-reads
 use Rattle.table_check.proofs.lacks.Reads as lacks-reads
+use Rattle.table_check.proofs.to_ask.Reads as to-ask-reads
 use Rattle.table_check.proofs.late_fault.Reads as late-fault-reads
 use Rattle.table_check.proofs.read_row.Reads as read-row-reads
 use Rattle.table_check.proofs.ready_after.Reads as ready-after-reads
 use Rattle.table_check.proofs.refused.Reads as refused-reads
 
 abbrev Inv-loop : tie.InvT-loop
-Inv-loop book table work processors flows starts deadlines jobs head rows bad₀ totals ready finish least row r f key early i job at used late k₀ bad k =
-    Turn book table row r f key i job at used × (bad ≡ Pass) × (f < 64) × (i < 64) × (k ≤ i)
-    × (anyTo (λ m. lacksAt (job .predecessors) m (r .slot) (getD ready (place f m) 0)) k ≡ false)
+Inv-loop book table work processors flows starts deadlines jobs head rows bad₀ totals ready finish least row r f key early i job at used late ask k₀ bad k =
+    Turn book table row r f key i job at used × (bad ≡ Pass) × (f < 64) × (i < 64) × (k ≤ ask) × (ask ≤ i)
+    × (anyTo (λ m. lacksAt (job .predecessors) m (r .slot) (getD ready (place f m) 0)) k ≡ false) × (ask ≡ asked (getD totals (place f i) 0) i)
 
 abbrev μ-loop : tie.MeasureT-loop
-μ-loop book table work processors flows starts deadlines jobs head rows bad₀ totals ready finish least row r f key early i job at used late k₀ bad k = i - k
+μ-loop book table work processors flows starts deadlines jobs head rows bad₀ totals ready finish least row r f key early i job at used late ask k₀ bad k = ask - k
 
 abbrev Inv-rows : tie.InvT-rows
 Inv-rows book table work₀ processors flows starts deadlines jobs head rows bad₀ totals₀ ready₀ finish₀ least₀ row₀ work bad totals ready finish least row =
@@ -150,11 +151,34 @@ late-fault-requires c κs = late-asks (c .before .before .before .before .before
 refused-requires-3 : tie.Need-refused-requires-3 Inv-loop μ-loop Inv-rows μ-rows
 refused-requires-3 c κs = tt
 
+mul-to-ask : tie.Need-mul-to-ask Inv-loop μ-loop Inv-rows μ-rows
+mul-to-ask c =
+    let turn = turn-of (c .before .before .before .before .before .before .before .before .before .before .before .before .before .before .rows .inv .0) (c .before .before .before .before .before .before .before .before .before .before .before .before .before .before .rows .inv .1) (c .before .before .before .before .before .before .before .before .before .before .before .before .before .rows-test .taken) (c .before .before .before .before .before .before .before .before .before .before .before .before .read-row .result) (c .before .before .before .before .before .before .before .before .before .before .before .before .read-row .ensures) (c .before .before .before .before .before .before .before .before .before .before .before .wide .ensures .0) (c .before .before .before .before .before .before .before .before .before .before .if1 .left) (c .before .before .before .before .before .before .before .before .before .key-of .ensures .0) (c .before .before .before .before .before .before .before .before .early-fault .ensures) (c .before .before .before .before .before .before .before .if2 .left) (c .before .before .before .before .before .before .wide2 .ensures .0) (c .before .before .before .before .before .job-of .ensures) (ap (λ (n : ℕ). 2 * n) (c .before .before .before .before .wide16 .ensures .0)) (c .before .before .read16 .ensures) (c .before .late-fault .ensures) (c .if3 .left) in
+    omega (arith, flow-few (c .before .before .before .before .before .before .before .before .before .before .before .before .before .before .rows .inv .0) (c .before .before .before .before .before .before .before .before .before .before .before .before .before .before .rows .inv .1) turn, job-few (c .before .before .before .before .before .before .before .before .before .before .before .before .before .before .rows .inv .0) (c .before .before .before .before .before .before .before .before .before .before .before .before .before .before .rows .inv .1) turn)
+
+add-to-ask : tie.Need-add-to-ask Inv-loop μ-loop Inv-rows μ-rows
+add-to-ask c =
+    let turn = turn-of (c .before .before .before .before .before .before .before .before .before .before .before .before .before .before .rows .inv .0) (c .before .before .before .before .before .before .before .before .before .before .before .before .before .before .rows .inv .1) (c .before .before .before .before .before .before .before .before .before .before .before .before .before .rows-test .taken) (c .before .before .before .before .before .before .before .before .before .before .before .before .read-row .result) (c .before .before .before .before .before .before .before .before .before .before .before .before .read-row .ensures) (c .before .before .before .before .before .before .before .before .before .before .before .wide .ensures .0) (c .before .before .before .before .before .before .before .before .before .before .if1 .left) (c .before .before .before .before .before .before .before .before .before .key-of .ensures .0) (c .before .before .before .before .before .before .before .before .early-fault .ensures) (c .before .before .before .before .before .before .before .if2 .left) (c .before .before .before .before .before .before .wide2 .ensures .0) (c .before .before .before .before .before .job-of .ensures) (ap (λ (n : ℕ). 2 * n) (c .before .before .before .before .wide16 .ensures .0)) (c .before .before .read16 .ensures) (c .before .late-fault .ensures) (c .if3 .left) in
+    omega (arith, flow-few (c .before .before .before .before .before .before .before .before .before .before .before .before .before .before .rows .inv .0) (c .before .before .before .before .before .before .before .before .before .before .before .before .before .before .rows .inv .1) turn, job-few (c .before .before .before .before .before .before .before .before .before .before .before .before .before .before .rows .inv .0) (c .before .before .before .before .before .before .before .before .before .before .before .before .before .before .rows .inv .1) turn)
+
+mul-to-ask-2 : tie.Need-mul-to-ask-2 Inv-loop μ-loop Inv-rows μ-rows
+mul-to-ask-2 c =
+    let turn = turn-of (c .before .before .before .before .before .before .before .before .before .before .before .before .before .before .rows .inv .0) (c .before .before .before .before .before .before .before .before .before .before .before .before .before .before .rows .inv .1) (c .before .before .before .before .before .before .before .before .before .before .before .before .before .rows-test .taken) (c .before .before .before .before .before .before .before .before .before .before .before .before .read-row .result) (c .before .before .before .before .before .before .before .before .before .before .before .before .read-row .ensures) (c .before .before .before .before .before .before .before .before .before .before .before .wide .ensures .0) (c .before .before .before .before .before .before .before .before .before .before .if1 .left) (c .before .before .before .before .before .before .before .before .before .key-of .ensures .0) (c .before .before .before .before .before .before .before .before .early-fault .ensures) (c .before .before .before .before .before .before .before .if2 .left) (c .before .before .before .before .before .before .wide2 .ensures .0) (c .before .before .before .before .before .job-of .ensures) (ap (λ (n : ℕ). 2 * n) (c .before .before .before .before .wide16 .ensures .0)) (c .before .before .read16 .ensures) (c .before .late-fault .ensures) (c .if3 .left) in
+    omega (arith, flow-few (c .before .before .before .before .before .before .before .before .before .before .before .before .before .before .rows .inv .0) (c .before .before .before .before .before .before .before .before .before .before .before .before .before .before .rows .inv .1) turn, job-few (c .before .before .before .before .before .before .before .before .before .before .before .before .before .before .rows .inv .0) (c .before .before .before .before .before .before .before .before .before .before .before .before .before .before .rows .inv .1) turn)
+
+array-read-to-ask : tie.Need-array-read-to-ask Inv-loop μ-loop Inv-rows μ-rows
+array-read-to-ask c =
+    let turn = turn-of (c .before .before .before .before .before .before .before .before .before .before .before .before .before .before .rows .inv .0) (c .before .before .before .before .before .before .before .before .before .before .before .before .before .before .rows .inv .1) (c .before .before .before .before .before .before .before .before .before .before .before .before .before .rows-test .taken) (c .before .before .before .before .before .before .before .before .before .before .before .before .read-row .result) (c .before .before .before .before .before .before .before .before .before .before .before .before .read-row .ensures) (c .before .before .before .before .before .before .before .before .before .before .before .wide .ensures .0) (c .before .before .before .before .before .before .before .before .before .before .if1 .left) (c .before .before .before .before .before .before .before .before .before .key-of .ensures .0) (c .before .before .before .before .before .before .before .before .early-fault .ensures) (c .before .before .before .before .before .before .before .if2 .left) (c .before .before .before .before .before .before .wide2 .ensures .0) (c .before .before .before .before .before .job-of .ensures) (ap (λ (n : ℕ). 2 * n) (c .before .before .before .before .wide16 .ensures .0)) (c .before .before .read16 .ensures) (c .before .late-fault .ensures) (c .if3 .left) in
+    omega (arith, flow-few (c .before .before .before .before .before .before .before .before .before .before .before .before .before .before .rows .inv .0) (c .before .before .before .before .before .before .before .before .before .before .before .before .before .before .rows .inv .1) turn, job-few (c .before .before .before .before .before .before .before .before .before .before .before .before .before .before .rows .inv .0) (c .before .before .before .before .before .before .before .before .before .before .before .before .before .before .rows .inv .1) turn)
+
+to-ask-requires : tie.Need-to-ask-requires Inv-loop μ-loop Inv-rows μ-rows
+to-ask-requires c κs = tt
+
 -- src/lib.rt:200:9
 loop-holds : tie.Need-loop-holds Inv-loop μ-loop Inv-rows μ-rows
 loop-holds c =
-    let turn = turn-of (c .before .before .before .before .before .before .before .before .before .before .before .before .before .before .rows .inv .0) (c .before .before .before .before .before .before .before .before .before .before .before .before .before .before .rows .inv .1) (c .before .before .before .before .before .before .before .before .before .before .before .before .before .rows-test .taken) (c .before .before .before .before .before .before .before .before .before .before .before .before .read-row .result) (c .before .before .before .before .before .before .before .before .before .before .before .before .read-row .ensures) (c .before .before .before .before .before .before .before .before .before .before .before .wide .ensures .0) (c .before .before .before .before .before .before .before .before .before .before .if1 .left) (c .before .before .before .before .before .before .before .before .before .key-of .ensures .0) (c .before .before .before .before .before .before .before .before .early-fault .ensures) (c .before .before .before .before .before .before .before .if2 .left) (c .before .before .before .before .before .before .wide2 .ensures .0) (c .before .before .before .before .before .job-of .ensures) (ap (λ (n : ℕ). 2 * n) (c .before .before .before .before .wide16 .ensures .0)) (c .before .before .read16 .ensures) (c .before .late-fault .ensures) (c .if3 .left) in
-    (turn, (c .before .before .before .before .before .before .before .before .before .before .before .before .before .before .rows .inv .1) .no-fault, flow-few (c .before .before .before .before .before .before .before .before .before .before .before .before .before .before .rows .inv .0) (c .before .before .before .before .before .before .before .before .before .before .before .before .before .before .rows .inv .1) turn, job-few (c .before .before .before .before .before .before .before .before .before .before .before .before .before .before .rows .inv .0) (c .before .before .before .before .before .before .before .before .before .before .before .before .before .before .rows .inv .1) turn, omega arith, none-tested _)
+    let turn = turn-of (c .before .before .before .before .before .before .before .before .before .before .before .before .before .before .before .rows .inv .0) (c .before .before .before .before .before .before .before .before .before .before .before .before .before .before .before .rows .inv .1) (c .before .before .before .before .before .before .before .before .before .before .before .before .before .before .rows-test .taken) (c .before .before .before .before .before .before .before .before .before .before .before .before .before .read-row .result) (c .before .before .before .before .before .before .before .before .before .before .before .before .before .read-row .ensures) (c .before .before .before .before .before .before .before .before .before .before .before .before .wide .ensures .0) (c .before .before .before .before .before .before .before .before .before .before .before .if1 .left) (c .before .before .before .before .before .before .before .before .before .before .key-of .ensures .0) (c .before .before .before .before .before .before .before .before .before .early-fault .ensures) (c .before .before .before .before .before .before .before .before .if2 .left) (c .before .before .before .before .before .before .before .wide2 .ensures .0) (c .before .before .before .before .before .before .job-of .ensures) (ap (λ (n : ℕ). 2 * n) (c .before .before .before .before .before .wide16 .ensures .0)) (c .before .before .before .read16 .ensures) (c .before .before .late-fault .ensures) (c .before .if3 .left) in
+    (turn, (c .before .before .before .before .before .before .before .before .before .before .before .before .before .before .before .rows .inv .1) .no-fault, flow-few (c .before .before .before .before .before .before .before .before .before .before .before .before .before .before .before .rows .inv .0) (c .before .before .before .before .before .before .before .before .before .before .before .before .before .before .before .rows .inv .1) turn, job-few (c .before .before .before .before .before .before .before .before .before .before .before .before .before .before .before .rows .inv .0) (c .before .before .before .before .before .before .before .before .before .before .before .before .before .before .before .rows .inv .1) turn, omega arith, asked-most _ _ _ (c .to-ask .ensures), none-tested _, c .to-ask .ensures)
 
 -- src/lib.rt:201:57
 mul-lacks : tie.Need-mul-lacks Inv-loop μ-loop Inv-rows μ-rows
@@ -192,15 +216,15 @@ loop-less c = omega (arith, c .before .before .loop-test .taken)
 loop-again : tie.Need-loop-again Inv-loop μ-loop Inv-rows μ-rows
 loop-again c =
     let l = c .before .before .before .loop .inv in
-    (l .0, l .1, l .2, l .3, omega (arith, c .before .before .loop-test .taken), one-tested _ _ (l .5) (sym (c .before .lacks .ensures) ∙ c .if4 .left))
+    (l .0, l .1, l .2, l .3, omega (arith, c .before .before .loop-test .taken), l .5, one-tested _ _ (l .6) (sym (c .before .lacks .ensures) ∙ c .if4 .left), l .7)
 
 -- src/lib.rt:207:34
 add-write16 : tie.Need-add-write16 Inv-loop μ-loop Inv-rows μ-rows
-add-write16 c = omega (arith, use-fits (c .before .before .before .before .before .before .before .before .before .before .before .before .before .before .before .before .before .before .rows .inv .0) (c .before .before .before .before .before .before .before .before .before .before .before .before .before .before .before .before .before .before .rows .inv .1) (c .before .before .before .loop .inv .0))
+add-write16 c = omega (arith, use-fits (c .before .before .before .before .before .before .before .before .before .before .before .before .before .before .before .before .before .before .before .rows .inv .0) (c .before .before .before .before .before .before .before .before .before .before .before .before .before .before .before .before .before .before .before .rows .inv .1) (c .before .before .before .loop .inv .0))
 
 -- src/lib.rt:207:9
 write16-requires : tie.Need-write16-requires Inv-loop μ-loop Inv-rows μ-rows
-write16-requires c κs = at-inside (c .before .before .before .before .before .before .before .before .before .before .before .before .before .before .before .before .before .before .rows .inv .0) (c .before .before .before .before .before .before .before .before .before .before .before .before .before .before .before .before .before .before .rows .inv .1) (c .before .before .before .loop .inv .0)
+write16-requires c κs = at-inside (c .before .before .before .before .before .before .before .before .before .before .before .before .before .before .before .before .before .before .before .rows .inv .0) (c .before .before .before .before .before .before .before .before .before .before .before .before .before .before .before .before .before .before .before .rows .inv .1) (c .before .before .before .loop .inv .0)
 
 -- src/lib.rt:208:21
 mul-place : tie.Need-mul-place Inv-loop μ-loop Inv-rows μ-rows
@@ -224,7 +248,7 @@ cast-after c = omega (arith, c .before .before .before .before .before .before .
 
 -- src/lib.rt:210:21
 add-after : tie.Need-add-after Inv-loop μ-loop Inv-rows μ-rows
-add-after c = omega (arith, total-fits (c .before .before .before .before .before .before .before .before .before .before .before .before .before .before .before .before .before .before .before .before .before .before .rows .inv .0) (c .before .before .before .before .before .before .before .before .before .before .before .before .before .before .before .before .before .before .before .before .before .before .rows .inv .1) (c .before .before .before .before .before .before .before .loop .inv .0))
+add-after c = omega (arith, total-fits (c .before .before .before .before .before .before .before .before .before .before .before .before .before .before .before .before .before .before .before .before .before .before .before .rows .inv .0) (c .before .before .before .before .before .before .before .before .before .before .before .before .before .before .before .before .before .before .before .before .before .before .before .rows .inv .1) (c .before .before .before .before .before .before .before .loop .inv .0))
 
 -- src/lib.rt:211:9
 mul-totals : tie.Need-mul-totals Inv-loop μ-loop Inv-rows μ-rows
@@ -244,7 +268,7 @@ array-read-ready-after c = omega (arith, c .before .before .before .before .befo
 
 -- src/lib.rt:212:24
 ready-after-requires : tie.Need-ready-after-requires Inv-loop μ-loop Inv-rows μ-rows
-ready-after-requires c κs = slot-few (c .before .before .before .before .before .before .before .before .before .before .before .before .before .before .before .before .before .before .before .before .before .before .rows .inv .0) (c .before .before .before .before .before .before .before .before .before .before .before .before .before .before .before .before .before .before .before .before .before .before .rows .inv .1) (c .before .before .before .before .before .before .before .loop .inv .0)
+ready-after-requires c κs = slot-few (c .before .before .before .before .before .before .before .before .before .before .before .before .before .before .before .before .before .before .before .before .before .before .before .rows .inv .0) (c .before .before .before .before .before .before .before .before .before .before .before .before .before .before .before .before .before .before .before .before .before .before .before .rows .inv .1) (c .before .before .before .before .before .before .before .loop .inv .0)
 
 -- src/lib.rt:212:9
 mul-ready : tie.Need-mul-ready Inv-loop μ-loop Inv-rows μ-rows
@@ -256,7 +280,7 @@ array-write-ready c = omega (arith, c .before .before .before .before .before .b
 
 -- src/lib.rt:213:21
 add-finish : tie.Need-add-finish Inv-loop μ-loop Inv-rows μ-rows
-add-finish c = omega (arith, slot-few (c .before .before .before .before .before .before .before .before .before .before .before .before .before .before .before .before .before .before .before .before .before .before .before .before .rows .inv .0) (c .before .before .before .before .before .before .before .before .before .before .before .before .before .before .before .before .before .before .before .before .before .before .before .before .rows .inv .1) (c .before .before .before .before .before .before .before .before .before .loop .inv .0))
+add-finish c = omega (arith, slot-few (c .before .before .before .before .before .before .before .before .before .before .before .before .before .before .before .before .before .before .before .before .before .before .before .before .before .rows .inv .0) (c .before .before .before .before .before .before .before .before .before .before .before .before .before .before .before .before .before .before .before .before .before .before .before .before .before .rows .inv .1) (c .before .before .before .before .before .before .before .before .before .loop .inv .0))
 
 -- src/lib.rt:213:9
 mul-finish : tie.Need-mul-finish Inv-loop μ-loop Inv-rows μ-rows
@@ -268,21 +292,21 @@ array-write-finish c = omega (arith, c .before .before .before .before .before .
 
 -- src/lib.rt:214:17
 add-least : tie.Need-add-least Inv-loop μ-loop Inv-rows μ-rows
-add-least c = omega (arith, c .before .before .before .before .before .before .before .before .before .before .before .before .before .before .before .before .before .before .before .key-of .ensures .1)
+add-least c = omega (arith, c .before .before .before .before .before .before .before .before .before .before .before .before .before .before .before .before .before .before .before .before .key-of .ensures .1)
 
 -- src/lib.rt:215:15
 add-row : tie.Need-add-row Inv-loop μ-loop Inv-rows μ-rows
-add-row c = omega (arith, (c .before .before .before .before .before .before .before .before .before .before .before .before .before .before .before .before .before .before .before .before .before .before .before .rows-test .taken), (c .before .before .before .before .before .before .before .before .before .before .before .before .before .before .before .before .before .before .before .before .before .before .before .before .rows .inv .0) .rows-few)
+add-row c = omega (arith, (c .before .before .before .before .before .before .before .before .before .before .before .before .before .before .before .before .before .before .before .before .before .before .before .before .rows-test .taken), (c .before .before .before .before .before .before .before .before .before .before .before .before .before .before .before .before .before .before .before .before .before .before .before .before .before .rows .inv .0) .rows-few)
 
 -- src/lib.rt:177:5
 rows-less : tie.Need-rows-less Inv-loop μ-loop Inv-rows μ-rows
-rows-less c = omega (arith, (c .before .before .before .before .before .before .before .before .before .before .before .before .before .before .before .before .before .before .before .before .before .before .before .rows-test .taken))
+rows-less c = omega (arith, (c .before .before .before .before .before .before .before .before .before .before .before .before .before .before .before .before .before .before .before .before .before .before .before .before .rows-test .taken))
 
 -- src/lib.rt:177:5
 rows-again : tie.Need-rows-again Inv-loop μ-loop Inv-rows μ-rows
 rows-again c =
     let l = c .before .before .before .before .before .before .before .before .before .loop .inv in
-    ((c .before .before .before .before .before .before .before .before .before .before .before .before .before .before .before .before .before .before .before .before .before .before .before .before .rows .inv .0), begun-next (c .before .before .before .before .before .before .before .before .before .before .before .before .before .before .before .before .before .before .before .before .before .before .before .before .rows .inv .0) (c .before .before .before .before .before .before .before .before .before .before .before .before .before .before .before .before .before .before .before .before .before .before .before .before .rows .inv .1) (l .0) (all-tested _ _ _ (l .4) (c .before .before .before .before .before .before .before .before .loop-test .left) (l .5)) _ _ _ _ (l .1) (c .before .before .before .before .before .write16 .ensures) refl (c .before .ready-after .ensures))
+    ((c .before .before .before .before .before .before .before .before .before .before .before .before .before .before .before .before .before .before .before .before .before .before .before .before .before .rows .inv .0), begun-next (c .before .before .before .before .before .before .before .before .before .before .before .before .before .before .before .before .before .before .before .before .before .before .before .before .before .rows .inv .0) (c .before .before .before .before .before .before .before .before .before .before .before .before .before .before .before .before .before .before .before .before .before .before .before .before .before .rows .inv .1) (l .0) (all-asked (c .before .before .before .before .before .before .before .before .before .before .before .before .before .before .before .before .before .before .before .before .before .before .before .before .before .rows .inv .0) (c .before .before .before .before .before .before .before .before .before .before .before .before .before .before .before .before .before .before .before .before .before .before .before .before .before .rows .inv .1) (l .0) _ (l .7) (all-tested _ _ _ (l .4) (c .before .before .before .before .before .before .before .before .loop-test .left) (l .6))) _ _ _ _ (l .1) (c .before .before .before .before .before .write16 .ensures) refl (c .before .ready-after .ensures))
 
 -- src/lib.rt:159:1
 same-length : tie.Need-same-length Inv-loop μ-loop Inv-rows μ-rows
@@ -318,11 +342,11 @@ returns-4 c = walk-stops (c .before .before .before .before .before .before .bef
 
 -- src/lib.rt:159:1
 same-length-5 : tie.Need-same-length-5 Inv-loop μ-loop Inv-rows μ-rows
-same-length-5 c = work-long (c .before .before .before .before .before .before .before .before .before .before .before .before .before .before .before .before .before .before .before .rows .inv .0) (c .before .before .before .before .before .before .before .before .before .before .before .before .before .before .before .before .before .before .before .rows .inv .1) ∙ c .before .before .before .before .before .before .before .before .before .before .before .before .before .before .before .before .before .before .before .before .before .before .before .before .before .clear .kept .0
+same-length-5 c = work-long (c .before .before .before .before .before .before .before .before .before .before .before .before .before .before .before .before .before .before .before .before .rows .inv .0) (c .before .before .before .before .before .before .before .before .before .before .before .before .before .before .before .before .before .before .before .before .rows .inv .1) ∙ c .before .before .before .before .before .before .before .before .before .before .before .before .before .before .before .before .before .before .before .before .before .before .before .before .before .before .clear .kept .0
 
 -- src/lib.rt:159:1
 returns-5 : tie.Need-returns-5 Inv-loop μ-loop Inv-rows μ-rows
-returns-5 c = walk-stops (c .before .before .before .before .before .before .before .before .before .before .before .before .before .before .before .before .before .before .before .rows .inv .0) (c .before .before .before .before .before .before .before .before .before .before .before .before .before .before .before .before .before .before .before .rows .inv .1) (c .before .before .before .before .before .before .before .before .before .before .before .before .before .before .before .before .before .before .before .before .before .before .before .before .before .before .before .before .before .before .args .work .now) (c .before .before .before .before .before .before .before .before .before .before .before .before .before .before .before .before .before .before .before .before .before .before .before .before .before .clear .ensures) (c .before .before .before .before .before .before .before .before .before .before .before .before .before .before .before .before .before .before .rows-test .taken) 19 _ _ _ (c .refused4 .ensures) (lacks-stops (c .before .before .before .before .before .before .before .before .before .before .before .before .before .before .before .before .before .before .before .rows .inv .0) (c .before .before .before .before .before .before .before .before .before .before .before .before .before .before .before .before .before .before .before .rows .inv .1) (c .before .before .before .before .loop .inv .0) _ (c .before .before .before .loop-test .taken) (sym (c .before .before .lacks .ensures) ∙ c .before .if4 .taken))
+returns-5 c = walk-stops (c .before .before .before .before .before .before .before .before .before .before .before .before .before .before .before .before .before .before .before .before .rows .inv .0) (c .before .before .before .before .before .before .before .before .before .before .before .before .before .before .before .before .before .before .before .before .rows .inv .1) (c .before .before .before .before .before .before .before .before .before .before .before .before .before .before .before .before .before .before .before .before .before .before .before .before .before .before .before .before .before .before .before .args .work .now) (c .before .before .before .before .before .before .before .before .before .before .before .before .before .before .before .before .before .before .before .before .before .before .before .before .before .before .clear .ensures) (c .before .before .before .before .before .before .before .before .before .before .before .before .before .before .before .before .before .before .before .rows-test .taken) 19 _ _ _ (c .refused4 .ensures) (lacks-stops (c .before .before .before .before .before .before .before .before .before .before .before .before .before .before .before .before .before .before .before .before .rows .inv .0) (c .before .before .before .before .before .before .before .before .before .before .before .before .before .before .before .before .before .before .before .before .rows .inv .1) (c .before .before .before .before .loop .inv .0) _ (omega (arith, c .before .before .before .loop-test .taken, c .before .before .before .before .loop .inv .5)) (sym (c .before .before .lacks .ensures) ∙ c .before .if4 .taken))
 
 pub walk-rows-spec : {M : Type 1} → statement M
 walk-rows-spec =
@@ -357,6 +381,11 @@ walk-rows-spec =
     read16-requires
     late-fault-requires
     refused-requires-3
+    mul-to-ask
+    add-to-ask
+    mul-to-ask-2
+    array-read-to-ask
+    to-ask-requires
     loop-holds
     mul-lacks
     add-lacks
