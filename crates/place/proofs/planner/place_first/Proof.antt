@@ -31,7 +31,7 @@ loop-holds : tie.Need-loop-holds Inv-loop μ-loop
 loop-holds c =
     let a = c .before .before .before .args in
     let p = c .before .before .before .pre in
-    (search needs, refl, refl, ([], stands-first (bookOf (a .book .now)) (a .out .now) (a .work .now) (8 + 2 * a .t4 .flows) 64 (p .zero) (ap (λ (n : ℕ). 8 + 2 * n) (p .indexed .flows)) refl))
+    (search needs, refl, refl, ([], stands-first (bookOf (a .book .now)) (a .out .now) (a .work .now) _ 64 (p .zero) (omega (arith, p .indexed .flows)) refl))
 
 array-read-flow : tie.Need-array-read-flow Inv-loop μ-loop
 array-read-flow c = omega (arith, few-flows (c .before .before .before .before .before .pre), c .before .before .before .before .before .pre .within, c .before .before .before .before .before .pre .indexed .flows)

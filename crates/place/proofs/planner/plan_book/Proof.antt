@@ -29,7 +29,7 @@ refusal-requires-2 c κs = search needs
 returns-2 : tie.Need-returns-2
 returns-2 c =
     let a = c .before .before .before .before .before .before .before .before .args in
-    leaves _ _ _ _ (call-short (a .book .now) (a .output .now) (a .work .now) (sym (c .before .before .before .before .verdict-of .ensures) ∙ c .before .before .enum-told .given .1) (c .before .if1 .taken)) (c .refusal2 .result) _ _ (c .refusal2 .ensures) refl refl
+    leaves _ _ _ _ (call-short (a .book .now) (a .output .now) (a .work .now) (sym (c .before .before .before .before .verdict-of .ensures) ∙ c .before .before .enum-told .given .1) (omega arith)) (c .refusal2 .result) _ _ (c .refusal2 .ensures) refl refl
 
 plan-passing-requires : tie.Need-plan-passing-requires
 plan-passing-requires c κs = (sym (c .before .before .before .before .before .verdict-of .ensures) ∙ c .before .before .before .enum-told .given .1, omega arith)

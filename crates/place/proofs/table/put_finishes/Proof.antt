@@ -6,7 +6,6 @@ use lib.ListN.{length, getD}
 use lib.Seq.{sets}
 use Rattle.rules.specs.Fields.{bytesOf}
 use Rattle.place.specs.Head.{finishBytes}
-use Rattle.book.proofs.Stores.{stores-length}
 use Rattle.place.proofs.Assembly.{finishes-none, finishes-next}
 use borrow.Author.Needs.{needs}
 use native.Mathlib.Omega.{arith}
@@ -49,7 +48,7 @@ loop-again c =
     let l = c .before .before .before .before .before .loop in
     let e = c .before .before .write16 .ensures in (
       search needs,
-      stores-length (l .out) (8 + 2 * l .f) (bytesOf 2 (getD (a .t2) (l .f) 0)) e ∙ l .inv .1,
+      search needs,
       e ∙ ap (λ (s : List ℕ). sets s (8 + 2 * l .f) (bytesOf 2 (getD (a .t2) (l .f) 0))) (l .inv .2) ∙ finishes-next (a .out .now) (a .t2) (l .f),
     )
 

@@ -3,9 +3,8 @@ use mathlib.Core.Path.{_≡_, ap, _∙_}
 use Prim.Native.Nat.{ℕ}
 use mathlib.Core.List.{List}
 use lib.ListN.{length, set, length-set}
-use lib.Seq.{sets}
+use lib.Seq.{sets, length-sets}
 use Rattle.rules.specs.Fields.{bytesOf}
-use Rattle.book.proofs.Stores.{stores-length}
 use Rattle.place.proofs.Assembly.{head-stores}
 use native.Mathlib.Omega.{arith}
 use borrow.Author.Needs.{needs}
@@ -19,23 +18,14 @@ slice-write-out : tie.Need-slice-write-out
 slice-write-out c = search needs
 
 write16-requires : tie.Need-write16-requires
-write16-requires c κs = simp length-set (omega (arith, stores-length (c .before .before .before .before .before .before .args .out .now) 0 (bytesOf 4 (c .before .before .before .before .before .before .args .size)) (c .before .before .before .write32 .ensures)))
+write16-requires c κs = simp length-set (omega arith)
 
 slice-write-out-2 : tie.Need-slice-write-out-2
-slice-write-out-2 c =
-    let a = c .before .before .before .before .before .before .before .before .before .args in
-    let l = c .before .before .before .before .before .before .write32 .last .0 in
-    let first : length l ≡ length (a .out .now) = stores-length (a .out .now) 0 (bytesOf 4 (a .size)) (c .before .before .before .before .before .before .write32 .ensures) in
-    let second = stores-length (set l 4 1) 5 (bytesOf 2 (a .processors)) (c .before .before .write16 .ensures) in
-    omega (arith, second, length-set l 4 1, first)
+slice-write-out-2 c = omega (arith, simp (length-sets, length-set) at (ap length (c .before .before .write16 .ensures)))
 
 same-length : tie.Need-same-length
 same-length c =
-    let a = c .before .before .before .before .before .before .before .before .before .args in
-    let l = c .before .before .before .before .before .before .write32 .last .0 in
-    let first : length l ≡ length (a .out .now) = stores-length (a .out .now) 0 (bytesOf 4 (a .size)) (c .before .before .before .before .before .before .write32 .ensures) in
-    let second = stores-length (set l 4 1) 5 (bytesOf 2 (a .processors)) (c .before .before .write16 .ensures) in
-    length-set (c .before .before .write16 .last .0) 7 (a .flows) ∙ second ∙ length-set l 4 1 ∙ first
+    simp length-set (simp (length-sets, length-set) at (ap length (c .before .before .write16 .ensures)) ∙ simp length-sets at (ap length (c .before .before .before .before .before .before .write32 .ensures)))
 
 returns : tie.Need-returns
 returns c =
