@@ -6,3 +6,4 @@ pub mod Stands
 pub mod Filled
 pub mod Loaded
 pub mod Served
+pub mod LateFlows

@@ -2,3 +2,4 @@
 pub mod Promise
 pub mod Records
 pub mod Arrays
+pub mod Late

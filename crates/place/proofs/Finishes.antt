@@ -16,7 +16,6 @@ use Rattle.rules.proofs.RowSums.{finish-least}
 use Rattle.rules.proofs.FlowRows.{grid-in}
 use Rattle.rules.proofs.PlacedFlow.{shareIn}
 use Rattle.rules.proofs.PlannedRows.{flow-rows-grid}
-use Rattle.place.specs.Late.{lateBy, lateCount}
 use Rattle.place.proofs.OneSlot.{finish-append}
 
 -- ---- finishes
@@ -43,26 +42,3 @@ module _ (rows : List Row) (w : Flow) (f : ℕ) (free : ℕ → ℕ) (n : ℕ) w
   -- the flow's own is that of its rows
   pub finish-own : finishOf rows f ≡ 0 → finishOf (rows ++ flowRows w f free n) f ≡ finishOf (flowRows w f free n) f
   finish-own e = omega (arith, finish-append rows (flowRows w f free n) f)
-
--- ---- late flows
-pub late-by-deadline : (w : Flow) (finish : ℕ) → lateBy (w .deadline) finish ≡ isLate w finish
-unfolding lateBy isLate
-late-by-deadline w finish = refl
-
--- no flow, and one flow more
-pub late-none : (deadlines finishes : List ℕ) → lateCount deadlines finishes 0 ≡ 0
-unfolding lateCount sumTo
-late-none deadlines finishes = refl
-
-pub late-next : (deadlines finishes : List ℕ) (n : ℕ) →
-    lateCount deadlines finishes (n + 1) ≡ lateCount deadlines finishes n + bit (lateBy (getD deadlines n 0) (getD finishes n 0))
-unfolding lateCount sumTo
-late-next deadlines finishes n = rw add-one refl
-
--- the count over deadlines and finishes is that of the book's late flows
-pub late-counted : (b : Book) (rows : List Row) (deadlines finishes : List ℕ) →
-    ((f : ℕ) → f < flowCount b → getD deadlines f 0 ≡ flowOf b f .deadline) →
-    ((f : ℕ) → f < flowCount b → getD finishes f 0 ≡ finishOf rows f) → lateCount deadlines finishes (flowCount b) ≡ lateFlows b rows
-unfolding lateCount lateFlows
-late-counted b rows deadlines finishes d e =
-    sum-ext _ _ (flowCount b) (λ f l. ap bit (ap₂ lateBy (d f l) (e f l) ∙ late-by-deadline (flowOf b f) (finishOf rows f)))

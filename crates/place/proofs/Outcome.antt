@@ -25,11 +25,11 @@ use Rattle.place.specs.declared.planner.Ended.{Ended}
 use Rattle.place.specs.declared.planner.Ended.the-variants.{Planned, Infeasible}
 use Rattle.place.specs.Call.{Leaves, Counted, Sized}
 use Rattle.place.specs.Head.{headBytes, finishBytes}
-use Rattle.place.specs.Late.{lateCount}
+use Rattle.book.specs.Late.{lateCount}
 use Rattle.place.specs.Output.{putRows}
 use Rattle.place.specs.Whole.{InOrder, Asked, PlacedFirst, endedOf, FirstPlaced}
 use Rattle.place.proofs.Assembly.{table-stored}
-use Rattle.place.proofs.Finishes.{late-counted}
+use Rattle.book.proofs.LateFlows.{late-counted}
 use Rattle.place.proofs.FirstFlows.{few-flows, place-most}
 
 -- ---- the area

@@ -4,7 +4,6 @@ pub mod Output
 pub mod Service
 -- a table's head, finishes and late flows
 pub mod Head
-pub mod Late
 -- the first flows in service order, and a call
 pub mod Whole
 pub mod Call

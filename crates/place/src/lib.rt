@@ -13,7 +13,6 @@ ghost use Rattle.place.specs.Output.{Put};
 ghost use Rattle.place.specs.Service.{Serving, currentFlow, pseudoJob, jobRows, overlaps};
 use book::bytes;
 
-pub mod late;
 pub mod planner;
 pub mod table;
 

@@ -12,7 +12,6 @@ ghost use Rattle.book.specs.Promise.{Indexed};
 ghost use Rattle.place.specs.Call.{Leaves, Counted, Sized};
 ghost use Rattle.place.specs.Whole.{InOrder, Asked, FirstPlaced};
 use super::Placed;
-use super::late;
 use super::table;
 use book::Index;
 use book::bytes;
@@ -107,7 +106,7 @@ pub fn write_table(
         number: 0,
         flow: 255,
         job: 255,
-        late: late::late_flows(deadlines, finish, flows),
+        late: book::late::late_flows(deadlines, finish, flows),
         length: size as u32,
     }
 }

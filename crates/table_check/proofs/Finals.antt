@@ -22,7 +22,9 @@ use Rattle.rules.proofs.Passing.{pass-in-range}
 use Rattle.book.specs.declared.Index.{Index}
 use Rattle.book.specs.Promise.{Indexed, FlowStands}
 use Rattle.table_check.specs.Tally.{place}
-use Rattle.table_check.specs.Walk.{Summed, totalFaultBy, totalsFaultBy, finishFaultBy, lateBy, lateCount}
+use Rattle.table_check.specs.Walk.{Summed, totalFaultBy, totalsFaultBy, finishFaultBy}
+use Rattle.book.specs.Late.{lateCount}
+use Rattle.book.proofs.LateFlows.{late-counted}
 
 -- ---- walks in the values of a loop
 module _ (g : ℕ → Verdict) where
@@ -86,15 +88,6 @@ module _ (table finish : List ℕ) (f v : ℕ) (v-is : v ≡ statedFinish table 
   unfolding finishFaultBy
   finish-wrong n = rw (ne-eqb (statedFinish table f) (getD finish f 0) (λ e. n (v-is ∙ e))) refl
 
-pub none-late : (deadlines finish : List ℕ) → lateCount deadlines finish 0 ≡ 0
-unfolding lateCount sumTo
-none-late deadlines finish = refl
-
-pub one-late : (deadlines finish : List ℕ) (f : ℕ) →
-    lateCount deadlines finish (f + 1) ≡ lateCount deadlines finish f + bit (lateBy (getD deadlines f 0) (getD finish f 0))
-unfolding lateCount sumTo
-one-late deadlines finish f = rw add-one refl
-
 -- ---- the table's own
 module _ (b : Book) (range : InRange b) (rows : List Row) (before after totals finish : List ℕ) (summed : Summed rows before after totals finish) where
   pub totals-same : totalsFaultBy b totals ≡ firstFault (λ f. firstFault (totalFault b rows f) (jobCount (flowOf b f))) (flowCount b)
@@ -113,7 +106,4 @@ module _ (b : Book) (range : InRange b) (rows : List Row) (before after totals f
 
   pub late-same : (deadlines : List ℕ) → ((f : ℕ) → f < flowCount b → getD deadlines f 0 ≡ flowOf b f .deadline) →
       lateCount deadlines finish (flowCount b) ≡ lateFlows b rows
-  unfolding lateCount lateFlows isLate
-  late-same deadlines d =
-      sum-ext (λ f. bit (ltb (getD deadlines f 0) (getD finish f 0))) (λ f. bit (ltb (flowOf b f .deadline) (finishOf rows f))) (flowCount b)
-      (λ f h. rw (d f h, summed .finish-of f (omega (arith, range .flows-most))) refl)
+  late-same deadlines d = late-counted b rows deadlines finish d (λ f h. summed .finish-of f (omega (arith, range .flows-most)))

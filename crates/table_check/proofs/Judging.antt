@@ -25,7 +25,8 @@ use Rattle.book.specs.Promise.{Indexed}
 use Rattle.table_check.specs.declared.Walked.{Walked}
 use Rattle.table_check.specs.declared.Judged.{Judged}
 use Rattle.table_check.specs.Tally.{headFault}
-use Rattle.table_check.specs.Walk.{Ready, Summed, RowsWalked, totalsFaultBy, finishFaultBy, lateCount, TableJudged}
+use Rattle.table_check.specs.Walk.{Ready, Summed, RowsWalked, totalsFaultBy, finishFaultBy, TableJudged}
+use Rattle.book.specs.Late.{lateCount}
 use Rattle.table_check.proofs.Heads.{head-of-book, head-passes}
 use Rattle.table_check.proofs.Finals.{totals-same, finishes-same, late-same}
 

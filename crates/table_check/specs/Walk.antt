@@ -51,14 +51,6 @@ totalsFaultBy b totals = firstFault (λ f. firstFault (totalFaultBy b totals f) 
 unfoldable pub finishFaultBy : List ℕ → List ℕ → ℕ → Verdict
 finishFaultBy table finish f = if eqb (statedFinish table f) (getD finish f 0) then Pass else Refused 21 f none
 
--- a flow is late, by its deadline
-abbrev pub lateBy : ℕ → ℕ → Bool
-lateBy deadline finish = ltb deadline finish
-
--- the late flows, by deadlines and finishes
-unfoldable pub lateCount : List ℕ → List ℕ → ℕ → ℕ
-lateCount deadlines finish flows = countTo (λ f. lateBy (getD deadlines f 0) (getD finish f 0)) flows
-
 -- ---- the table judged: 14 to 21
 pub record TableJudged (b : Book) (table before after : List ℕ) (j : Judged) : Type 0 where
   pub verdict : j .verdict ≡ tableFault b table

@@ -5,19 +5,19 @@ ghost use Prim.Native.Nat.{ℕ, _+_, _*_, _<_, _≤_};
 ghost use lib.ListN.{length, getD};
 ghost use lib.Dec.{ltb, leb, eqb};
 ghost use Rattle.rules.specs.declared.Verdict.the-variants.{Pass, Refused};
-ghost use Rattle.rules.specs.Walks.{if_then_else_, bit};
+ghost use Rattle.rules.specs.Walks.{if_then_else_};
 ghost use Rattle.rules.specs.Limits.{slots, workBytes};
 ghost use Rattle.rules.specs.Book.{Flow, flowCount};
-ghost use Rattle.rules.specs.Rows.{isLate};
 ghost use Rattle.rules.specs.Table.{rowAt};
 ghost use Rattle.table_check.specs.Tally.{rowFrom, keyOf, headFault, earlyNumber, lateNumber, lacksAt, asked, readyAfter};
 ghost use Rattle.rules.specs.Answers.{firstFault, checkAccepted, checkRefused};
 ghost use Rattle.rules.specs.Reading.{bookOf};
 ghost use Rattle.rules.specs.Check.{CheckOutcome, checkCall};
 ghost use Rattle.book.specs.Promise.{Indexed};
-ghost use Rattle.table_check.specs.Walk.{Ready, RowsWalked, totalsFaultBy, finishFaultBy, lateBy, lateCount, TableJudged};
+ghost use Rattle.table_check.specs.Walk.{Ready, RowsWalked, totalsFaultBy, finishFaultBy, TableJudged};
 use book::Index;
 use book::bytes;
+use book::late;
 use rules::CheckAnswer;
 use rules::Verdict;
 
@@ -163,16 +163,6 @@ pub fn ready_after(ready: u16, before: u64, after: u64, size: u32, slot: u16) ->
     slot + 1
 }
 
-// 1 where a flow is late, by its deadline and its finish.
-pub fn late_flow(deadline: u16, finish: u16) -> u8
-    ensures { λ n. ⌜ (n ≡ bit (lateBy deadline finish)) × (n ≤ 1) ⌝ }
-{
-    if deadline < finish {
-        return 1;
-    }
-    0
-}
-
 // What the walk over the rows hands back: the first fault, and each job's total and each flow's finish where there is none.
 pub struct Walked {
     pub verdict: Verdict,
@@ -295,20 +285,6 @@ pub fn finishes_verdict(table: &[u8], flows: usize, finish: [u16; 64]) -> Verdic
     Verdict::Pass
 }
 
-// The number of late flows.
-pub fn late_count(deadlines: [u16; 64], finish: [u16; 64], flows: usize) -> u8
-    requires { ⌜ flows ≤ 64 ⌝ }
-    ensures { λ n. ⌜ n ≡ lateCount deadlines finish flows ⌝ }
-{
-    let mut late: u8 = 0;
-    let mut f: usize = 0;
-    while f < flows {
-        late = late + late_flow(deadlines[f], finish[f]);
-        f = f + 1;
-    }
-    late
-}
-
 // What a table comes to: the first fault of 14 to 21, and the late flows where there is none.
 pub struct Judged {
     pub verdict: Verdict,
@@ -355,7 +331,7 @@ pub fn judge_table(book: &[u8], table: &[u8], x: Index, work: &mut [u8]) -> Judg
     let deadlines = x.deadlines;
     Judged {
         verdict: finishes,
-        late: late_count(deadlines, finish, flows),
+        late: late::late_flows(deadlines, finish, flows),
     }
 }
 

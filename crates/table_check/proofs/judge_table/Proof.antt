@@ -10,7 +10,7 @@ use Rattle.table_check.proofs.judge_table.Reads as reads
 use Rattle.table_check.proofs.judge_table.Lts as lts
 use Rattle.table_check.proofs.finishes_verdict.Reads as finishes-verdict-reads
 use Rattle.table_check.proofs.head_verdict.Reads as head-verdict-reads
-use Rattle.table_check.proofs.late_count.Reads as late-count-reads
+use Rattle.book.proofs.late.late_flows.Reads as late-flows-reads
 use Rattle.table_check.proofs.totals_verdict.Reads as totals-verdict-reads
 use Rattle.table_check.proofs.walk_rows.Reads as walk-rows-reads
 
@@ -71,14 +71,14 @@ same-length-3 c = search needs
 returns-4 : tie.Need-returns-4
 returns-4 c = finishes-stop (c .before .before .before .before .before .before .before .before .before .before .before .before .before .before .before .before .before .before .before .before .pre .0) (c .before .before .before .before .before .before .before .before .before .before .before .before .before .before .before .before .before .before .before .before .args .table .now) (c .before .before .before .before .before .before .before .before .before .before .before .before .before .before .before .before .head-verdict .ensures) (c .before .before .before .before .before .before .before .before .before .before .before .before .before .before .enum-told .given .1) (c .before .before .before .before .before .before .before .before .before .before .before .before .walk-rows .ensures) (c .before .before .before .before .before .before .before .before .enum-told3 .given .1) (c .before .before .before .before .before .before .totals-verdict .ensures) (c .before .before .before .before .enum-told5 .given .1) (c .before .before .finishes-verdict .ensures) (c .enum-told8 .given .1)
 
-late-count-requires : tie.Need-late-count-requires
-late-count-requires c κs = index-flows (c .before .before .before .before .before .before .before .before .before .before .before .before .before .before .before .before .before .before .before .before .before .pre .0)
+late-flows-requires : tie.Need-late-flows-requires
+late-flows-requires c κs = index-flows (c .before .before .before .before .before .before .before .before .before .before .before .before .before .before .before .before .before .before .before .before .before .pre .0)
 
 same-length-4 : tie.Need-same-length-4
 same-length-4 c = search needs
 
 returns-5 : tie.Need-returns-5
-returns-5 c = judgement-ends (c .before .before .before .before .before .before .before .before .before .before .before .before .before .before .before .before .before .before .before .before .before .before .pre .0) (c .before .before .before .before .before .before .before .before .before .before .before .before .before .before .before .before .before .before .before .before .before .before .args .table .now) (c .before .before .before .before .before .before .before .before .before .before .before .before .before .before .before .before .before .before .head-verdict .ensures) (c .before .before .before .before .before .before .before .before .before .before .before .before .before .before .before .before .enum-told .given .1) (c .before .before .before .before .before .before .before .before .before .before .before .before .before .before .walk-rows .ensures) (c .before .before .before .before .before .before .before .before .before .before .enum-told3 .given .1) (c .before .before .before .before .before .before .before .before .totals-verdict .ensures) (c .before .before .before .before .before .before .enum-told5 .given .1) (c .before .before .before .before .finishes-verdict .ensures) (c .late-count .ensures)
+returns-5 c = judgement-ends (c .before .before .before .before .before .before .before .before .before .before .before .before .before .before .before .before .before .before .before .before .before .before .pre .0) (c .before .before .before .before .before .before .before .before .before .before .before .before .before .before .before .before .before .before .before .before .before .before .args .table .now) (c .before .before .before .before .before .before .before .before .before .before .before .before .before .before .before .before .before .before .head-verdict .ensures) (c .before .before .before .before .before .before .before .before .before .before .before .before .before .before .before .before .enum-told .given .1) (c .before .before .before .before .before .before .before .before .before .before .before .before .before .before .walk-rows .ensures) (c .before .before .before .before .before .before .before .before .before .before .enum-told3 .given .1) (c .before .before .before .before .before .before .before .before .totals-verdict .ensures) (c .before .before .before .before .before .before .enum-told5 .given .1) (c .before .before .before .before .finishes-verdict .ensures) (c .late-flows .ensures)
 
 pub judge-table-spec : {M : Type 1} → statement M
 judge-table-spec =
@@ -103,6 +103,6 @@ judge-table-spec =
     enum-told-8
     same-length-3
     returns-4
-    late-count-requires
+    late-flows-requires
     same-length-4
     returns-5)

@@ -1,11 +1,11 @@
 -- One more by the test of rule 7, and the same otherwise. Assumes nothing.
 use mathlib.Core.Path.{_≡_, refl, sym, _∙_}
 use mathlib.Core.Bool.{true, false}
-use Rattle.place.specs.Late.{lateBy}
+use Rattle.book.specs.Late.{lateBy}
 use native.Mathlib.Omega.{arith}
 use borrow.Author.Needs.{needs}
-use Rattle.place.proofs.late.and_late.Statement.{statement}
-use Rattle.place.proofs.late.and_late.Tie as tie
+use Rattle.book.proofs.late.and_late.Statement.{statement}
+use Rattle.book.proofs.late.and_late.Tie as tie
 
 is-late-requires : tie.Need-is-late-requires
 is-late-requires c κs = search needs

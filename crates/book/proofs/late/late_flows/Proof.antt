@@ -4,12 +4,12 @@ use Prim.Native.Nat.{_+_, _-_, _≤_}
 use lib.ListN.{getD}
 use Rattle.rules.specs.Walks.{bit}
 use Rattle.rules.proofs.Sums.{bit-most}
-use Rattle.place.specs.Late.{lateBy, lateCount}
-use Rattle.place.proofs.Finishes.{late-none, late-next}
+use Rattle.book.specs.Late.{lateBy, lateCount}
+use Rattle.book.proofs.LateFlows.{late-none, late-next}
 use borrow.Author.Needs.{needs}
 use native.Mathlib.Omega.{arith}
-use Rattle.place.proofs.late.late_flows.Statement.{statement}
-use Rattle.place.proofs.late.late_flows.Tie as tie
+use Rattle.book.proofs.late.late_flows.Statement.{statement}
+use Rattle.book.proofs.late.late_flows.Tie as tie
 
 abbrev Inv-loop : tie.InvT-loop
 Inv-loop flows deadlines finish late₀ f₀ late f = (f ≤ flows) × (late ≤ f) × (late ≡ lateCount deadlines finish f)

@@ -1,9 +1,9 @@
 -- The test is that of rule 7. Assumes nothing.
 use mathlib.Core.Path.{refl}
 use Rattle.rules.specs.Rows.{isLate}
-use Rattle.place.specs.Late.{lateBy}
-use Rattle.place.proofs.late.is_late.Statement.{statement}
-use Rattle.place.proofs.late.is_late.Tie as tie
+use Rattle.book.specs.Late.{lateBy}
+use Rattle.book.proofs.late.is_late.Statement.{statement}
+use Rattle.book.proofs.late.is_late.Tie as tie
 
 returns : tie.Need-returns
 unfolding lateBy isLate

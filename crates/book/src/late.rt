@@ -2,7 +2,7 @@
 ghost use mathlib.Core.Path.{_≡_};
 ghost use Prim.Native.Nat.{_+_, _<_, _≤_};
 ghost use Rattle.rules.specs.Walks.{bit};
-ghost use Rattle.place.specs.Late.{lateBy, lateCount};
+ghost use Rattle.book.specs.Late.{lateBy, lateCount};
 
 // Rule 7: a flow is late when its finish is greater than its deadline.
 pub fn is_late(deadline: u16, finish: u16) -> bool
