@@ -1,7 +1,9 @@
 // Placing of flows in service order, and the planner's core.
 ghost use mathlib.Core.Path.{_≡_};
 ghost use Prim.Native.Nat.{ℕ, _+_, _*_, _-_, _<_, _≤_, min, max};
-ghost use lib.ListN.{length};
+ghost use lib.ListN.{length, getD};
+ghost use lib.Dec.{ltb};
+ghost use Rattle.rules.specs.Walks.{bit};
 ghost use Rattle.rules.specs.PseudoJobs.{work};
 ghost use mathlib.Core.List.{List};
 ghost use Rattle.rules.specs.Limits.{slots, workBytes};
@@ -10,7 +12,7 @@ ghost use Rattle.rules.specs.Rows.{Row, rowFor, usedIn, workUsed};
 ghost use Rattle.book.specs.Promise.{FlowStands};
 ghost use Rattle.place.specs.Flows.{SlotServed, RunAnswer, FlowPlaced};
 ghost use Rattle.place.specs.Output.{Put};
-ghost use Rattle.place.specs.Service.{Serving, currentFlow, pseudoJob, jobRows, overlaps};
+ghost use Rattle.place.specs.Service.{Serving, currentFlow, pseudoJob, partsIn, takeRows, jobRows, overlaps};
 use book::bytes;
 
 pub mod planner;
@@ -85,6 +87,57 @@ pub fn put_share(
     put_row(out, at, slot, flow, job, share as u16)
 }
 
+// One part more, where something is taken.
+pub fn one_more(take: u32, parts: usize) -> usize
+    requires { ⌜ parts < 4294967296 ⌝ }
+    ensures { λ r. ⌜ r ≡ parts + bit (ltb 0 take) ⌝ }
+{
+    if 0 < take {
+        return parts + 1;
+    }
+    parts
+}
+
+// How many of the first `jobs` jobs take something.
+pub fn parts_of(takes: &[u32], jobs: usize) -> usize
+    requires { ⌜ (jobs ≤ length (now takes)) × (jobs ≤ 64) ⌝ }
+    ensures { λ r. ⌜ r ≡ partsIn (now (takes .entry)) jobs ⌝ }
+{
+    let mut parts: usize = 0;
+    let mut j: usize = 0;
+    while j < jobs {
+        parts = one_more(takes[j], parts);
+        j = j + 1;
+    }
+    parts
+}
+
+// The rows of a slot in which each job has its take: it is one whole slot of the run; the place after them.
+pub fn put_full(
+    takes: &[u32],
+    out: &mut [u8],
+    at: usize,
+    slot: u16,
+    flow: u8,
+    jobs: usize,
+    parts: usize,
+) -> usize
+    requires { ⌜ (jobs ≤ length (now takes)) × (jobs ≤ 64) × (parts ≡ partsIn (now takes) jobs) × ((i : ℕ) → i < jobs → getD (now takes) i 0 ≤ 4096) × (at + 384 < 4294967296) ⌝ }
+    ensures { λ r. ⌜ Put (now (out .entry)) at (takeRows slot flow (now (takes .entry)) jobs) (now (out .exit)) r ⌝ }
+{
+    if out.len() < at + 6 {
+        return at + 6 * parts;
+    }
+    let mut next = at;
+    let mut j: usize = 0;
+    while j < jobs {
+        let take = takes[j];
+        next = put_row(out, next, slot, flow, j as u8, take as u16);
+        j = j + 1;
+    }
+    next
+}
+
 // The rows of one slot, which uses `give` units after the first `done`; the place after them.
 pub fn put_slot(
     book: &[u8],
@@ -92,15 +145,19 @@ pub fn put_slot(
     out: &mut [u8],
     at: usize,
     c: Current,
+    parts: usize,
     done: u64,
     give: u32,
     slot: usize,
 ) -> usize
-    requires { ⌜ Serving (now book) c (now takes) × (done + give ≤ work (currentFlow (now book) c) (pseudoJob c)) × (give ≤ c .rate) × (slot < 8192) × (at + 384 < 4294967296) ⌝ }
+    requires { ⌜ Serving (now book) c (now takes) × (done + give ≤ work (currentFlow (now book) c) (pseudoJob c)) × (give ≤ c .rate) × (slot < 8192) × (at + 384 < 4294967296) × (parts ≡ partsIn (now takes) (c .jobs)) ⌝ }
     ensures { λ r. ⌜ Put (now (out .entry)) at (jobRows (currentFlow (now (book .entry)) c) (c .flow) slot (pseudoJob c) done give) (now (out .exit)) r ⌝ }
 {
     let jobs = c.jobs;
     let flow = c.flow as u8;
+    if give == c.rate {
+        return put_full(takes, out, at, slot as u16, flow, jobs, parts);
+    }
     let o = (done % (c.rate as u64)) as u32;
     let mut next = at;
     let mut offset: u32 = 0;
@@ -166,10 +223,11 @@ pub fn serve_slot(
     area: &mut [u8],
     at: usize,
     c: Current,
+    parts: usize,
     done: u64,
     slot: usize,
 ) -> Served
-    requires { ⌜ Serving (now book) c (now takes) × (workBytes ≤ length (now area)) × (done ≤ work (currentFlow (now book) c) (pseudoJob c)) × (slot < 8192) × (at + 384 < 4294967296) ⌝ }
+    requires { ⌜ Serving (now book) c (now takes) × (workBytes ≤ length (now area)) × (done ≤ work (currentFlow (now book) c) (pseudoJob c)) × (slot < 8192) × (at + 384 < 4294967296) × (parts ≡ partsIn (now takes) (c .jobs)) ⌝ }
     ensures { λ r. ⌜ SlotServed (now (book .entry)) c at done slot (now (out .entry)) (now (area .entry)) (now (out .exit)) (now (area .exit)) r ⌝ }
 {
     let used = bytes::read16(area, 2 * slot);
@@ -177,7 +235,7 @@ pub fn serve_slot(
     if give == 0 {
         return Served { next: at, give: 0 };
     }
-    let next = put_slot(book, takes, out, at, c, done, give, slot);
+    let next = put_slot(book, takes, out, at, c, parts, done, give, slot);
     bytes::write16(area, 2 * slot, used + give as u16);
     Served { next, give }
 }
@@ -197,6 +255,7 @@ pub fn place_run(
     ensures { λ r. ⌜ RunAnswer (now (book .entry)) c from at limit (now (out .entry)) (now (area .entry)) (now (out .exit)) (now (area .exit)) r ⌝ }
 {
     let total = work_of(c.width, c.rate);
+    let parts = parts_of(takes, c.jobs);
     let mut done: u64 = 0;
     let mut slot = from;
     let mut next = at;
@@ -204,7 +263,7 @@ pub fn place_run(
         if limit <= slot {
             return Placed::Infeasible;
         }
-        let served = serve_slot(book, takes, out, area, next, c, done, slot);
+        let served = serve_slot(book, takes, out, area, next, c, parts, done, slot);
         next = served.next;
         done = done + served.give as u64;
         slot = slot + 1;

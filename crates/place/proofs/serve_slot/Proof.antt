@@ -46,7 +46,7 @@ put-slot-requires c κs =
     let give = c .before .before .give-of in
     let within = give-within-work (a .book .now) (a .c) (a .takes .now) (v .0) (a .at) (a .done) (a .slot) (total .result) (used .result)
     (a .out .now) (a .area .now) (total .ensures) (v .2) (v .3) (used .ensures) in
-    (v .0, rw (give .ensures) within, omega (arith, give .ensures), v .3, v .4)
+    (v .0, rw (give .ensures) within, omega (arith, give .ensures), v .3, v .4, v .5)
 
 mul-write16 : tie.Need-mul-write16
 mul-write16 c = search needs
