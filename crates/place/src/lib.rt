@@ -60,8 +60,9 @@ pub fn put_row(out: &mut [u8], at: usize, slot: u16, flow: u8, job: u8, processo
     if out.len() < at + 6 {
         return at + 6;
     }
-    bytes::write_row(out, at, slot, flow, job, processors);
-    at + 6
+    let end = at + 6;
+    bytes::write_row(&mut out[at..end], 0, slot, flow, job, processors);
+    end
 }
 
 // The row of a job for its share of the units that a slot uses; a job that takes nothing has none.
