@@ -2,7 +2,7 @@
 use mathlib.Core.Path.{_≡_}
 use Prim.Native.Nat.{ℕ, _<_, _≤_}
 use mathlib.Core.List.{List}
-use lib.ListN.{getD}
+use lib.ListN.{length, getD}
 use Rattle.rules.specs.declared.Verdict.the-variants.{Pass}
 use Rattle.rules.specs.Walks.{listFrom}
 use Rattle.rules.specs.Limits.{mostJobs}
@@ -21,6 +21,12 @@ pub record Indexed (s : List ℕ) (x : Index) : Type 0 where
   pub starts : (f : ℕ) → f < flowCount (bookOf s) → getD (x .starts) f 0 ≡ flowStart s f
   pub deadlines : (f : ℕ) → f < flowCount (bookOf s) → getD (x .deadlines) f 0 ≡ flowOf (bookOf s) f .deadline
   pub jobs : (f : ℕ) → f < flowCount (bookOf s) → getD (x .jobs) f 0 ≡ jobCount (flowOf (bookOf s) f)
+
+-- the array holds the deadlines of the flows of the book in these bytes, which passes
+pub record DeadlinesOf (s deadlines : List ℕ) : Type 0 where
+  pub passes : bookFault s ≡ Pass
+  pub enough : flowCount (bookOf s) ≤ length deadlines
+  pub same : (f : ℕ) → f < flowCount (bookOf s) → getD deadlines f 0 ≡ flowOf (bookOf s) f .deadline
 
 -- flow f of the book in these bytes, which passes, starts at `start`: what an accessor asks
 pub record FlowStands (s : List ℕ) (f start : ℕ) : Type 0 where
