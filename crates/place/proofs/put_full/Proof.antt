@@ -1,6 +1,6 @@
 -- The rows of the takes: none where none fits, else one after the other; those of the jobs below j so far. Assumes nothing.
-use mathlib.Core.Path.{_≡_, sym}
-use Prim.Native.Nat.{_≤_, _-_}
+use mathlib.Core.Path.{_≡_, subst}
+use Prim.Native.Nat.{_+_, _*_, _-_, _≤_}
 use Rattle.place.specs.Service.{partsIn, takeRows}
 use Rattle.place.specs.Output.{Put}
 use Rattle.place.proofs.FullSlots.{parts-few, take-rows-none, take-rows-few, take-rows-put, takes-too-far}
@@ -35,7 +35,9 @@ returns : tie.Need-returns Inv-loop μ-loop
 returns c =
     let a = c .before .before .before .args in
     let v = c .before .before .before .pre in
-    rw (v .2) (takes-too-far (a .slot) (a .flow) (a .takes .now) (a .jobs) (a .out .now) (a .at) (c .if1 .taken))
+    let e : a .at + 6 * partsIn (a .takes .now) (a .jobs) ≡ a .at + 6 * a .parts = omega (arith, v .2) in
+    subst (λ n. Put (a .out .now) (a .at) (takeRows (a .slot) (a .flow) (a .takes .now) (a .jobs)) (a .out .now) n) e
+    (takes-too-far (a .slot) (a .flow) (a .takes .now) (a .jobs) (a .out .now) (a .at) (c .if1 .taken))
 
 loop-holds : tie.Need-loop-holds Inv-loop μ-loop
 loop-holds c =
