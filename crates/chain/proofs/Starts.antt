@@ -2,13 +2,13 @@
 -- held in an array of 64, gives the start and the end of the next job. Assumes nothing.
 use mathlib.Core.Path.{_≡_, refl, ap, sym, _∙_}
 use mathlib.Core.Bool.{Bool, true, false}
-use mathlib.Core.List.{List, _++_}
+use mathlib.Core.List.{List, [], _∷_, _++_}
 use Prim.Native.Nat.{ℕ, zero, suc, _+_, _*_, _-_, _<_, _≤_, max}
-use native.Mathlib.Nat.{zero-add, not-suc-le-zero}
+use native.Mathlib.Nat.{zero-add, not-suc-le-zero, le-refl}
 use native.Mathlib.Numerals.{add-one}
 use native.Mathlib.Omega.{arith}
-use lib.ListN.{getD, set, replicate, List·getD-append}
-use lib.Seq.{set-at, append-snoc}
+use lib.ListN.{length, getD, set, replicate, length-append, List·getD-append}
+use lib.Seq.{getD-at, set-at, append-snoc}
 use Rattle.rules.specs.Walks.{if_then_else_, sumTo, maxTo}
 use Rattle.rules.specs.Book.{Job, Flow, JobInRange, FlowInRange, jobCount, jobOf, noJob, hasBit, precedes}
 use Rattle.rules.specs.Ideal.{duration, lastTake, startAfter, startOf, endOf, endsBelow, path, takeOf}
@@ -18,7 +18,7 @@ use Rattle.rules.proofs.Ideal.{ends-length, ends-at, end-is-start-plus-duration
 use Rattle.book.specs.declared.FlowJobs.{FlowJobs}
 use Rattle.book.specs.Promise.{flowFrom}
 use Rattle.chain.specs.declared.Lasting.{Lasting}
-use Rattle.chain.specs.Jobs.{ChainInput, jobOfValues, LastsAs, startAmong}
+use Rattle.chain.specs.Jobs.{ChainInput, jobOfValues, LastsAs, startAmong, endsBy}
 
 -- ---- a flow's values
 module _ (x : FlowJobs) where
@@ -46,6 +46,18 @@ module _ (x : FlowJobs) where
       at : (i : ℕ) → i < x .count → JobInRange P i (jobOfValues x i)
       at i h = rw (job-at i h) at (range .each-job i (rw count-of h))
 
+  start-among-is : (k : ℕ) (ends : List ℕ) → k < x .count → startAmong (getD (x .predecessors) k 0) ends k ≡ startAfter (flowFrom x) k ends
+  unfolding startAmong startAfter
+  start-among-is k ends h = rw (job-at k h) refl
+
+  -- the ends by a flow's predecessors and durations are the specification's
+  pub ends-of-flow : (d : List ℕ) → ((i : ℕ) → i < x .count → getD d i 0 ≡ duration (jobOf (flowFrom x) i)) → (n : ℕ) → n ≤ x .count →
+      endsBy (x .predecessors) d n ≡ endsBelow (flowFrom x) n
+  unfolding endsBy endsBelow
+  ends-of-flow d ed zero h = refl
+  ends-of-flow d ed (suc n) h =
+      rw (ends-of-flow d ed n (omega arith), start-among-is n (endsBelow (flowFrom x) n) (omega arith), ed n (omega arith)) refl
+
 -- ---- the start of a job
 pub start-none : (p : ℕ) (ends : List ℕ) → startAmong p ends 0 ≡ 0
 unfolding startAmong maxTo
@@ -66,7 +78,7 @@ start-within w i most h =
     rw (start-is-largest-end w i)
     (max-least (λ k. if precedes w k i then endOf w k else 0) i most (λ k l. choice-within (precedes w k i) (endOf w k) most (h k l)))
 
--- ---- the ends of a flow's jobs, in an array of 64
+-- ---- the ends of a flow's jobs
 module _ (x : FlowJobs) (input : ChainInput x) where
   -- a job lasts as many slots as its size has units, at most
   pub duration-most : (i : ℕ) → i < x .count → duration (jobOf (flowFrom x) i) ≤ 1000000
@@ -90,47 +102,65 @@ module _ (x : FlowJobs) (input : ChainInput x) where
       max-least (endOf (flowFrom x)) (jobCount (flowFrom x)) 64000000
       (λ i h. omega (arith, end-most (x .count) (omega arith) i (omega (arith, h, count-of x)), input .count-most))
 
-  -- the ends that are not there yet do not count
-  pub start-from-array : (k : ℕ) (ends zeros : List ℕ) → k < x .count → ends ≡ endsBelow (flowFrom x) k ++ zeros →
-      startAmong (getD (x .predecessors) k 0) ends k ≡ startOf (flowFrom x) k
-  unfolding startAmong startOf startAfter
-  start-from-array k ends zeros h e =
-      rw (e, job-at x k h)
-      (max-ext
-      (λ i. if hasBit (getD (x .predecessors) k 0) i then getD (endsBelow (flowFrom x) k ++ zeros) i 0 else 0)
-      (λ i. if hasBit (getD (x .predecessors) k 0) i then getD (endsBelow (flowFrom x) k) i 0 else 0)
-      k
-      (λ i l. rw (List·getD-append (endsBelow (flowFrom x) k) zeros 0 i (rw (ends-length (flowFrom x) k) l)) refl))
+-- ---- the ends by predecessors and durations, in an array of 64
+module _ (p d : List ℕ) where
+  ends-by-length : (n : ℕ) → length (endsBy p d n) ≡ n
+  unfolding endsBy
+  ends-by-length zero = refl
+  ends-by-length (suc n) = rw (length-append, ends-by-length n) (omega arith)
 
-  pub ends-none : (n : ℕ) → n ≡ 0 → replicate 64 0 ≡ endsBelow (flowFrom x) n ++ replicate (64 - n) 0
-  unfolding endsBelow
+  -- the ends that are not there yet do not count
+  start-from-array : (k : ℕ) (ends zeros : List ℕ) → ends ≡ endsBy p d k ++ zeros → startAmong (getD p k 0) ends k ≡ startAmong (getD p k 0) (endsBy p d k) k
+  unfolding startAmong
+  start-from-array k ends zeros e =
+      rw e
+      (max-ext
+      (λ i. if hasBit (getD p k 0) i then getD (endsBy p d k ++ zeros) i 0 else 0)
+      (λ i. if hasBit (getD p k 0) i then getD (endsBy p d k) i 0 else 0)
+      k
+      (λ i l. rw (List·getD-append (endsBy p d k) zeros 0 i (rw (ends-by-length k) l)) refl))
+
+  start-among-within : (k q most : ℕ) (ends : List ℕ) → ((i : ℕ) → i < k → getD ends i 0 ≤ most) → startAmong q ends k ≤ most
+  unfolding startAmong
+  start-among-within k q most ends h =
+      max-least (λ i. if hasBit q i then getD ends i 0 else 0) k most (λ i l. choice-within (hasBit q i) (getD ends i 0) most (h i l))
+
+  -- n jobs of at most 1,000,000 slots have ended after as many each
+  ends-by-most : (n : ℕ) → ((i : ℕ) → i < n → getD d i 0 ≤ 1000000) → (i : ℕ) → i < n → getD (endsBy p d n) i 0 ≤ 1000000 * n
+  unfolding endsBy
+  ends-by-most zero most i h = absurd (not-suc-le-zero h)
+  ends-by-most (suc n) most i h =
+      let below = ends-by-most n (λ j l. most j (omega arith)) in
+      let e = endsBy p d n in
+      let end = startAmong (getD p n 0) e n + getD d n 0 in
+      last-or i n h
+      (λ q. rw (q, getD-at e end [] 0 n (ends-by-length n)) (omega (arith, start-among-within n (getD p n 0) (1000000 * n) e below, most n (omega arith))))
+      (λ l. rw (List·getD-append e (end ∷ []) 0 i (rw (ends-by-length n) l)) (omega (arith, below i l)))
+
+  pub ends-none : (n : ℕ) → n ≡ 0 → replicate 64 0 ≡ endsBy p d n ++ replicate (64 - n) 0
+  unfolding endsBy
   ends-none n e = rw e refl
 
-  module _ (k s : ℕ) (l : Lasting) (ends : List ℕ) (h : k < x .count) (ee : ends ≡ endsBelow (flowFrom x) k ++ replicate (64 - k) 0)
-      (es : s ≡ startAmong (getD (x .predecessors) k 0) ends k) (el : LastsAs (jobOfValues x k) l) where
-    -- the start and the slots together are the end
-    end-from-array : s + l .slots ≡ endOf (flowFrom x) k
-    end-from-array =
+  module _ (k s : ℕ) (ends : List ℕ) (room : k < 64) (ee : ends ≡ endsBy p d k ++ replicate (64 - k) 0) (es : s ≡ startAmong (getD p k 0) ends k) where
+    start-is : s ≡ startAmong (getD p k 0) (endsBy p d k) k
+    start-is = es ∙ start-from-array k ends (replicate (64 - k) 0) ee
+
+    pub end-fits : ((i : ℕ) → i < suc k → getD d i 0 ≤ 1000000) → s + getD d k 0 ≤ 64000000
+    end-fits most =
         omega (
           arith,
-          es,
-          start-from-array k ends (replicate (64 - k) 0) h ee,
-          el .slots,
-          ap duration (job-at x k h),
-          end-is-start-plus-duration (flowFrom x) k,
+          start-is,
+          start-among-within k (getD p k 0) (1000000 * k) (endsBy p d k) (ends-by-most k (λ i l. most i (omega arith))),
+          most k (omega arith),
         )
 
-    pub end-fits : s + l .slots ≤ 64000000
-    end-fits = omega (arith, end-from-array, end-most (suc k) h k (omega arith), input .count-most)
-
     -- the array after the end of job k is stored
-    pub ends-next : (n : ℕ) → n ≡ suc k → set ends k (s + l .slots) ≡ endsBelow (flowFrom x) n ++ replicate (64 - n) 0
-    unfolding endsBelow endOf startOf
+    pub ends-next : (n : ℕ) → n ≡ suc k → set ends k (s + getD d k 0) ≡ endsBy p d n ++ replicate (64 - n) 0
+    unfolding endsBy
     ends-next n en =
-        let w = flowFrom x in
-        let room : 64 - k ≡ suc (64 - suc k) = omega (arith, input .count-most) in
-        rw (en, end-from-array, ee, room)
-        (set-at (endsBelow w k) 0 (replicate (64 - suc k) 0) _ k (ends-length w k) ∙ sym (append-snoc (endsBelow w k) _ (replicate (64 - suc k) 0)))
+        let left : 64 - k ≡ suc (64 - suc k) = omega arith in
+        rw (en, start-is, ee, left)
+        (set-at (endsBy p d k) 0 (replicate (64 - suc k) 0) _ k (ends-by-length k) ∙ sym (append-snoc (endsBy p d k) _ (replicate (64 - suc k) 0)))
 
 -- ---- the largest end
 pub max-none : (ends : List ℕ) → maxTo (λ i. getD ends i 0) 0 ≡ 0
@@ -151,14 +181,27 @@ unfolding path
 path-from-array x ends zeros e =
     rw (count-of x) (max-ext (λ i. getD ends i 0) (endOf (flowFrom x)) (x .count) (λ i h. end-in-array (flowFrom x) (x .count) i ends zeros h e))
 
--- ---- starts and last takes, read off the ends
-module _ (x : FlowJobs) (i e : ℕ) (l : Lasting) (h : i < x .count) (at-end : e ≡ endOf (flowFrom x) i) (el : LastsAs (jobOfValues x i) l) where
-  -- the start stands the job's slots before its end
-  pub start-by-end : startOf (flowFrom x) i + l .slots ≡ e
-  start-by-end = omega (arith, at-end, el .slots, ap duration (job-at x i h), end-is-start-plus-duration (flowFrom x) i)
+-- ---- durations, last takes and starts, as the values give them
+module _ (x : FlowJobs) (i : ℕ) (h : i < x .count) where
+  module _ (l : Lasting) (el : LastsAs (jobOfValues x i) l) where
+    pub slots-by-values : l .slots ≡ duration (jobOf (flowFrom x) i)
+    slots-by-values = el .slots ∙ ap duration (sym (job-at x i h))
 
-  pub last-by-values : l .last ≡ lastTake (jobOf (flowFrom x) i)
-  last-by-values = el .last ∙ ap lastTake (sym (job-at x i h))
+    pub last-by-values : l .last ≡ lastTake (jobOf (flowFrom x) i)
+    last-by-values = el .last ∙ ap lastTake (sym (job-at x i h))
+
+-- what the arrays of durations and of ends hold
+module _ (x : FlowJobs) (slots ends : List ℕ) (durations : (i : ℕ) → i < x .count → getD slots i 0 ≡ duration (jobOf (flowFrom x) i))
+    (ee : ends ≡ endsBy (x .predecessors) slots (x .count) ++ replicate (64 - x .count) 0) where
+  pub ends-held : ends ≡ endsBelow (flowFrom x) (x .count) ++ replicate (64 - x .count) 0
+  ends-held = ee ∙ ap (λ (l : List ℕ). l ++ replicate (64 - x .count) 0) (ends-of-flow x slots durations (x .count) (le-refl (x .count)))
+
+  pub end-held : (i : ℕ) → i < x .count → getD ends i 0 ≡ endOf (flowFrom x) i
+  end-held i h = end-in-array (flowFrom x) (x .count) i ends (replicate (64 - x .count) 0) h ends-held
+
+  -- the start stands the job's slots before its end
+  pub start-by-end : (i : ℕ) → i < x .count → startOf (flowFrom x) i + getD slots i 0 ≡ getD ends i 0
+  start-by-end i h = omega (arith, end-held i h, durations i h, end-is-start-plus-duration (flowFrom x) i)
 
 -- ---- what the ranges give of one job
 last-take-positive : (j : Job) → 1 ≤ j .size → 1 ≤ j .cap → 1 ≤ lastTake j

@@ -1,8 +1,8 @@
 -- What the routines on one flow ask of its values, and what they answer, in the specification's words: a job's
 -- slots and its last take, and the start that the ends of lower jobs give. Assumes nothing.
 use mathlib.Core.Path.{_≡_}
-use mathlib.Core.List.{List}
-use Prim.Native.Nat.{ℕ, _≤_, _<_}
+use mathlib.Core.List.{List, [], _∷_, _++_}
+use Prim.Native.Nat.{ℕ, zero, suc, _+_, _≤_, _<_}
 use lib.ListN.{getD}
 use Rattle.rules.specs.Walks.{if_then_else_, maxTo}
 use Rattle.rules.specs.Book.{Job, hasBit}
@@ -34,3 +34,10 @@ pub record LastsAs (j : Job) (r : Lasting) : Type 0 where
 -- the largest end among the predecessors below n
 unfoldable pub startAmong : ℕ → List ℕ → ℕ → ℕ
 startAmong predecessors ends n = maxTo (λ k. if hasBit predecessors k then getD ends k 0 else 0) n
+
+-- the ends of the jobs below n, by the jobs' predecessors and durations, by recursion on the job number
+unfoldable pub endsBy : List ℕ → List ℕ → ℕ → List ℕ
+endsBy predecessors durations zero = []
+endsBy predecessors durations (suc i) =
+    let ends = endsBy predecessors durations i in
+    ends ++ (startAmong (getD predecessors i 0) ends i + getD durations i 0) ∷ []

@@ -2,12 +2,12 @@
 ghost use mathlib.Core.Path.{_≡_};
 ghost use mathlib.Core.List.{_++_};
 ghost use Prim.Native.Nat.{ℕ, _+_, _-_, _<_, _≤_, min, max};
-ghost use lib.ListN.{replicate};
+ghost use lib.ListN.{length, getD, replicate};
 ghost use Rattle.rules.specs.Walks.{if_then_else_};
 ghost use Rattle.rules.specs.Book.{hasBit};
 ghost use Rattle.rules.specs.Ideal.{endsBelow, path};
 ghost use Rattle.book.specs.Promise.{flowFrom};
-ghost use Rattle.chain.specs.Jobs.{ChainInput, jobWith, LastsAs, startAmong};
+ghost use Rattle.chain.specs.Jobs.{ChainInput, jobWith, LastsAs, startAmong, endsBy};
 ghost use Rattle.chain.specs.Runs.{IdealOf, takeBetween, NextChange, RunAt};
 use book::FlowJobs;
 
@@ -62,9 +62,9 @@ pub fn end_if_before(end: u32, predecessors: u64, k: usize) -> u32
 }
 
 // The largest end among the predecessors below n.
-pub fn start_of(ends: [u32; 64], predecessors: u64, n: usize) -> u32
-    requires { ⌜ n ≤ 64 ⌝ }
-    ensures { λ r. ⌜ r ≡ startAmong predecessors ends n ⌝ }
+pub fn start_of(ends: &[u32], predecessors: u64, n: usize) -> u32
+    requires { ⌜ (n ≤ 64) × (n ≤ length (now ends)) ⌝ }
+    ensures { λ r. ⌜ r ≡ startAmong predecessors (now (ends .entry)) n ⌝ }
 {
     let mut start: u32 = 0;
     let mut k: usize = 0;
@@ -75,19 +75,18 @@ pub fn start_of(ends: [u32; 64], predecessors: u64, n: usize) -> u32
     start
 }
 
-// Rule 2: the ends of the jobs below n. The ends of lower jobs come from the call below.
-pub fn ends(jobs: FlowJobs, n: usize) -> [u32; 64]
-    requires { ⌜ ChainInput jobs × (n ≤ jobs .count) ⌝ }
-    ensures { λ r. ⌜ r ≡ endsBelow (flowFrom jobs) n ++ replicate (64 - n) 0 ⌝ }
+// Rule 2: the ends of the jobs below n, by their predecessors and slots. The ends of lower jobs come from the call below.
+pub fn ends(predecessors: &[u64], slots: &[u32], n: usize) -> [u32; 64]
+    requires { ⌜ (n ≤ 64) × (n ≤ length (now predecessors)) × (n ≤ length (now slots)) × ((i : ℕ) → i < n → getD (now slots) i 0 ≤ 1000000) ⌝ }
+    ensures { λ r. ⌜ r ≡ endsBy (now (predecessors .entry)) (now (slots .entry)) n ++ replicate (64 - n) 0 ⌝ }
 {
     if n == 0 {
         return [0u32; 64];
     }
     let k = n - 1;
-    let mut all = ends(jobs, k);
-    let start = start_of(all, jobs.predecessors[k], k);
-    let last = lasts(jobs.size[k], jobs.cap[k]);
-    all[k] = start + last.slots;
+    let mut all = ends(predecessors, slots, k);
+    let start = start_of(&all, predecessors[k], k);
+    all[k] = start + slots[k];
     all
 }
 
@@ -120,16 +119,23 @@ pub fn ideal_of(jobs: FlowJobs) -> Ideal
     ensures { λ r. ⌜ IdealOf (flowFrom jobs) r ⌝ }
 {
     let count = jobs.count;
-    let ends = ends(jobs, count);
-    let path = path(jobs, ends);
-    let mut starts = [0u32; 64];
+    let mut slots = [0u32; 64];
     let mut last = [0u32; 64];
     let mut i: usize = 0;
     while i < count {
         let lasting = lasts(jobs.size[i], jobs.cap[i]);
-        starts[i] = ends[i] - lasting.slots;
+        slots[i] = lasting.slots;
         last[i] = lasting.last;
         i = i + 1;
+    }
+    let predecessors = jobs.predecessors;
+    let ends = ends(&predecessors, &slots, count);
+    let path = path(jobs, ends);
+    let mut starts = [0u32; 64];
+    let mut k: usize = 0;
+    while k < count {
+        starts[k] = ends[k] - slots[k];
+        k = k + 1;
     }
     Ideal {
         starts,

@@ -1,107 +1,165 @@
--- `chain::ideal_of` meets its contract. The loop's invariant: both arrays are filled up to i, with starts and last takes. The
--- measure is what is left of the count. Assumes nothing.
+-- `chain::ideal_of` meets its contract. The first loop's invariant: both arrays are filled up to i, with durations and last
+-- takes. The second loop's: the starts are filled up to k, each by its end and its duration. The measures are what is left of
+-- the count. Assumes nothing.
 use borrow.Author.Needs.{needs}
-use Prim.Native.Nat.{_≤_, _-_}
+use mathlib.Core.Path.{_≡_, refl}
+use Prim.Native.Nat.{ℕ, _≤_, _<_, _-_}
 use native.Mathlib.Omega.{arith}
-use Rattle.rules.specs.Book.{jobOf}
-use Rattle.rules.specs.Ideal.{lastTake, startOf}
+use lib.ListN.{length, getD}
+use Rattle.rules.specs.Book.{jobCount, jobOf}
+use Rattle.rules.specs.Ideal.{duration, lastTake}
 use Rattle.book.specs.Promise.{flowFrom}
 use Rattle.chain.proofs.Filled.{Filled, filled-none, filled-next}
-use Rattle.chain.proofs.Starts.{count-of, end-in-array, start-by-end, last-by-values}
+use Rattle.chain.proofs.Starts.{count-of, duration-most, slots-by-values, last-by-values, ends-held, end-held, start-by-end}
 use Rattle.chain.proofs.ideal_of.Statement.{statement}
 use Rattle.chain.proofs.ideal_of.Tie as tie
 
 abbrev Inv-loop : tie.InvT-loop
-Inv-loop jobs count ends path starts₀ last₀ i₀ starts last i =
-    (i ≤ count) × Filled (startOf (flowFrom jobs)) i starts × Filled (λ k. lastTake (jobOf (flowFrom jobs) k)) i last
+Inv-loop jobs count slots₀ last₀ i₀ slots last i =
+    (i ≤ count) × Filled (λ k. duration (jobOf (flowFrom jobs) k)) i slots × Filled (λ k. lastTake (jobOf (flowFrom jobs) k)) i last
 
 abbrev μ-loop : tie.MeasureT-loop
-μ-loop jobs count ends path starts₀ last₀ i₀ starts last i = count - i
+μ-loop jobs count slots₀ last₀ i₀ slots last i = count - i
 
-ends-requires : tie.Need-ends-requires Inv-loop μ-loop
-ends-requires c κs = search needs
+abbrev Inv-loop2 : tie.InvT-loop2
+Inv-loop2 count slots last i ends path starts₀ k₀ starts k = (k ≤ count) × Filled (λ j. getD ends j 0 - getD slots j 0) k starts
 
-path-requires : tie.Need-path-requires Inv-loop μ-loop
-path-requires c κs = search needs
+abbrev μ-loop2 : tie.MeasureT-loop2
+μ-loop2 count slots last i ends path starts₀ k₀ starts k = count - k
 
-loop-holds : tie.Need-loop-holds Inv-loop μ-loop
+loop-holds : tie.Need-loop-holds Inv-loop μ-loop Inv-loop2 μ-loop2
 loop-holds c = (omega arith, filled-none _, filled-none _)
 
-mul-lasts : tie.Need-mul-lasts Inv-loop μ-loop
+mul-lasts : tie.Need-mul-lasts Inv-loop μ-loop Inv-loop2 μ-loop2
 mul-lasts c = search needs
 
-element-copy-out-lasts : tie.Need-element-copy-out-lasts Inv-loop μ-loop
+element-copy-out-lasts : tie.Need-element-copy-out-lasts Inv-loop μ-loop Inv-loop2 μ-loop2
 element-copy-out-lasts c = search needs
 
-mul-lasts-2 : tie.Need-mul-lasts-2 Inv-loop μ-loop
+mul-lasts-2 : tie.Need-mul-lasts-2 Inv-loop μ-loop Inv-loop2 μ-loop2
 mul-lasts-2 c = search needs
 
-element-copy-out-lasts-2 : tie.Need-element-copy-out-lasts-2 Inv-loop μ-loop
+element-copy-out-lasts-2 : tie.Need-element-copy-out-lasts-2 Inv-loop μ-loop Inv-loop2 μ-loop2
 element-copy-out-lasts-2 c = search needs
 
-lasts-requires : tie.Need-lasts-requires Inv-loop μ-loop
+lasts-requires : tie.Need-lasts-requires Inv-loop μ-loop Inv-loop2 μ-loop2
 lasts-requires c κs =
-    let input = c .before .before .before .before .before .before .pre in
+    let input = c .before .before .before .before .pre in
     let i = c .before .before .before .loop .i in
     let h = c .before .before .loop-test .taken in
     (input .size-least i h, input .size-most i h, input .cap-least i h)
 
-mul-starts : tie.Need-mul-starts Inv-loop μ-loop
-mul-starts c = search needs
+mul-slots : tie.Need-mul-slots Inv-loop μ-loop Inv-loop2 μ-loop2
+mul-slots c = search needs
 
-array-read-starts : tie.Need-array-read-starts Inv-loop μ-loop
-array-read-starts c = search needs
+array-write-slots : tie.Need-array-write-slots Inv-loop μ-loop Inv-loop2 μ-loop2
+array-write-slots c = search needs
 
-sub-starts : tie.Need-sub-starts Inv-loop μ-loop
-sub-starts c =
-    let jobs = c .before .before .before .before .before .before .before .before .args .t1 in
-    let i = c .before .before .before .before .before .loop .i in
-    let h = c .before .before .before .before .loop-test .taken in
-    let ends = c .before .before .before .before .before .before .before .ends in
-    let at-end = end-in-array (flowFrom jobs) (jobs .count) i (ends .result) _ h (ends .ensures) in
-    omega (arith, start-by-end jobs i _ (c .before .lasts .result) h at-end (c .before .lasts .ensures _))
-
-mul-starts-2 : tie.Need-mul-starts-2 Inv-loop μ-loop
-mul-starts-2 c = search needs
-
-array-write-starts : tie.Need-array-write-starts Inv-loop μ-loop
-array-write-starts c = search needs
-
-mul-last : tie.Need-mul-last Inv-loop μ-loop
+mul-last : tie.Need-mul-last Inv-loop μ-loop Inv-loop2 μ-loop2
 mul-last c = search needs
 
-array-write-last : tie.Need-array-write-last Inv-loop μ-loop
+array-write-last : tie.Need-array-write-last Inv-loop μ-loop Inv-loop2 μ-loop2
 array-write-last c = search needs
 
-add-i : tie.Need-add-i Inv-loop μ-loop
+add-i : tie.Need-add-i Inv-loop μ-loop Inv-loop2 μ-loop2
 add-i c = search needs
 
-loop-less : tie.Need-loop-less Inv-loop μ-loop
+loop-less : tie.Need-loop-less Inv-loop μ-loop Inv-loop2 μ-loop2
 loop-less c = search needs
 
-loop-again : tie.Need-loop-again Inv-loop μ-loop
+loop-again : tie.Need-loop-again Inv-loop μ-loop Inv-loop2 μ-loop2
 loop-again c =
-    let jobs = c .before .before .before .before .before .before .before .before .args .t1 in
-    let i = c .before .before .before .before .before .loop .i in
-    let h = c .before .before .before .before .loop-test .taken in
-    let ends = c .before .before .before .before .before .before .before .ends in
-    let at-end = end-in-array (flowFrom jobs) (jobs .count) i (ends .result) _ h (ends .ensures) in
-    let l = c .before .lasts .result in
-    let loop = c .before .before .before .before .before .loop in (
+    let jobs = c .before .before .before .before .before .args .t1 in
+    let loop = c .before .before .before .before .loop in
+    let i = loop .i in
+    let h = c .before .before .before .loop-test .taken in
+    let l = c .lasts .result in (
       omega arith,
-      filled-next _ i _ (loop .starts) (omega arith) (loop .inv .1) (omega (arith, start-by-end jobs i _ l h at-end (c .before .lasts .ensures _))),
-      filled-next _ i _ (loop .last) (omega arith) (loop .inv .2) (last-by-values jobs i _ l h at-end (c .before .lasts .ensures _)),
+      filled-next _ i _ (loop .slots) (omega arith) (loop .inv .1) (slots-by-values jobs i h l (c .lasts .ensures _)),
+      filled-next _ i _ (loop .last) (omega arith) (loop .inv .2) (last-by-values jobs i h l (c .lasts .ensures _)),
     )
 
-returns : tie.Need-returns Inv-loop μ-loop
-returns c =
-    let jobs = c .before .before .before .before .args .t1 in
-    let loop = c .before .loop in
+slice-aggregate-ends : tie.Need-slice-aggregate-ends Inv-loop μ-loop Inv-loop2 μ-loop2
+slice-aggregate-ends c = search needs
+
+slice-aggregate-ends-2 : tie.Need-slice-aggregate-ends-2 Inv-loop μ-loop Inv-loop2 μ-loop2
+slice-aggregate-ends-2 c = search needs
+
+ends-requires : tie.Need-ends-requires Inv-loop μ-loop Inv-loop2 μ-loop2
+ends-requires c κs =
+    let o = c .before .before .before .before .before in
+    let loop = c .before .before .before .before .loop in
+    let jobs = o .args .t1 in
+    let room = o .pre .count-most in
+    let size = loop .inv .1 .front .size in
+    let whole : length (c .before .before .before .before .before .args .t1 .predecessors) ≡ 64 = search needs in
+    (omega arith, omega arith, omega arith, λ i h. omega (arith, loop .inv .1 .front .values i (omega arith), duration-most jobs (o .pre) i h))
+
+path-requires : tie.Need-path-requires Inv-loop μ-loop Inv-loop2 μ-loop2
+path-requires c κs =
+    let o = c .before .before .before .before .before .before in
+    let loop = c .before .before .before .before .before .loop in
+    (o .pre, ends-held (o .args .t1) (loop .slots) (c .ends .result) (λ i h. loop .inv .1 .front .values i (omega arith)) (c .ends .ensures))
+
+loop2-holds : tie.Need-loop2-holds Inv-loop μ-loop Inv-loop2 μ-loop2
+loop2-holds c = (omega arith, filled-none _)
+
+mul-starts : tie.Need-mul-starts Inv-loop μ-loop Inv-loop2 μ-loop2
+mul-starts c = search needs
+
+array-read-starts : tie.Need-array-read-starts Inv-loop μ-loop Inv-loop2 μ-loop2
+array-read-starts c = search needs
+
+mul-starts-2 : tie.Need-mul-starts-2 Inv-loop μ-loop Inv-loop2 μ-loop2
+mul-starts-2 c = search needs
+
+array-read-starts-2 : tie.Need-array-read-starts-2 Inv-loop μ-loop Inv-loop2 μ-loop2
+array-read-starts-2 c = search needs
+
+sub-starts : tie.Need-sub-starts Inv-loop μ-loop Inv-loop2 μ-loop2
+sub-starts c =
+    let jobs = c .before .before .before .before .before .before .before .before .before .args .t1 in
+    let loop = c .before .before .before .before .before .before .before .before .loop in
     let ends = c .before .before .before .ends in
+    let k = c .before .loop2 .k in
+    omega (
+      arith,
+      start-by-end jobs (loop .slots) (ends .result) (λ i h. loop .inv .1 .front .values i (omega arith)) (ends .ensures) k (c .loop2-test .taken),
+    )
+
+mul-starts-3 : tie.Need-mul-starts-3 Inv-loop μ-loop Inv-loop2 μ-loop2
+mul-starts-3 c = search needs
+
+array-write-starts : tie.Need-array-write-starts Inv-loop μ-loop Inv-loop2 μ-loop2
+array-write-starts c = search needs
+
+add-k : tie.Need-add-k Inv-loop μ-loop Inv-loop2 μ-loop2
+add-k c = search needs
+
+loop2-less : tie.Need-loop2-less Inv-loop μ-loop Inv-loop2 μ-loop2
+loop2-less c = search needs
+
+loop2-again : tie.Need-loop2-again Inv-loop μ-loop Inv-loop2 μ-loop2
+loop2-again c =
+    let l = c .before .loop2 in
+    (omega arith, filled-next _ (l .k) _ (l .starts) (omega arith) (l .inv .1) refl)
+
+returns : tie.Need-returns Inv-loop μ-loop Inv-loop2 μ-loop2
+returns c =
+    let jobs = c .before .before .before .before .before .before .before .before .before .args .t1 in
+    let loop = c .before .before .before .before .before .before .before .before .loop in
+    let ends = c .before .before .before .ends in
+    let below : (i : ℕ) → i < jobCount (flowFrom jobs) → i < jobs .count = λ i h. omega (arith, h, count-of jobs) in
+    let durations : (i : ℕ) → i < jobs .count → getD (loop .slots) i 0 ≡ duration (jobOf (flowFrom jobs) i) = λ i h. loop .inv .1 .front .values i (omega arith) in
     record {
-      starts = λ i h. loop .inv .1 .front .values i (omega (arith, h, count-of jobs));
-      ends = λ i h. end-in-array (flowFrom jobs) (jobs .count) i (ends .result) _ (omega (arith, h, count-of jobs)) (ends .ensures);
-      lasts = λ i h. loop .inv .2 .front .values i (omega (arith, h, count-of jobs));
+      starts = λ i h.
+          omega (
+            arith,
+            c .before .loop2 .inv .1 .front .values i (omega (arith, below i h)),
+            start-by-end jobs (loop .slots) (ends .result) durations (ends .ensures) i (below i h),
+          );
+      ends = λ i h. end-held jobs (loop .slots) (ends .result) durations (ends .ensures) i (below i h);
+      lasts = λ i h. loop .inv .2 .front .values i (omega (arith, below i h));
       path = c .before .before .path .ensures;
     }
 
@@ -111,22 +169,34 @@ ideal-of-spec =
     (tie.spec
     Inv-loop
     μ-loop
-    ends-requires
-    path-requires
+    Inv-loop2
+    μ-loop2
     loop-holds
     mul-lasts
     element-copy-out-lasts
     mul-lasts-2
     element-copy-out-lasts-2
     lasts-requires
-    mul-starts
-    array-read-starts
-    sub-starts
-    mul-starts-2
-    array-write-starts
+    mul-slots
+    array-write-slots
     mul-last
     array-write-last
     add-i
     loop-less
     loop-again
+    slice-aggregate-ends
+    slice-aggregate-ends-2
+    ends-requires
+    path-requires
+    loop2-holds
+    mul-starts
+    array-read-starts
+    mul-starts-2
+    array-read-starts-2
+    sub-starts
+    mul-starts-3
+    array-write-starts
+    add-k
+    loop2-less
+    loop2-again
     returns)

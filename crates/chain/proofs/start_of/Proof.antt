@@ -1,8 +1,8 @@
 -- `chain::start_of` meets its contract. The loop's invariant: `start` is the largest end among the predecessors below k.
 -- The measure is what is left of n. Assumes nothing.
 use borrow.Author.Needs.{needs}
-use mathlib.Core.Path.{_≡_, ap, sym, _∙_}
-use Prim.Native.Nat.{ℕ, _≤_, _-_}
+use mathlib.Core.Path.{_≡_, sym}
+use Prim.Native.Nat.{_≤_, _-_}
 use native.Mathlib.Omega.{arith}
 use Rattle.chain.specs.Jobs.{startAmong}
 use Rattle.chain.proofs.Starts.{start-none, start-next}
@@ -10,19 +10,19 @@ use Rattle.chain.proofs.start_of.Statement.{statement}
 use Rattle.chain.proofs.start_of.Tie as tie
 
 abbrev Inv-loop : tie.InvT-loop
-Inv-loop predecessors n ends start₀ k₀ start k = (k ≤ n) × (start ≡ startAmong predecessors ends k)
+Inv-loop ends predecessors n start₀ k₀ start k = (k ≤ n) × (start ≡ startAmong predecessors ends k)
 
 abbrev μ-loop : tie.MeasureT-loop
-μ-loop predecessors n ends start₀ k₀ start k = n - k
+μ-loop ends predecessors n start₀ k₀ start k = n - k
 
 loop-holds : tie.Need-loop-holds Inv-loop μ-loop
-loop-holds c = (omega arith, sym (start-none (c .args .predecessors) (c .args .t1)))
+loop-holds c = (omega arith, sym (start-none (c .before .args .predecessors) (c .before .args .ends .now)))
 
 mul-end-if-before : tie.Need-mul-end-if-before Inv-loop μ-loop
 mul-end-if-before c = search needs
 
-array-read-end-if-before : tie.Need-array-read-end-if-before Inv-loop μ-loop
-array-read-end-if-before c = search needs
+shared-slice-read-end-if-before : tie.Need-shared-slice-read-end-if-before Inv-loop μ-loop
+shared-slice-read-end-if-before c = search needs
 
 end-if-before-requires : tie.Need-end-if-before-requires Inv-loop μ-loop
 end-if-before-requires c κs = search needs
@@ -38,15 +38,16 @@ loop-less c = search needs
 
 loop-again : tie.Need-loop-again Inv-loop μ-loop
 loop-again c =
-    let a = c .before .before .before .before .args in
-    let l = c .before .before .before .loop in
-    (omega arith, start-next (a .predecessors) (l .k) (l .start) _ _ (a .t1) (l .inv .1) (c .before .end-if-before .ensures) (c .most .ensures))
+    let a = c .before .before .before .before .before .before .args in
+    let l = c .before .before .before .before .loop in
+    (omega arith, start-next (a .predecessors) (l .k) (l .start) _ _ (a .ends .now) (l .inv .1) (c .before .end-if-before .ensures) (c .most .ensures))
 
 returns : tie.Need-returns Inv-loop μ-loop
 returns c =
-    let a = c .before .before .args in
-    let e : c .before .loop .k ≡ a .n = omega arith in
-    c .before .loop .inv .1 ∙ ap (λ (n : ℕ). startAmong (a .predecessors) (a .t1) n) e
+    let a = c .before .before .before .args in
+    let l = c .before .loop in
+    let e : l .k ≡ a .n = omega arith in
+    rw (← e) (l .inv .1)
 
 pub start-of-spec : {M : Type 1} → statement M
 start-of-spec =
@@ -56,7 +57,7 @@ start-of-spec =
     μ-loop
     loop-holds
     mul-end-if-before
-    array-read-end-if-before
+    shared-slice-read-end-if-before
     end-if-before-requires
     most-requires
     add-k
