@@ -25,7 +25,7 @@ use Rattle.book.specs.Promise.{flowFrom}
 use Rattle.chain.specs.declared.Ideal.{Ideal}
 use Rattle.chain.specs.declared.Run.{Run}
 use Rattle.chain.specs.Jobs.{ChainInput}
-use Rattle.chain.specs.Runs.{IdealOf, takeBetween, NextChange, FirstRun, RunAt, walk}
+use Rattle.chain.specs.Runs.{IdealOf, RunInput, takeBetween, NextChange, FirstRun, RunAt, walk}
 use Rattle.chain.proofs.Starts.{count-of, sized-of, cap-at, starts-before-end, last-some, take-most, rate-most}
 use Rattle.chain.proofs.Filled.{Filled, filled-none, filled-next}
 
@@ -170,6 +170,25 @@ module _ (x : FlowJobs) (y : Ideal) (input : ChainInput x) (ideal : IdealOf (flo
         so-far
         (take-is v ev)
         (change-by-values (flowFrom x) i _ _ _ _ (ideal .starts i in-flow) (ideal .ends i in-flow) (ideal .lasts i in-flow) (cap-at x input i h) t width r next)
+
+-- .. and by lists that are theirs
+module _ (caps starts ends lasts : List ℕ) (count most : ℕ) (x : FlowJobs) (y : Ideal) (of : RunInput caps starts ends lasts count most x y) (t i : ℕ) (h : i < count) where
+  in-count : i < x .count
+  in-count = omega (arith, h, of .count-is)
+
+  pub change-asked-of : (getD starts i 0 < getD ends i 0) × (1 ≤ getD lasts i 0) × (1 ≤ getD caps i 0)
+  change-asked-of = rw (of .caps-are, of .starts-are, of .ends-are, of .lasts-are) (change-asked x y (of .input) (of .ideal) t i in-count)
+
+  module _ (width s v : ℕ) (l : List ℕ) (so-far : RunSoFar (flowFrom x) t i width s l)
+      (ev : v ≡ takeBetween (getD starts i 0) (getD ends i 0) (getD lasts i 0) (getD caps i 0) t) where
+    pub rate-fits-of : s + v ≤ 262144
+    rate-fits-of = rate-fits x y (of .input) (of .ideal) t i in-count width s v l so-far (rw (of .caps-are, of .starts-are, of .ends-are, of .lasts-are) at ev)
+
+    pub job-counted-in-of : (r : ℕ) → NextChange (takeBetween (getD starts i 0) (getD ends i 0) (getD lasts i 0) (getD caps i 0)) t width r →
+        RunSoFar (flowFrom x) t (i + 1) r (s + v) (set l i v)
+    job-counted-in-of r next =
+        job-counted-in x y (of .input) (of .ideal) t i in-count width s v l so-far (rw (of .caps-are, of .starts-are, of .ends-are, of .lasts-are) at ev) r
+        (rw (of .caps-are, of .starts-are, of .ends-are, of .lasts-are) at next)
 
 -- ---- the walk from cut to cut
 past-path : (w : Flow) (t : ℕ) → path w ≤ t → runs w (path w - t) t ≡ []

@@ -10,8 +10,11 @@ use Rattle.rules.specs.Walks.{if_then_else_}
 use Rattle.rules.specs.Book.{Flow, jobCount, jobOf}
 use Rattle.rules.specs.Ideal.{lastTake, startOf, endOf, path, takeOf}
 use Rattle.rules.specs.PseudoJobs.{PseudoJob, runs, rate}
+use Rattle.book.specs.declared.FlowJobs.{FlowJobs}
+use Rattle.book.specs.Promise.{flowFrom}
 use Rattle.chain.specs.declared.Ideal.{Ideal}
 use Rattle.chain.specs.declared.Run.{Run}
+use Rattle.chain.specs.Jobs.{ChainInput}
 
 -- the values are those of rules 1 and 2
 pub record IdealOf (w : Flow) (x : Ideal) : Type 0 where
@@ -19,6 +22,23 @@ pub record IdealOf (w : Flow) (x : Ideal) : Type 0 where
   pub ends : (i : ℕ) → i < jobCount w → getD (x .ends) i 0 ≡ endOf w i
   pub lasts : (i : ℕ) → i < jobCount w → getD (x .lasts) i 0 ≡ lastTake (jobOf w i)
   pub path : x .path ≡ path w
+
+-- the lists are a flow's caps, and its starts, ends and last takes on endless processors
+pub record RunInput (caps starts ends lasts : List ℕ) (count most : ℕ) (x : FlowJobs) (y : Ideal) : Type 0 where
+  pub input : ChainInput x
+  pub ideal : IdealOf (flowFrom x) y
+  pub count-is : count ≡ x .count
+  pub path-is : most ≡ y .path
+  pub caps-are : caps ≡ x .cap
+  pub starts-are : starts ≡ y .starts
+  pub ends-are : ends ≡ y .ends
+  pub lasts-are : lasts ≡ y .lasts
+
+-- they are those of some flow
+pub record SomeFlow (caps starts ends lasts : List ℕ) (count most : ℕ) : Type 0 where
+  pub jobs : FlowJobs
+  pub ideal : Ideal
+  pub held : RunInput caps starts ends lasts count most jobs ideal
 
 -- what a job takes in ideal slot u, by its start, its end, its last take and its cap
 unfoldable pub takeBetween : ℕ → ℕ → ℕ → ℕ → ℕ → ℕ

@@ -8,7 +8,9 @@ ghost use Rattle.rules.specs.Book.{hasBit};
 ghost use Rattle.rules.specs.Ideal.{endsBelow, path};
 ghost use Rattle.book.specs.Promise.{flowFrom};
 ghost use Rattle.chain.specs.Jobs.{ChainInput, jobWith, LastsAs, startAmong, endsBy};
-ghost use Rattle.chain.specs.Runs.{IdealOf, takeBetween, NextChange, RunAt};
+ghost use Rattle.chain.specs.Runs.{IdealOf, RunInput, SomeFlow, takeBetween, NextChange, RunAt};
+ghost use Rattle.book.specs.declared.FlowJobs.{FlowJobs};
+ghost use Rattle.chain.specs.declared.Ideal.{Ideal};
 use book::FlowJobs;
 
 // How many slots a job lasts, and what it takes in the last of them.
@@ -190,20 +192,27 @@ pub struct Run {
 }
 
 // Rule 3: the pseudo-job that begins at ideal slot t.
-pub fn run_at(jobs: FlowJobs, ideal: Ideal, t: u32) -> Run
-    requires { ⌜ ChainInput jobs × IdealOf (flowFrom jobs) ideal × (t < ideal .path) ⌝ }
-    ensures { λ r. ⌜ RunAt (flowFrom jobs) t r ⌝ }
+pub fn run_at(
+    caps: &[u32],
+    starts: &[u32],
+    ends: &[u32],
+    lasts: &[u32],
+    count: usize,
+    most: u32,
+    t: u32,
+) -> Run
+    requires { ⌜ (count ≤ 64) × (count ≤ length (now caps)) × (count ≤ length (now starts)) × (count ≤ length (now ends)) × (count ≤ length (now lasts)) × (t < most) × SomeFlow (now caps) (now starts) (now ends) (now lasts) count most ⌝ }
+    ensures { λ r. ⌜ ((x : FlowJobs) (y : Ideal) → RunInput (now (caps .entry)) (now (starts .entry)) (now (ends .entry)) (now (lasts .entry)) count most x y → RunAt (flowFrom x) t r) ⌝ }
 {
-    let count = jobs.count;
-    let mut width = ideal.path - t;
+    let mut width = most - t;
     let mut rate: u32 = 0;
     let mut takes = [0u32; 64];
     let mut i: usize = 0;
     while i < count {
-        let start = ideal.starts[i];
-        let end = ideal.ends[i];
-        let last = ideal.lasts[i];
-        let cap = jobs.cap[i];
+        let start = starts[i];
+        let end = ends[i];
+        let last = lasts[i];
+        let cap = caps[i];
         let take = take_at(start, end, last, cap, t);
         takes[i] = take;
         rate = rate + take;

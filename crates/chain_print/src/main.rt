@@ -40,11 +40,15 @@ fn print_chain(jobs: FlowJobs)
     let ideal = chain::ideal_of(jobs);
     let count = jobs.count;
     let path = ideal.path;
+    let caps = jobs.cap;
+    let starts = ideal.starts;
+    let ends = ideal.ends;
+    let lasts = ideal.lasts;
     print_number(b"path ", path as u64);
     io::write_all(STDOUT_FILENO, b"\n");
     let mut t: u32 = 0;
     while t < path {
-        let run = chain::run_at(jobs, ideal, t);
+        let run = chain::run_at(&caps, &starts, &ends, &lasts, count, path, t);
         print_run(t, run, count);
         t = t + run.width;
     }

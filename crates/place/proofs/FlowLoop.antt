@@ -22,7 +22,7 @@ use Rattle.book.specs.Promise.{FlowStands, flowFrom, Loaded}
 use Rattle.chain.specs.declared.Ideal.{Ideal}
 use Rattle.chain.specs.declared.Run.{Run}
 use Rattle.chain.specs.Jobs.{ChainInput}
-use Rattle.chain.specs.Runs.{IdealOf, RunAt}
+use Rattle.chain.specs.Runs.{IdealOf, RunInput, RunAt}
 use Rattle.chain.proofs.Starts.{count-of, input-of, path-most}
 use Rattle.place.specs.declared.Current.{Current}
 use Rattle.place.specs.declared.Placed.{Placed}
@@ -153,6 +153,10 @@ module _ (s : List ℕ) (f start : ℕ) (x : FlowJobs) (stands : FlowStands s f 
 
   pub chain-asked : ChainInput x
   chain-asked = input-of x (bookOf s .processors) (pass-in-range s (stands .passes) .processors-most) (rw (loaded .values) flow-in-range)
+
+  pub run-input : (y : Ideal) → IdealOf (flowFrom x) y → RunInput (x .cap) (y .starts) (y .ends) (y .lasts) (x .count) (y .path) x y
+  run-input y ideal =
+      record { input = chain-asked; ideal = ideal; count-is = refl; path-is = refl; caps-are = refl; starts-are = refl; ends-are = refl; lasts-are = refl }
 
   pub path-fits : path (flowFrom x) ≤ 64000000
   path-fits = path-most x chain-asked

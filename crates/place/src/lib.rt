@@ -289,15 +289,20 @@ pub fn place_flow(
     let ideal = chain::ideal_of(jobs);
     let limit = 2 * bytes::wide16(jobs.deadline);
     let path = ideal.path;
+    let count = jobs.count;
+    let caps = jobs.cap;
+    let starts = ideal.starts;
+    let ends = ideal.ends;
+    let lasts = ideal.lasts;
     let mut t: u32 = 0;
     let mut slot: usize = 0;
     let mut next = at;
     while t < path {
-        let run = chain::run_at(jobs, ideal, t);
+        let run = chain::run_at(&caps, &starts, &ends, &lasts, count, path, t);
         let takes = run.takes;
         let c = Current {
             flow: f,
-            jobs: jobs.count,
+            jobs: count,
             processors,
             first: t,
             width: run.width,
