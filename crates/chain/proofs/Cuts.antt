@@ -5,29 +5,30 @@ use mathlib.Core.Path.{_≡_, refl, sym, ap, _∙_}
 use mathlib.Core.Logic.{_⊎_, inl, inr}
 use mathlib.Core.Bool.{true, false}
 use mathlib.Core.List.{List, [], _∷_}
-use Prim.Native.Nat.{ℕ, zero, suc, _+_, _*_, _-_, _≤_, _<_}
+use Prim.Native.Nat.{ℕ, zero, suc, _+_, _*_, _-_, _≤_, _<_, min}
 use native.Mathlib.Nat.{not-suc-le-zero}
 use native.Mathlib.Numerals.{add-one}
 use native.Mathlib.Omega.{arith}
-use lib.ListN.{length, getD, set, replicate}
+use lib.ListN.{length, getD, set}
 use lib.Dec.{ltb}
 use borrow.Author.Tests.{lt-ltb, le-ltb}
-use Rattle.rules.specs.Walks.{if_then_else_, sumTo}
+use Rattle.rules.specs.Walks.{if_then_else_, bit, sumTo}
 use Rattle.rules.specs.Book.{Flow, jobCount, jobOf}
 use Rattle.rules.specs.Ideal.{lastTake, startOf, endOf, path, takeOf}
 use Rattle.rules.specs.PseudoJobs.{unchanged, runs, chain, rate}
 use Rattle.rules.proofs.Division.{lt-or-ge}
 use Rattle.rules.proofs.Walks.{last-or}
-use Rattle.rules.proofs.Ideal.{Sized}
+use Rattle.rules.proofs.Sums.{sum-nothing}
+use Rattle.rules.proofs.Ideal.{Sized, duration-positive, end-is-start-plus-duration, take-before-start, take-from-end, take-positive}
 use Rattle.rules.proofs.PseudoJobs.{unchanged-where-all-are, changed-where-one-is, run-step, chain-length}
 use Rattle.book.specs.declared.FlowJobs.{FlowJobs}
 use Rattle.book.specs.Promise.{flowFrom}
 use Rattle.chain.specs.declared.Ideal.{Ideal}
 use Rattle.chain.specs.declared.Run.{Run}
 use Rattle.chain.specs.Jobs.{ChainInput}
-use Rattle.chain.specs.Runs.{IdealOf, RunInput, takeBetween, NextChange, FirstRun, RunAt, walk}
+use Rattle.chain.specs.Runs.{LeastFrom, IdealOf, RunInput, takeBetween, NextChange, FirstRun, PartsOf, RunAt, walk}
 use Rattle.chain.proofs.Starts.{count-of, sized-of, cap-at, starts-before-end, last-some, take-most, rate-most}
-use Rattle.chain.proofs.Filled.{Filled, filled-none, filled-next}
+use Rattle.chain.proofs.Parts.{sum-stays, parts-few, parts-of-none, parts-of-next, parts-of-rest}
 
 -- ---- one job, by its values
 module _ (w : Flow) (i start end last cap : ℕ) (es : start ≡ startOf w i) (ee : end ≡ endOf w i) (el : last ≡ lastTake (jobOf w i)) (ec : cap ≡ jobOf w i .cap) where
@@ -48,8 +49,8 @@ module _ (w : Flow) (i start end last cap : ℕ) (es : start ≡ startOf w i) (e
 
 -- ---- all jobs
 -- what is known of the run at ideal slot t when n jobs are counted in
-pub record RunSoFar (w : Flow) (t n width s : ℕ) (l : List ℕ) : Type 0 where
-  pub takes : Filled (λ i. takeOf w i t) n l
+pub record RunSoFar (w : Flow) (t n width s : ℕ) (names takes : List ℕ) (parts : ℕ) : Type 0 where
+  pub listed : PartsOf (λ i. takeOf w i t) n names takes parts
   pub rate : s ≡ sumTo (λ i. takeOf w i t) n
   pub some : 0 < width
   pub within : t + width ≤ path w
@@ -57,26 +58,30 @@ pub record RunSoFar (w : Flow) (t n width s : ℕ) (l : List ℕ) : Type 0 where
   pub changes : t + width < path w → (i : ℕ) × (i < n) × (takeOf w i (t + width) ≡ takeOf w i t → ⊥)
 
 module _ (w : Flow) (t : ℕ) where
-  -- before the first job the run may last to the path
-  pub no-job-yet : (p : ℕ) → p ≡ path w → t < p → RunSoFar w t 0 (p - t) 0 (replicate 64 0)
-  unfolding sumTo
-  no-job-yet p e h =
+  -- where no job but the ended ones is counted in, the run may last to the path
+  pub ended-so-far : (n p : ℕ) (names takes : List ℕ) → p ≡ path w → t < p → ((i : ℕ) → i < n → endOf w i ≤ t) → RunSoFar w t n (p - t) 0 names takes 0
+  ended-so-far n p names takes e h ended =
       record {
-        takes = filled-none (λ i. takeOf w i t);
-        rate = refl;
+        listed = parts-of-none (λ i. takeOf w i t) n names takes (λ i l. take-from-end w i t (ended i l));
+        rate = sym (sum-nothing (λ i. takeOf w i t) n (λ i l. take-from-end w i t (ended i l)));
         some = omega arith;
         within = omega arith;
-        same = λ i l. absurd (not-suc-le-zero l);
+        same = λ i l u b. take-from-end w i (t + u) (omega (arith, ended i l)) ∙ sym (take-from-end w i t (ended i l));
         changes = λ l. absurd (omega arith);
       }
 
+  -- at most one part for each job
+  pub parts-so-far : (n width s parts : ℕ) (names takes : List ℕ) → RunSoFar w t n width s names takes parts → parts ≤ n
+  parts-so-far n width s parts names takes so-far = omega (arith, so-far .listed .count, parts-few (λ i. takeOf w i t) n)
+
   -- one more job shortens the run to where its take changes
-  pub one-more-job : (n width r s v : ℕ) (l : List ℕ) → n < 64 → RunSoFar w t n width s l → v ≡ takeOf w n t → NextChange (takeOf w n) t width r →
-      RunSoFar w t (n + 1) r (s + v) (set l n v)
+  pub one-more-job : (n width r s v parts : ℕ) (names takes : List ℕ) → parts < length names → parts < length takes →
+      RunSoFar w t n width s names takes parts → v ≡ takeOf w n t → NextChange (takeOf w n) t width r →
+      RunSoFar w t (n + 1) r (s + v) (set names parts n) (set takes parts v) (parts + bit (ltb 0 v))
   unfolding sumTo
-  one-more-job n width r s v l room so-far ev next =
+  one-more-job n width r s v parts names takes room-names room-takes so-far ev next =
       record {
-        takes = filled-next (λ i. takeOf w i t) n v l room (so-far .takes) ev;
+        listed = parts-of-next (λ i. takeOf w i t) n v parts names takes room-names room-takes ev (so-far .listed);
         rate = rw (add-one n) (omega (arith, so-far .rate));
         some = next .some;
         within = omega (arith, next .within, so-far .within);
@@ -91,10 +96,46 @@ module _ (w : Flow) (t : ℕ) where
           let k = so-far .changes (omega arith) in
           (k .0, omega (arith, k .1), λ q. k .2 (ap (λ (d : ℕ). takeOf w (k .0) (t + d)) e ∙ q))
 
+  -- where none of the jobs from n on has begun, the run lasts to the first of their starts at most
+  pub none-begun : (n width s parts first r : ℕ) (names takes : List ℕ) → Sized w → n ≤ jobCount w → t < first →
+      ((k : ℕ) → n ≤ k → k < jobCount w → first ≤ startOf w k) → (k : ℕ) × (n ≤ k) × (k < jobCount w) × (startOf w k ≡ first) →
+      r ≡ min width (first - t) → RunSoFar w t n width s names takes parts → RunSoFar w t (jobCount w) r s names takes parts
+  none-begun n width s parts first r names takes sized h begun later (k, from, in-flow, begins) er so-far =
+      record {
+        listed = parts-of-rest (λ i. takeOf w i t) n (jobCount w) parts names takes h (λ i a b. nothing i a b t begun) (so-far .listed);
+        rate = so-far .rate ∙ sym (sum-stays (λ i. takeOf w i t) n (jobCount w) h (λ i a b. nothing i a b t begun));
+        some = omega (arith, so-far .some);
+        within = omega (arith, so-far .within);
+        same = λ i l u b. go i l u b (lt-or-ge i n);
+        changes = λ l. change l (lt-or-ge (first - t) width);
+      }
+    where
+      nothing : (i : ℕ) → n ≤ i → i < jobCount w → (u : ℕ) → u < first → takeOf w i u ≡ 0
+      nothing i a b u l = take-before-start w i u (omega (arith, later i a b))
+
+      go : (i : ℕ) → i < jobCount w → (u : ℕ) → u < r → (i < n) ⊎ (n ≤ i) → takeOf w i (t + u) ≡ takeOf w i t
+      go i l u b (inl e) = so-far .same i e u (omega arith)
+      go i l u b (inr e) = nothing i e l (t + u) (omega arith) ∙ sym (nothing i e l t begun)
+
+      works : 0 < takeOf w k (startOf w k)
+      works =
+          let pos = sized .cap-positive k in-flow in
+          take-positive w k pos (startOf w k) (omega arith)
+          (omega (arith, end-is-start-plus-duration w k, duration-positive (jobOf w k) pos (sized .size-positive k in-flow)))
+
+      change : t + r < path w → (first - t < width) ⊎ (width ≤ first - t) → (i : ℕ) × (i < jobCount w) × (takeOf w i (t + r) ≡ takeOf w i t → ⊥)
+      change l (inl b) =
+          let e : t + r ≡ startOf w k = omega arith in
+          (k, in-flow, λ q. omega (arith, q, ap (takeOf w k) e, works, nothing k from in-flow t begun))
+      change l (inr b) =
+          let e : width ≡ r = omega arith in
+          let c = so-far .changes (omega arith) in
+          (c .0, omega (arith, c .1), λ q. c .2 (ap (λ (d : ℕ). takeOf w (c .0) (t + d)) e ∙ q))
+
   -- with all jobs counted in the run is the first one
-  first-run : (width s : ℕ) (l : List ℕ) → RunSoFar w t (jobCount w) width s l → FirstRun w t width
-  first-run zero s l so-far = absurd (omega (arith, so-far .some))
-  first-run (suc m) s l so-far = record { some = so-far .some; within = so-far .within; step = step }
+  first-run : (width s parts : ℕ) (names takes : List ℕ) → RunSoFar w t (jobCount w) width s names takes parts → FirstRun w t width
+  first-run zero s parts names takes so-far = absurd (omega (arith, so-far .some))
+  first-run (suc m) s parts names takes so-far = record { some = so-far .some; within = so-far .within; step = step }
     where
       next-slot : (i j : ℕ) → takeOf w i (t + j + 1) ≡ takeOf w i (t + suc j)
       next-slot i j = let e : t + j + 1 ≡ t + suc j = omega arith in ap (takeOf w i) e
@@ -117,10 +158,12 @@ module _ (w : Flow) (t : ℕ) where
           let b : path w - t - suc m ≡ path w - (t + suc m) = omega arith in
           rw (a, b) at (run-step w m (path w - t) t (omega (arith, so-far .within)) stays ends)
 
-  -- .. with its takes and its rate
-  pub all-jobs : (width s : ℕ) (l : List ℕ) → RunSoFar w t (jobCount w) width s l → RunAt w t (record { width = width; rate = s; takes = l })
+  -- .. with its parts and its rate
+  pub all-jobs : (width s parts : ℕ) (names takes : List ℕ) → RunSoFar w t (jobCount w) width s names takes parts →
+      RunAt w t names takes (record { width = width; rate = s; parts = parts })
   unfolding rate
-  all-jobs width s l so-far = record { takes = so-far .takes .front .values; no-more = so-far .takes .rest; rate = so-far .rate; run = first-run width s l so-far }
+  all-jobs width s parts names takes so-far =
+      record { parts = so-far .listed; rate = so-far .rate; run = first-run width s parts names takes so-far }
 
 -- ---- one job by the arrays' values
 module _ (x : FlowJobs) (y : Ideal) (input : ChainInput x) (ideal : IdealOf (flowFrom x) y) (t i : ℕ) (h : i < x .count) where
@@ -141,7 +184,7 @@ module _ (x : FlowJobs) (y : Ideal) (input : ChainInput x) (ideal : IdealOf (flo
   take-is : (v : ℕ) → v ≡ takeAt t → v ≡ takeOf (flowFrom x) i t
   take-is v e = e ∙ take-by-values (flowFrom x) i _ _ _ _ (ideal .starts i in-flow) (ideal .ends i in-flow) (ideal .lasts i in-flow) (cap-at x input i h) t
 
-  module _ (width s v : ℕ) (l : List ℕ) (so-far : RunSoFar (flowFrom x) t i width s l) (ev : v ≡ takeAt t) where
+  module _ (width s v parts : ℕ) (names takes : List ℕ) (so-far : RunSoFar (flowFrom x) t i width s names takes parts) (ev : v ≡ takeAt t) where
     -- a rate reaches 262,144
     pub rate-fits : s + v ≤ 262144
     rate-fits =
@@ -155,8 +198,9 @@ module _ (x : FlowJobs) (y : Ideal) (input : ChainInput x) (ideal : IdealOf (flo
         )
 
     -- one turn of the loop
-    pub job-counted-in : (r : ℕ) → NextChange takeAt t width r → RunSoFar (flowFrom x) t (i + 1) r (s + v) (set l i v)
-    job-counted-in r next =
+    pub job-counted-in : (r : ℕ) → parts < length names → parts < length takes → NextChange takeAt t width r →
+        RunSoFar (flowFrom x) t (i + 1) r (s + v) (set names parts i) (set takes parts v) (parts + bit (ltb 0 v))
+    job-counted-in r room-names room-takes next =
         one-more-job
         (flowFrom x)
         t
@@ -165,30 +209,88 @@ module _ (x : FlowJobs) (y : Ideal) (input : ChainInput x) (ideal : IdealOf (flo
         r
         s
         v
-        l
-        (omega (arith, input .count-most))
+        parts
+        names
+        takes
+        room-names
+        room-takes
         so-far
         (take-is v ev)
         (change-by-values (flowFrom x) i _ _ _ _ (ideal .starts i in-flow) (ideal .ends i in-flow) (ideal .lasts i in-flow) (cap-at x input i h) t width r next)
 
+-- a run has at most one part for each job
+pub parts-counted : (w : Flow) (t : ℕ) (names takes : List ℕ) (r : Run) → RunAt w t names takes r → r .parts ≤ jobCount w
+parts-counted w t names takes r at-cut = omega (arith, at-cut .parts .count, parts-few (λ i. takeOf w i t) (jobCount w))
+
 -- .. and by lists that are theirs
-module _ (caps starts ends lasts : List ℕ) (count most : ℕ) (x : FlowJobs) (y : Ideal) (of : RunInput caps starts ends lasts count most x y) (t i : ℕ) (h : i < count) where
-  in-count : i < x .count
-  in-count = omega (arith, h, of .count-is)
+pub run-input : (x : FlowJobs) (y : Ideal) → ChainInput x → IdealOf (flowFrom x) y → RunInput (x .cap) (y .starts) (y .ends) (y .lasts) (y .firsts) (x .count) (y .path) x y
+run-input x y input ideal =
+    record {
+      input = input;
+      ideal = ideal;
+      count-is = refl;
+      path-is = refl;
+      caps-are = refl;
+      starts-are = refl;
+      ends-are = refl;
+      lasts-are = refl;
+      firsts-are = refl;
+    }
 
-  pub change-asked-of : (getD starts i 0 < getD ends i 0) × (1 ≤ getD lasts i 0) × (1 ≤ getD caps i 0)
-  change-asked-of = rw (of .caps-are, of .starts-are, of .ends-are, of .lasts-are) (change-asked x y (of .input) (of .ideal) t i in-count)
+module _ (caps starts ends lasts firsts : List ℕ) (count most : ℕ) (x : FlowJobs) (y : Ideal) (of : RunInput caps starts ends lasts firsts count most x y) (t : ℕ) where
+  in-count : (i : ℕ) → i < count → i < x .count
+  in-count i h = omega (arith, h, of .count-is)
 
-  module _ (width s v : ℕ) (l : List ℕ) (so-far : RunSoFar (flowFrom x) t i width s l)
-      (ev : v ≡ takeBetween (getD starts i 0) (getD ends i 0) (getD lasts i 0) (getD caps i 0) t) where
-    pub rate-fits-of : s + v ≤ 262144
-    rate-fits-of = rate-fits x y (of .input) (of .ideal) t i in-count width s v l so-far (rw (of .caps-are, of .starts-are, of .ends-are, of .lasts-are) at ev)
+  counted : count ≡ jobCount (flowFrom x)
+  counted = of .count-is ∙ sym (count-of x)
 
-    pub job-counted-in-of : (r : ℕ) → NextChange (takeBetween (getD starts i 0) (getD ends i 0) (getD lasts i 0) (getD caps i 0)) t width r →
-        RunSoFar (flowFrom x) t (i + 1) r (s + v) (set l i v)
-    job-counted-in-of r next =
-        job-counted-in x y (of .input) (of .ideal) t i in-count width s v l so-far (rw (of .caps-are, of .starts-are, of .ends-are, of .lasts-are) at ev) r
-        (rw (of .caps-are, of .starts-are, of .ends-are, of .lasts-are) at next)
+  -- what is known where the jobs below `from` have ended
+  pub ended-so-far-of : (from : ℕ) (names takes : List ℕ) → from ≤ count → t < most → ((i : ℕ) → i < from → getD ends i 0 ≤ t) →
+      RunSoFar (flowFrom x) t from (most - t) 0 names takes 0
+  ended-so-far-of from names takes h l ended =
+      ended-so-far (flowFrom x) t from most names takes (of .path-is ∙ of .ideal .path) l
+      (λ i b. omega (arith, ended i b, ap (λ (e : List ℕ). getD e i 0) (of .ends-are), of .ideal .ends i (omega (arith, counted))))
+
+  -- the run where none of the jobs from i on has begun
+  pub none-begun-of : (i width s parts first r : ℕ) (names takes : List ℕ) → i < count → first ≡ getD firsts i 0 → t < first → r ≡ min width (first - t) →
+      RunSoFar (flowFrom x) t i width s names takes parts → RunAt (flowFrom x) t names takes (record { width = r; rate = s; parts = parts })
+  none-begun-of i width s parts first r names takes h ef l er so-far =
+      all-jobs (flowFrom x) t r s parts names takes
+      (none-begun (flowFrom x) t i width s parts first r names takes (sized-of x (of .input)) (omega (arith, counted)) l
+      (λ k a b. omega (arith, least .within k a b, is-least, of .ideal .starts k b))
+      (least .attained .0, least .attained .1, least .attained .2, sym (of .ideal .starts _ (least .attained .2)) ∙ least .attained .3 ∙ sym is-least) er so-far)
+    where
+      in-flow : i < jobCount (flowFrom x)
+      in-flow = omega (arith, counted)
+
+      least : LeastFrom (y .starts) (jobCount (flowFrom x)) i (getD (y .firsts) i 0)
+      least = of .ideal .firsts i in-flow
+
+      is-least : first ≡ getD (y .firsts) i 0
+      is-least = ef ∙ ap (λ (e : List ℕ). getD e i 0) (of .firsts-are)
+
+  -- the run when all jobs are counted in
+  pub all-jobs-of : (i width s parts : ℕ) (names takes : List ℕ) → i ≡ count → RunSoFar (flowFrom x) t i width s names takes parts →
+      RunAt (flowFrom x) t names takes (record { width = width; rate = s; parts = parts })
+  all-jobs-of i width s parts names takes e so-far = all-jobs (flowFrom x) t width s parts names takes (rw (e ∙ counted) at so-far)
+
+  module _ (i : ℕ) (h : i < count) where
+    pub change-asked-of : (getD starts i 0 < getD ends i 0) × (1 ≤ getD lasts i 0) × (1 ≤ getD caps i 0)
+    change-asked-of = rw (of .caps-are, of .starts-are, of .ends-are, of .lasts-are) (change-asked x y (of .input) (of .ideal) t i (in-count i h))
+
+    module _ (width s v parts : ℕ) (names takes : List ℕ) (so-far : RunSoFar (flowFrom x) t i width s names takes parts)
+        (ev : v ≡ takeBetween (getD starts i 0) (getD ends i 0) (getD lasts i 0) (getD caps i 0) t) where
+      pub rate-fits-of : s + v ≤ 262144
+      rate-fits-of =
+          rate-fits x y (of .input) (of .ideal) t i (in-count i h) width s v parts names takes so-far (rw (of .caps-are, of .starts-are, of .ends-are, of .lasts-are) at ev)
+
+      pub job-counted-in-of : (r : ℕ) → parts < length names → parts < length takes →
+          NextChange (takeBetween (getD starts i 0) (getD ends i 0) (getD lasts i 0) (getD caps i 0)) t width r →
+          RunSoFar (flowFrom x) t (i + 1) r (s + v) (set names parts i) (set takes parts v) (parts + bit (ltb 0 v))
+      job-counted-in-of r room-names room-takes next =
+          job-counted-in x y (of .input) (of .ideal) t i (in-count i h) width s v parts names takes so-far
+          (rw (of .caps-are, of .starts-are, of .ends-are, of .lasts-are) at ev) r room-names room-takes
+          (rw (of .caps-are, of .starts-are, of .ends-are, of .lasts-are) at next)
 
 -- ---- the walk from cut to cut
 past-path : (w : Flow) (t : ℕ) → path w ≤ t → runs w (path w - t) t ≡ []
@@ -221,8 +323,9 @@ walk-is-chain w sized width first =
     walk-is-runs w width first (2 * jobCount w) 0 most ∙ ap (λ (n : ℕ). runs w n 0) z
 
 -- walking a flow's values from 0 by the widths of `run_at` gives exactly the chain, in at most 2 × n steps
-pub walk-by-runs-is-chain : (x : FlowJobs) → ChainInput x → (r : ℕ → Run) → ((t : ℕ) → t < path (flowFrom x) → RunAt (flowFrom x) t (r t)) →
+pub walk-by-runs-is-chain : (x : FlowJobs) → ChainInput x → (names takes : ℕ → List ℕ) (r : ℕ → Run) →
+    ((t : ℕ) → t < path (flowFrom x) → RunAt (flowFrom x) t (names t) (takes t) (r t)) →
     walk (λ t. r t .width) (path (flowFrom x)) (2 * x .count) 0 ≡ chain (flowFrom x)
-walk-by-runs-is-chain x input r each =
+walk-by-runs-is-chain x input names takes r each =
     let w = flowFrom x in
     ap (λ (n : ℕ). walk (λ t. r t .width) (path w) (2 * n) 0) (sym (count-of x)) ∙ walk-is-chain w (sized-of x input) (λ t. r t .width) (λ t h. each t h .run)

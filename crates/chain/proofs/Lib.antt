@@ -1,6 +1,10 @@
 -- Laws that the proofs of several functions cite.
+pub mod Bits
 pub mod Filled
 pub mod Durations
 pub mod Starts
+pub mod Leasts
 pub mod Takes
+pub mod Parts
+pub mod Ended
 pub mod Cuts

@@ -1,14 +1,14 @@
 -- Rule 2 on a flow's values: the values are those of the specification's flow, and a walk over the ends of lower jobs,
--- held in an array of 64, gives the start and the end of the next job. Assumes nothing.
+-- held at the front of a list, gives the start and the end of the next job. Assumes nothing.
 use mathlib.Core.Path.{_≡_, refl, ap, sym, _∙_}
 use mathlib.Core.Bool.{Bool, true, false}
 use mathlib.Core.List.{List, [], _∷_, _++_}
 use Prim.Native.Nat.{ℕ, zero, suc, _+_, _*_, _-_, _<_, _≤_, max}
-use native.Mathlib.Nat.{zero-add, not-suc-le-zero, le-refl}
+use native.Mathlib.Nat.{zero-add, not-suc-le-zero, le-refl, max-zero}
 use native.Mathlib.Numerals.{add-one}
 use native.Mathlib.Omega.{arith}
-use lib.ListN.{length, getD, set, replicate, length-append, List·getD-append}
-use lib.Seq.{getD-at, set-at, append-snoc}
+use lib.ListN.{length, getD, set, drop, length-append, List·getD-append}
+use lib.Seq.{drop-cons, getD-at, set-at, append-snoc}
 use Rattle.rules.specs.Walks.{if_then_else_, sumTo, maxTo}
 use Rattle.rules.specs.Book.{Job, Flow, JobInRange, FlowInRange, jobCount, jobOf, noJob, hasBit, precedes}
 use Rattle.rules.specs.Ideal.{duration, lastTake, startAfter, startOf, endOf, endsBelow, path, takeOf}
@@ -64,9 +64,18 @@ unfolding startAmong maxTo
 start-none p ends = refl
 
 -- one more job is looked at
-pub start-next : (p k s e r : ℕ) (ends : List ℕ) → s ≡ startAmong p ends k → e ≡ (if hasBit p k then getD ends k 0 else 0) → r ≡ max s e → r ≡ startAmong p ends (k + 1)
+pub start-next : (p k s r : ℕ) (ends : List ℕ) → s ≡ startAmong p ends k → r ≡ max s (if hasBit p k then getD ends k 0 else 0) →
+    r ≡ startAmong p ends (k + 1)
 unfolding startAmong maxTo
-start-next p k s e r ends es ee er = rw (add-one k) (er ∙ rw (es, ee) refl)
+start-next p k s r ends es er = rw (add-one k) (er ∙ rw es refl)
+
+-- the jobs from k on do not count where none of their bits is set
+pub start-rest : (p k : ℕ) (ends : List ℕ) → ((i : ℕ) → k ≤ i → hasBit p i ≡ false) → (n : ℕ) → k ≤ n → startAmong p ends k ≡ startAmong p ends n
+unfolding startAmong maxTo
+start-rest p k ends none zero h = let e : k ≡ 0 = omega arith in rw e refl
+start-rest p k ends none (suc n) h =
+    last-or k (suc n) (omega arith) (λ e. rw e refl)
+    (λ l. start-rest p k ends none n (omega arith) ∙ rw (none n (omega arith)) (sym (max-zero (startAmong p ends n))))
 
 choice-within : (b : Bool) (e most : ℕ) → e ≤ most → (if b then e else 0) ≤ most
 choice-within true e most h = h
@@ -102,23 +111,23 @@ module _ (x : FlowJobs) (input : ChainInput x) where
       max-least (endOf (flowFrom x)) (jobCount (flowFrom x)) 64000000
       (λ i h. omega (arith, end-most (x .count) (omega arith) i (omega (arith, h, count-of x)), input .count-most))
 
--- ---- the ends by predecessors and durations, in an array of 64
+-- ---- the ends by predecessors and durations, at the front of a list
 module _ (p d : List ℕ) where
   ends-by-length : (n : ℕ) → length (endsBy p d n) ≡ n
   unfolding endsBy
   ends-by-length zero = refl
   ends-by-length (suc n) = rw (length-append, ends-by-length n) (omega arith)
 
-  -- the ends that are not there yet do not count
-  start-from-array : (k : ℕ) (ends zeros : List ℕ) → ends ≡ endsBy p d k ++ zeros → startAmong (getD p k 0) ends k ≡ startAmong (getD p k 0) (endsBy p d k) k
+  -- what stands behind the ends of lower jobs does not count
+  start-from-array : (k : ℕ) (ends rest : List ℕ) → ends ≡ endsBy p d k ++ rest → startAmong (getD p k 0) ends k ≡ startAmong (getD p k 0) (endsBy p d k) k
   unfolding startAmong
-  start-from-array k ends zeros e =
+  start-from-array k ends rest e =
       rw e
       (max-ext
-      (λ i. if hasBit (getD p k 0) i then getD (endsBy p d k ++ zeros) i 0 else 0)
+      (λ i. if hasBit (getD p k 0) i then getD (endsBy p d k ++ rest) i 0 else 0)
       (λ i. if hasBit (getD p k 0) i then getD (endsBy p d k) i 0 else 0)
       k
-      (λ i l. rw (List·getD-append (endsBy p d k) zeros 0 i (rw (ends-by-length k) l)) refl))
+      (λ i l. rw (List·getD-append (endsBy p d k) rest 0 i (rw (ends-by-length k) l)) refl))
 
   start-among-within : (k q most : ℕ) (ends : List ℕ) → ((i : ℕ) → i < k → getD ends i 0 ≤ most) → startAmong q ends k ≤ most
   unfolding startAmong
@@ -137,16 +146,16 @@ module _ (p d : List ℕ) where
       (λ q. rw (q, getD-at e end [] 0 n (ends-by-length n)) (omega (arith, start-among-within n (getD p n 0) (1000000 * n) e below, most n (omega arith))))
       (λ l. rw (List·getD-append e (end ∷ []) 0 i (rw (ends-by-length n) l)) (omega (arith, below i l)))
 
-  pub ends-none : (n : ℕ) → n ≡ 0 → replicate 64 0 ≡ endsBy p d n ++ replicate (64 - n) 0
+  pub ends-none : (n : ℕ) (before : List ℕ) → n ≡ 0 → before ≡ endsBy p d n ++ drop n before
   unfolding endsBy
-  ends-none n e = rw e refl
+  ends-none n before e = rw e refl
 
-  module _ (k s : ℕ) (ends : List ℕ) (room : k < 64) (ee : ends ≡ endsBy p d k ++ replicate (64 - k) 0) (es : s ≡ startAmong (getD p k 0) ends k) where
+  module _ (k s : ℕ) (before ends : List ℕ) (ee : ends ≡ endsBy p d k ++ drop k before) (es : s ≡ startAmong (getD p k 0) ends k) where
     start-is : s ≡ startAmong (getD p k 0) (endsBy p d k) k
-    start-is = es ∙ start-from-array k ends (replicate (64 - k) 0) ee
+    start-is = es ∙ start-from-array k ends (drop k before) ee
 
-    pub end-fits : ((i : ℕ) → i < suc k → getD d i 0 ≤ 1000000) → s + getD d k 0 ≤ 64000000
-    end-fits most =
+    pub end-fits : k < 64 → ((i : ℕ) → i < suc k → getD d i 0 ≤ 1000000) → s + getD d k 0 ≤ 64000000
+    end-fits room most =
         omega (
           arith,
           start-is,
@@ -154,32 +163,21 @@ module _ (p d : List ℕ) where
           most k (omega arith),
         )
 
-    -- the array after the end of job k is stored
-    pub ends-next : (n : ℕ) → n ≡ suc k → set ends k (s + getD d k 0) ≡ endsBy p d n ++ replicate (64 - n) 0
+    -- the list after the end of job k is stored
+    pub ends-next : k < length before → (n : ℕ) → n ≡ suc k → set ends k (s + getD d k 0) ≡ endsBy p d n ++ drop n before
     unfolding endsBy
-    ends-next n en =
-        let left : 64 - k ≡ suc (64 - suc k) = omega arith in
-        rw (en, start-is, ee, left)
-        (set-at (endsBy p d k) 0 (replicate (64 - suc k) 0) _ k (ends-by-length k) ∙ sym (append-snoc (endsBy p d k) _ (replicate (64 - suc k) 0)))
+    ends-next room n en =
+        rw (en, start-is, ee, drop-cons before k 0 room)
+        (set-at (endsBy p d k) (getD before k 0) (drop (suc k) before) _ k (ends-by-length k) ∙ sym (append-snoc (endsBy p d k) _ (drop (suc k) before)))
 
--- ---- the largest end
-pub max-none : (ends : List ℕ) → maxTo (λ i. getD ends i 0) 0 ≡ 0
+-- ---- the largest of a list's first numbers
+pub max-none : (numbers : List ℕ) → maxTo (λ i. getD numbers i 0) 0 ≡ 0
 unfolding maxTo
-max-none ends = refl
+max-none numbers = refl
 
-pub max-next : (ends : List ℕ) (k s r : ℕ) → s ≡ maxTo (λ i. getD ends i 0) k → r ≡ max s (getD ends k 0) → r ≡ maxTo (λ i. getD ends i 0) (k + 1)
+pub max-next : (numbers : List ℕ) (k s r : ℕ) → s ≡ maxTo (λ i. getD numbers i 0) k → r ≡ max s (getD numbers k 0) → r ≡ maxTo (λ i. getD numbers i 0) (k + 1)
 unfolding maxTo
-max-next ends k s r es er = rw (add-one k) (er ∙ rw es refl)
-
--- what the array holds is the end
-pub end-in-array : (w : Flow) (n i : ℕ) (ends zeros : List ℕ) → i < n → ends ≡ endsBelow w n ++ zeros → getD ends i 0 ≡ endOf w i
-end-in-array w n i ends zeros h e = rw (e, List·getD-append (endsBelow w n) zeros 0 i (rw (ends-length w n) h)) (ends-at w n i h)
-
-pub path-from-array : (x : FlowJobs) (ends zeros : List ℕ) → ends ≡ endsBelow (flowFrom x) (x .count) ++ zeros →
-    maxTo (λ i. getD ends i 0) (x .count) ≡ path (flowFrom x)
-unfolding path
-path-from-array x ends zeros e =
-    rw (count-of x) (max-ext (λ i. getD ends i 0) (endOf (flowFrom x)) (x .count) (λ i h. end-in-array (flowFrom x) (x .count) i ends zeros h e))
+max-next numbers k s r es er = rw (add-one k) (er ∙ rw es refl)
 
 -- ---- durations, last takes and starts, as the values give them
 module _ (x : FlowJobs) (i : ℕ) (h : i < x .count) where
@@ -192,12 +190,17 @@ module _ (x : FlowJobs) (i : ℕ) (h : i < x .count) where
 
 -- what the arrays of durations and of ends hold
 module _ (x : FlowJobs) (slots ends : List ℕ) (durations : (i : ℕ) → i < x .count → getD slots i 0 ≡ duration (jobOf (flowFrom x) i))
-    (ee : ends ≡ endsBy (x .predecessors) slots (x .count) ++ replicate (64 - x .count) 0) where
-  pub ends-held : ends ≡ endsBelow (flowFrom x) (x .count) ++ replicate (64 - x .count) 0
-  ends-held = ee ∙ ap (λ (l : List ℕ). l ++ replicate (64 - x .count) 0) (ends-of-flow x slots durations (x .count) (le-refl (x .count)))
-
+    (rest : List ℕ) (ee : ends ≡ endsBy (x .predecessors) slots (x .count) ++ rest) where
   pub end-held : (i : ℕ) → i < x .count → getD ends i 0 ≡ endOf (flowFrom x) i
-  end-held i h = end-in-array (flowFrom x) (x .count) i ends (replicate (64 - x .count) 0) h ends-held
+  end-held i h =
+      let w = flowFrom x in
+      let held : ends ≡ endsBelow w (x .count) ++ rest = ee ∙ ap (_++ rest) (ends-of-flow x slots durations (x .count) (le-refl (x .count))) in
+      rw (held, List·getD-append (endsBelow w (x .count)) rest 0 i (rw (ends-length w (x .count)) h)) (ends-at w (x .count) i h)
+
+  -- the path is the largest end
+  pub path-held : maxTo (λ i. getD ends i 0) (x .count) ≡ path (flowFrom x)
+  unfolding path
+  path-held = rw (count-of x) (max-ext (λ i. getD ends i 0) (endOf (flowFrom x)) (x .count) end-held)
 
   -- the start stands the job's slots before its end
   pub start-by-end : (i : ℕ) → i < x .count → startOf (flowFrom x) i + getD slots i 0 ≡ getD ends i 0

@@ -2,13 +2,13 @@
 ghost use mathlib.Core.Path.{_≡_};
 ghost use mathlib.Core.List.{_++_};
 ghost use Prim.Native.Nat.{ℕ, _+_, _-_, _<_, _≤_, min, max};
-ghost use lib.ListN.{length, getD, replicate};
-ghost use Rattle.rules.specs.Walks.{if_then_else_};
+ghost use lib.ListN.{length, getD, drop};
+ghost use lib.Dec.{ltb};
+ghost use Rattle.rules.specs.Walks.{if_then_else_, bit, maxTo};
 ghost use Rattle.rules.specs.Book.{hasBit};
-ghost use Rattle.rules.specs.Ideal.{endsBelow, path};
 ghost use Rattle.book.specs.Promise.{flowFrom};
 ghost use Rattle.chain.specs.Jobs.{ChainInput, jobWith, LastsAs, startAmong, endsBy};
-ghost use Rattle.chain.specs.Runs.{IdealOf, RunInput, SomeFlow, takeBetween, NextChange, RunAt};
+ghost use Rattle.chain.specs.Runs.{IdealOf, LeastFrom, RunInput, SomeFlow, takeBetween, NextChange, RunAt};
 ghost use Rattle.book.specs.declared.FlowJobs.{FlowJobs};
 ghost use Rattle.chain.specs.declared.Ideal.{Ideal};
 use book::FlowJobs;
@@ -52,15 +52,16 @@ pub fn most(a: u32, b: u32) -> u32
     if a < b { b } else { a }
 }
 
-// The end of job k where it is among the predecessors, and 0 where it is not.
-pub fn end_if_before(end: u32, predecessors: u64, k: usize) -> u32
-    requires { ⌜ k < 64 ⌝ }
-    ensures { λ r. ⌜ r ≡ (if hasBit predecessors k then end else 0) ⌝ }
+// The later of a start and the end of the job whose bit is the lowest, where that bit is set.
+pub fn later(start: u32, end: u32, bits: u64) -> u32
+    ensures { λ r. ⌜ r ≡ max start (if hasBit bits 0 then end else 0) ⌝ }
 {
-    if (predecessors >> k) % 2 == 1 {
-        return end;
+    if bits % 2 == 1 {
+        if start < end {
+            return end;
+        }
     }
-    0
+    start
 }
 
 // The largest end among the predecessors below n.
@@ -69,49 +70,69 @@ pub fn start_of(ends: &[u32], predecessors: u64, n: usize) -> u32
     ensures { λ r. ⌜ r ≡ startAmong predecessors (now (ends .entry)) n ⌝ }
 {
     let mut start: u32 = 0;
+    let mut bits = predecessors;
     let mut k: usize = 0;
     while k < n {
-        start = most(start, end_if_before(ends[k], predecessors, k));
+        if bits == 0 {
+            return start;
+        }
+        start = later(start, ends[k], bits);
+        bits = bits / 2;
         k = k + 1;
     }
     start
 }
 
 // Rule 2: the ends of the jobs below n, by their predecessors and slots. The ends of lower jobs come from the call below.
-pub fn ends(predecessors: &[u64], slots: &[u32], n: usize) -> [u32; 64]
-    requires { ⌜ (n ≤ 64) × (n ≤ length (now predecessors)) × (n ≤ length (now slots)) × ((i : ℕ) → i < n → getD (now slots) i 0 ≤ 1000000) ⌝ }
-    ensures { λ r. ⌜ r ≡ endsBy (now (predecessors .entry)) (now (slots .entry)) n ++ replicate (64 - n) 0 ⌝ }
+pub fn ends(predecessors: &[u64], slots: &[u32], n: usize, all: &mut [u32])
+    requires { ⌜ (n ≤ 64) × (n ≤ length (now predecessors)) × (n ≤ length (now slots)) × (n ≤ length (now all)) × ((i : ℕ) → i < n → getD (now slots) i 0 ≤ 1000000) ⌝ }
+    ensures { λ _. ⌜ now (all .exit) ≡ endsBy (now (predecessors .entry)) (now (slots .entry)) n ++ drop n (now (all .entry)) ⌝ }
 {
     if n == 0 {
-        return [0u32; 64];
+        return;
     }
     let k = n - 1;
-    let mut all = ends(predecessors, slots, k);
-    let start = start_of(&all, predecessors[k], k);
+    ends(predecessors, slots, k, all);
+    let start = start_of(all, predecessors[k], k);
     all[k] = start + slots[k];
-    all
 }
 
-// Rule 2: the path of a flow, its largest end.
-pub fn path(jobs: FlowJobs, ends: [u32; 64]) -> u32
-    requires { ⌜ ChainInput jobs × (ends ≡ endsBelow (flowFrom jobs) (jobs .count) ++ replicate (64 - jobs .count) 0) ⌝ }
-    ensures { λ r. ⌜ r ≡ path (flowFrom jobs) ⌝ }
+// The largest of the first n numbers.
+pub fn largest(numbers: &[u32], n: usize) -> u32
+    requires { ⌜ n ≤ length (now numbers) ⌝ }
+    ensures { λ r. ⌜ r ≡ maxTo (λ i. getD (now (numbers .entry)) i 0) n ⌝ }
 {
-    let count = jobs.count;
-    let mut largest: u32 = 0;
+    let mut most_so_far: u32 = 0;
     let mut k: usize = 0;
-    while k < count {
-        largest = most(largest, ends[k]);
+    while k < n {
+        most_so_far = most(most_so_far, numbers[k]);
         k = k + 1;
     }
-    largest
+    most_so_far
 }
 
-// A flow on endless processors: the start, the end and the last take of each job, and the path.
+// The least of the first n numbers from each place on.
+pub fn least_from(numbers: &[u32], n: usize) -> [u32; 64]
+    requires { ⌜ (n ≤ 64) × (n ≤ length (now numbers)) ⌝ }
+    ensures { λ r. ⌜ ((i : ℕ) → i < n → LeastFrom (now (numbers .entry)) n i (getD r i 0)) ⌝ }
+{
+    let mut leasts = [0u32; 64];
+    let mut least_so_far: u32 = 4294967295;
+    let mut k = n;
+    while 0 < k {
+        k = k - 1;
+        least_so_far = least(numbers[k], least_so_far);
+        leasts[k] = least_so_far;
+    }
+    leasts
+}
+
+// A flow on endless processors: the start, the end and the last take of each job, the least start from each job on, and the path.
 pub struct Ideal {
     pub starts: [u32; 64],
     pub ends: [u32; 64],
     pub lasts: [u32; 64],
+    pub firsts: [u32; 64],
     pub path: u32,
 }
 
@@ -131,18 +152,21 @@ pub fn ideal_of(jobs: FlowJobs) -> Ideal
         i = i + 1;
     }
     let predecessors = jobs.predecessors;
-    let ends = ends(&predecessors, &slots, count);
-    let path = path(jobs, ends);
+    let mut all = [0u32; 64];
+    ends(&predecessors, &slots, count, &mut all);
+    let path = largest(&all, count);
     let mut starts = [0u32; 64];
     let mut k: usize = 0;
     while k < count {
-        starts[k] = ends[k] - slots[k];
+        starts[k] = all[k] - slots[k];
         k = k + 1;
     }
+    let firsts = least_from(&starts, count);
     Ideal {
         starts,
-        ends,
+        ends: all,
         lasts: last,
+        firsts,
         path,
     }
 }
@@ -184,40 +208,80 @@ pub fn until_change(start: u32, end: u32, last: u32, cap: u32, t: u32, limit: u3
     least(left - 1, limit)
 }
 
-// A pseudo-job: its width, its rate, and what each job takes.
+// A pseudo-job: its width, its rate, and how many jobs take something.
 pub struct Run {
     pub width: u32,
     pub rate: u32,
-    pub takes: [u32; 64],
+    pub parts: usize,
 }
 
-// Rule 3: the pseudo-job that begins at ideal slot t.
+// One part more, where something is taken.
+pub fn one_more(take: u32, parts: usize) -> usize
+    requires { ⌜ parts < 4294967296 ⌝ }
+    ensures { λ r. ⌜ r ≡ parts + bit (ltb 0 take) ⌝ }
+{
+    if 0 < take {
+        return parts + 1;
+    }
+    parts
+}
+
+// The first job from `from` on that has not ended at t.
+pub fn skip_ended(ends: &[u32], count: usize, from: usize, t: u32) -> usize
+    requires { ⌜ (from ≤ count) × (count ≤ length (now ends)) ⌝ }
+    ensures { λ r. ⌜ (r ≤ count) × (from ≤ r) × ((i : ℕ) → from ≤ i → i < r → getD (now (ends .entry)) i 0 ≤ t) ⌝ }
+{
+    let mut i = from;
+    while i < count {
+        if t < ends[i] {
+            return i;
+        }
+        i = i + 1;
+    }
+    i
+}
+
+// Rule 3: the pseudo-job that begins at ideal slot t. The jobs below `from` have ended; those from which on none has begun are not looked at.
 pub fn run_at(
     caps: &[u32],
     starts: &[u32],
     ends: &[u32],
     lasts: &[u32],
+    firsts: &[u32],
     count: usize,
     most: u32,
+    from: usize,
     t: u32,
+    names: &mut [u8],
+    takes: &mut [u32],
 ) -> Run
-    requires { ⌜ (count ≤ 64) × (count ≤ length (now caps)) × (count ≤ length (now starts)) × (count ≤ length (now ends)) × (count ≤ length (now lasts)) × (t < most) × SomeFlow (now caps) (now starts) (now ends) (now lasts) count most ⌝ }
-    ensures { λ r. ⌜ ((x : FlowJobs) (y : Ideal) → RunInput (now (caps .entry)) (now (starts .entry)) (now (ends .entry)) (now (lasts .entry)) count most x y → RunAt (flowFrom x) t r) ⌝ }
+    requires { ⌜ (count ≤ 64) × (count ≤ length (now caps)) × (count ≤ length (now starts)) × (count ≤ length (now ends)) × (count ≤ length (now lasts)) × (count ≤ length (now firsts)) × (count ≤ length (now names)) × (count ≤ length (now takes)) × (t < most) × (from ≤ count) × ((i : ℕ) → i < from → getD (now ends) i 0 ≤ t) × SomeFlow (now caps) (now starts) (now ends) (now lasts) (now firsts) count most ⌝ }
+    ensures { λ r. ⌜ ((x : FlowJobs) (y : Ideal) → RunInput (now (caps .entry)) (now (starts .entry)) (now (ends .entry)) (now (lasts .entry)) (now (firsts .entry)) count most x y → RunAt (flowFrom x) t (now (names .exit)) (now (takes .exit)) r) ⌝ }
 {
     let mut width = most - t;
     let mut rate: u32 = 0;
-    let mut takes = [0u32; 64];
-    let mut i: usize = 0;
+    let mut parts: usize = 0;
+    let mut i = from;
     while i < count {
+        let first = firsts[i];
+        if t < first {
+            return Run {
+                width: least(width, first - t),
+                rate,
+                parts,
+            };
+        }
         let start = starts[i];
         let end = ends[i];
         let last = lasts[i];
         let cap = caps[i];
         let take = take_at(start, end, last, cap, t);
-        takes[i] = take;
+        names[parts] = i as u8;
+        takes[parts] = take;
+        parts = one_more(take, parts);
         rate = rate + take;
         width = until_change(start, end, last, cap, t, width);
         i = i + 1;
     }
-    Run { width, rate, takes }
+    Run { width, rate, parts }
 }

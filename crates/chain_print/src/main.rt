@@ -1,7 +1,9 @@
 // Prints the chains of three flows: one with 2 × n pseudo-jobs, one with the longest path, and one where the takes
-// change and the rate does not. A line has a pseudo-job's first ideal slot, its width, its rate and its takes.
+// change and the rate does not. A line has a pseudo-job's first ideal slot, its width, its rate and its parts.
 ghost use Prim.Native.Nat.{_≤_};
+ghost use lib.ListN.{length};
 ghost use Rattle.chain.specs.Jobs.{ChainInput};
+ghost use Rattle.chain.specs.Runs.{SomeFlow};
 use book::FlowJobs;
 use chain::Run;
 use libc::STDOUT_FILENO;
@@ -11,29 +13,67 @@ fn print_number(name: &[u8], n: u64) {
     io::print_decimal(STDOUT_FILENO, n);
 }
 
-fn print_take(job: usize, take: u32) {
-    if take == 0 {
-        return;
-    }
+fn print_path(path: u32) {
+    print_number(b"path ", path as u64);
+    io::write_all(STDOUT_FILENO, b"\n");
+}
+
+fn print_part(job: u8, take: u32) {
     print_number(b" job ", job as u64);
     print_number(b" take ", take as u64);
 }
 
-fn print_run(first: u32, run: Run, count: usize)
-    requires { ⌜ count ≤ 64 ⌝ }
+fn print_run(first: u32, run: Run, names: &[u8], takes: &[u32])
+    requires { ⌜ (run .parts ≤ length (now names)) × (run .parts ≤ length (now takes)) ⌝ }
 {
     print_number(b"first ", first as u64);
     print_number(b" width ", run.width as u64);
     print_number(b" rate ", run.rate as u64);
-    let mut i: usize = 0;
-    while i < count {
-        print_take(i, run.takes[i]);
-        i = i + 1;
+    let parts = run.parts;
+    let mut q: usize = 0;
+    while q < parts {
+        print_part(names[q], takes[q]);
+        q = q + 1;
     }
     io::write_all(STDOUT_FILENO, b"\n");
 }
 
 // The walk from cut to cut.
+fn print_cuts(
+    caps: &[u32],
+    starts: &[u32],
+    ends: &[u32],
+    lasts: &[u32],
+    firsts: &[u32],
+    names: &mut [u8],
+    takes: &mut [u32],
+    count: usize,
+    path: u32,
+)
+    requires { ⌜ (count ≤ 64) × (count ≤ length (now caps)) × (count ≤ length (now starts)) × (count ≤ length (now ends)) × (count ≤ length (now lasts)) × (count ≤ length (now firsts)) × (count ≤ length (now names)) × (count ≤ length (now takes)) × SomeFlow (now caps) (now starts) (now ends) (now lasts) (now firsts) count path ⌝ }
+{
+    let mut from: usize = 0;
+    let mut t: u32 = 0;
+    while t < path {
+        from = chain::skip_ended(ends, count, from, t);
+        let run = chain::run_at(
+            caps,
+            starts,
+            ends,
+            lasts,
+            firsts,
+            count,
+            path,
+            from,
+            t,
+            names,
+            takes,
+        );
+        print_run(t, run, names, takes);
+        t = t + run.width;
+    }
+}
+
 fn print_chain(jobs: FlowJobs)
     requires { ⌜ ChainInput jobs ⌝ }
 {
@@ -44,14 +84,21 @@ fn print_chain(jobs: FlowJobs)
     let starts = ideal.starts;
     let ends = ideal.ends;
     let lasts = ideal.lasts;
-    print_number(b"path ", path as u64);
-    io::write_all(STDOUT_FILENO, b"\n");
-    let mut t: u32 = 0;
-    while t < path {
-        let run = chain::run_at(&caps, &starts, &ends, &lasts, count, path, t);
-        print_run(t, run, count);
-        t = t + run.width;
-    }
+    let firsts = ideal.firsts;
+    let mut names = [0u8; 64];
+    let mut takes = [0u32; 64];
+    print_path(path);
+    print_cuts(
+        &caps,
+        &starts,
+        &ends,
+        &lasts,
+        &firsts,
+        &mut names,
+        &mut takes,
+        count,
+        path,
+    );
 }
 
 // A flow of jobs of one size and cap, each after the one before.

@@ -5,11 +5,12 @@ use Prim.Native.Nat.{ℕ, _+_, _*_, _-_, _≤_, _<_}
 use native.Mathlib.Nat.{sub-zero}
 use native.Mathlib.Omega.{arith}
 use mathlib.Core.List.{List, [], _∷_, _++_, append-nil}
-use lib.ListN.{length}
+use lib.ListN.{length, getD}
 use Rattle.rules.specs.Limits.{slots}
-use Rattle.rules.specs.Book.{Flow, Book, jobCount, flowOf, FlowInRange}
-use Rattle.rules.specs.Reading.{bookOf}
-use Rattle.rules.specs.Ideal.{path}
+use Rattle.rules.specs.declared.Verdict.the-variants.{Pass}
+use Rattle.rules.specs.Book.{Flow, Book, flowCount, jobCount, flowOf, FlowInRange}
+use Rattle.rules.specs.Reading.{bookOf, bookFault}
+use Rattle.rules.specs.Ideal.{path, takeOf}
 use Rattle.rules.specs.PseudoJobs.{PseudoJob, runs, chain, rate}
 use Rattle.rules.specs.Rows.{Row, usedIn, finishOf, workUsed}
 use Rattle.rules.specs.Placing.{Progress, progress, flowRows, freeProcessors, slotsFor, placeFlow}
@@ -22,14 +23,17 @@ use Rattle.book.specs.Promise.{FlowStands, flowFrom, Loaded}
 use Rattle.chain.specs.declared.Ideal.{Ideal}
 use Rattle.chain.specs.declared.Run.{Run}
 use Rattle.chain.specs.Jobs.{ChainInput}
-use Rattle.chain.specs.Runs.{IdealOf, RunInput, RunAt}
+use Rattle.chain.specs.Runs.{IdealOf, RunInput, SomeFlow, RunAt}
 use Rattle.chain.proofs.Starts.{count-of, input-of, path-most}
+use Rattle.chain.proofs.Parts.{amount-within}
+use Rattle.chain.proofs.Cuts.{run-input, parts-counted}
 use Rattle.place.specs.declared.Current.{Current}
 use Rattle.place.specs.declared.Placed.{Placed}
 use Rattle.place.specs.declared.Placed.the-variants.{To, Infeasible}
-use Rattle.place.specs.Service.{Serving, pseudoJob}
-use Rattle.place.specs.Flows.{standing, Beside, rowsUpTo, Underway, UnderwayBy, WorkLeft, RunPlaced, RunAnswer, newRows, FlowDone, FlowInfeasible}
+use Rattle.place.specs.Service.{packed, Serving, pseudoJob}
+use Rattle.place.specs.Flows.{standing, Beside, rowsUpTo, Underway, UnderwayBy, WorkLeft, RunPlaced, RunAnswer, newRows, FlowDone, FlowInfeasible, FlowHeld}
 use Rattle.place.proofs.OneSlot.{finish-nothing}
+use Rattle.place.proofs.Serving.{takes-within}
 use Rattle.place.proofs.Output.{put-none, put-same-length}
 use Rattle.place.proofs.Steps.{flow-rows-none, stays-finished, no-more-rows, own-rows-within-free}
 
@@ -131,61 +135,103 @@ flow-kept-first b f at limit out area = record {
   so-far = λ rows bytes e within. flow-begins b f rows bytes out area at e within;
 }
 
--- ---- the pseudo-job that begins at a cut, in service
+-- ---- a flow that is read out of its book, on endless processors
+flow-in-range : (s : List ℕ) (f : ℕ) → bookFault s ≡ Pass → f < flowCount (bookOf s) → FlowInRange (bookOf s .processors) (flowOf (bookOf s) f)
+flow-in-range s f passes flow-in = pass-in-range s passes .each-flow f flow-in
+
 module _ (s : List ℕ) (f start : ℕ) (x : FlowJobs) (stands : FlowStands s f start) (loaded : Loaded s f x) where
-  flow-in-range : FlowInRange (bookOf s .processors) (flowOf (bookOf s) f)
-  flow-in-range = pass-in-range s (stands .passes) .each-flow f (stands .flow-in)
-
-  pub flow-sized : Sized (flowOf (bookOf s) f)
-  flow-sized = in-range-sized flow-in-range
-
-  pub jobs-few : jobCount (flowOf (bookOf s) f) ≤ 64
-  jobs-few = flow-in-range .jobs-most
-
-  pub deadline-held : x .deadline ≡ flowOf (bookOf s) f .deadline
-  deadline-held = unfold flowFrom in ap (λ (v : Flow). v .deadline) (loaded .values)
-
-  pub deadline-within : flowOf (bookOf s) f .deadline ≤ 4096
-  deadline-within = flow-in-range .deadline-most
-
-  count-held : x .count ≡ jobCount (flowOf (bookOf s) f)
-  count-held = sym (count-of x) ∙ ap jobCount (loaded .values)
-
   pub chain-asked : ChainInput x
-  chain-asked = input-of x (bookOf s .processors) (pass-in-range s (stands .passes) .processors-most) (rw (loaded .values) flow-in-range)
+  chain-asked =
+      input-of x (bookOf s .processors) (pass-in-range s (stands .passes) .processors-most)
+      (rw (loaded .values) (flow-in-range s f (stands .passes) (stands .flow-in)))
 
-  pub run-input : (y : Ideal) → IdealOf (flowFrom x) y → RunInput (x .cap) (y .starts) (y .ends) (y .lasts) (x .count) (y .path) x y
-  run-input y ideal =
-      record { input = chain-asked; ideal = ideal; count-is = refl; path-is = refl; caps-are = refl; starts-are = refl; ends-are = refl; lasts-are = refl }
+  pub limit-held : (d : ℕ) → d ≡ x .deadline → 2 * d ≡ slotsFor (flowOf (bookOf s) f)
+  limit-held d e = ap (λ (n : ℕ). 2 * n) (e ∙ (unfold flowFrom in ap (λ (v : Flow). v .deadline) (loaded .values)))
 
-  pub path-fits : path (flowFrom x) ≤ 64000000
-  path-fits = path-most x chain-asked
+  pub flow-held : (y : Ideal) → IdealOf (flowFrom x) y → length (x .cap) ≡ 64 → length (y .starts) ≡ 64 → length (y .ends) ≡ 64 → length (y .lasts) ≡ 64 →
+      length (y .firsts) ≡ 64 → FlowHeld s f (x .cap) (y .starts) (y .ends) (y .lasts) (y .firsts) (x .count) (y .path)
+  flow-held y ideal caps starts ends lasts firsts = record {
+    passes = stands .passes;
+    flow-in = stands .flow-in;
+    jobs = x;
+    ideal = y;
+    loaded = loaded;
+    held = run-input x y chain-asked ideal;
+    caps-whole = omega (arith, loaded .few);
+    starts-whole = omega (arith, loaded .few);
+    ends-whole = omega (arith, loaded .few);
+    lasts-whole = omega (arith, loaded .few);
+    firsts-whole = omega (arith, loaded .few);
+  }
 
-  pub path-held : (y : Ideal) → IdealOf (flowFrom x) y → y .path ≡ path (flowOf (bookOf s) f)
-  path-held y ideal = ideal .path ∙ ap path (loaded .values)
+-- ---- the pseudo-job that begins at a cut, in service
+module _ {s : List ℕ} {f : ℕ} {caps starts ends lasts firsts : List ℕ} {count most : ℕ} (h : FlowHeld s f caps starts ends lasts firsts count most) where
+  in-range : FlowInRange (bookOf s .processors) (flowOf (bookOf s) f)
+  in-range = flow-in-range s f (h .passes) (h .flow-in)
+
+  flow-sized : Sized (flowOf (bookOf s) f)
+  flow-sized = in-range-sized in-range
+
+  pub flow-few : f < 256
+  flow-few = omega (arith, h .flow-in, pass-in-range s (h .passes) .flows-most)
+
+  jobs-few : jobCount (flowOf (bookOf s) f) ≤ 64
+  jobs-few = in-range .jobs-most
+
+  pub count-few : count ≤ 64
+  count-few = omega (arith, h .held .count-is, h .held .input .count-most)
+
+  counted : count ≡ jobCount (flowOf (bookOf s) f)
+  counted = h .held .count-is ∙ sym (count-of (h .jobs)) ∙ ap jobCount (h .loaded .values)
+
+  pub deadline-within : slotsFor (flowOf (bookOf s) f) ≤ 8192
+  deadline-within = omega (arith, in-range .deadline-most)
+
+  pub path-fits : most ≤ 64000000
+  path-fits = omega (arith, h .held .path-is, h .held .ideal .path, path-most (h .jobs) (h .held .input))
+
+  pub path-held : most ≡ path (flowOf (bookOf s) f)
+  path-held = h .held .path-is ∙ h .held .ideal .path ∙ ap path (h .loaded .values)
+
+  -- what `run_at` asks
+  pub some-flow : SomeFlow caps starts ends lasts firsts count most
+  some-flow = record { jobs = h .jobs; ideal = h .ideal; held = h .held }
 
   -- what the code holds of it
   abbrev pub currentAt : ℕ → ℕ → Run → Current
-  currentAt t P r = record { flow = f; jobs = x .count; processors = P; first = t; width = r .width; rate = r .rate }
+  currentAt t P r = record { flow = f; parts = r .parts; processors = P; first = t; width = r .width; rate = r .rate }
 
-  module _ (t P : ℕ) (r : Run) (at-cut : RunAt (flowFrom x) t r) where
-    run-here : RunAt (flowOf (bookOf s) f) t r
-    run-here = subst (λ (v : Flow). RunAt v t r) (loaded .values) at-cut
+  -- .. by what `run_at` answers
+  module _ (t P : ℕ) (names takes : List ℕ) (r : Run)
+      (answer : (x : FlowJobs) (y : Ideal) → RunInput caps starts ends lasts firsts count most x y → RunAt (flowFrom x) t names takes r) where
+    pub run-here : RunAt (flowOf (bookOf s) f) t names takes r
+    run-here = subst (λ (v : Flow). RunAt v t names takes r) (h .loaded .values) (answer (h .jobs) (h .ideal) (h .held))
 
-    pub cut-within : t + r .width ≤ path (flowFrom x)
-    cut-within = at-cut .run .within
+    pub cut-within : t + r .width ≤ most
+    cut-within = omega (arith, run-here .run .within, path-held)
 
-    pub serving-at : P ≡ bookOf s .processors → length (r .takes) ≡ 64 → Serving s (currentAt t P r) (r .takes)
-    serving-at e whole = record {
-      passes = stands .passes;
-      flow-in = stands .flow-in;
-      jobs = count-held;
+    pub parts-within : r .parts ≤ count
+    parts-within = omega (arith, parts-counted (flowOf (bookOf s) f) t names takes r run-here, counted)
+
+    -- what is asked to pack the parts
+    pub parts-fit : (q : ℕ) → q < r .parts → getD takes q 0 ≤ 4096
+    parts-fit q l =
+        amount-within (λ i. takeOf (flowOf (bookOf s) f) i t) _ names takes (r .parts) 4096 (run-here .parts) (takes-within s f t (h .passes) (h .flow-in)) q l
+
+    pub serving-at : (rows : List ℕ) → P ≡ bookOf s .processors → count ≤ length names → count ≤ length takes → count ≤ length rows →
+        ((q : ℕ) → q < r .parts → getD rows q 0 ≡ packed f (getD names q 0) (getD takes q 0)) → Serving s (currentAt t P r) names takes rows
+    serving-at rows e names-whole takes-whole rows-whole packs = record {
+      passes = h .passes;
+      flow-in = h .flow-in;
       processors = e;
       rate = run-here .rate;
       rate-positive = rw (run-here .rate) positive;
       width-positive = run-here .run .some;
-      takes-whole = omega (arith, count-held, jobs-few);
-      takes = λ i l. run-here .takes i (omega (arith, count-held));
+      parts = run-here .parts;
+      names-whole = omega (arith, parts-within);
+      takes-whole = omega (arith, parts-within);
+      rows-whole = omega (arith, parts-within);
+      rows-are = packs;
     }
       where
         positive : 0 < rate (flowOf (bookOf s) f) (record { first = t; width = r .width })
@@ -245,4 +291,4 @@ module _ (s : List ℕ) (f start : ℕ) (x : FlowJobs) (stands : FlowStands s f 
       FlowDone (bookOf s) f rows bytes out₀ at out area slot next
   flow-kept-done at limit out₀ area₀ out area t slot next e over k rows bytes q within =
       flow-done (bookOf s) f rows bytes out₀ out area at t slot next flow-sized jobs-few over (omega (arith, k .slot-to))
-      (omega (arith, deadline-within)) (k .next-to) (k .so-far rows bytes q within)
+      deadline-within (k .next-to) (k .so-far rows bytes q within)

@@ -21,35 +21,30 @@ use Rattle.place.proofs.SlotRows.{rows-below-all}
 use Rattle.place.proofs.Serving.{jobs-within, processors-within}
 use Rattle.place.proofs.Underway.{used-before, slot-served, slot-passed}
 
-module _ (s : List ℕ) (c : Current) (a : List ℕ) (v : Serving s c a) where
+module _ {s : List ℕ} {c : Current} {names takes rows : List ℕ} (v : Serving s c names takes rows) where
   -- the work of the pseudo-job
   pub work-held : work (currentFlow s c) (pseudoJob c) ≡ c .width * c .rate
   unfolding work
   work-held = rw (v .rate) refl
 
-  pub slot-rows-within : (slot done n : ℕ) → length (jobRows (currentFlow s c) (c .flow) slot (pseudoJob c) done n) ≤ 64
+  slot-rows-within : (slot done n : ℕ) → length (jobRows (currentFlow s c) (c .flow) slot (pseudoJob c) done n) ≤ 64
   slot-rows-within slot done n =
       rw (← rows-below-all (currentFlow s c) (c .flow) slot (pseudoJob c) done n)
       (omega (
         arith,
         slot-rows-few slot (c .flow) (λ i. share (currentFlow s c) (pseudoJob c) i done n) (jobCount (currentFlow s c)),
-        v
-            .jobs,
-        jobs-within s c a v,
+        jobs-within v,
       ))
 
-  module _ (at done slot total used : ℕ) (out area : List ℕ) (all : total ≡ c .width * c .rate) (so-far : done ≤ work (currentFlow s c) (pseudoJob c))
+  module _ {total used : ℕ} (done slot : ℕ) (area : List ℕ) (all : total ≡ c .width * c .rate) (so-far : done ≤ work (currentFlow s c) (pseudoJob c))
       (inside : slot < slots) (read : used ≡ field 2 area (2 * slot)) where
     abbrev give : ℕ
     give = min (c .rate) (min (total - done) (c .processors - used))
 
-    pub give-within-work : done + give ≤ work (currentFlow s c) (pseudoJob c)
-    give-within-work = omega (arith, work-held)
-
     few : bookOf s .processors < 65536
-    few = omega (arith, v .processors, processors-within s c a v)
+    few = omega (arith, v .processors, processors-within v)
 
-    module _ (x : Beside) (ps : List PseudoJob) (u : UnderwayBy s c x slot (standing (pseudoJob c ∷ ps) done) out area at) where
+    module _ {at : ℕ} {out : List ℕ} (x : Beside) (ps : List PseudoJob) (u : UnderwayBy s c x slot (standing (pseudoJob c ∷ ps) done) out area at) where
       used-is : used ≡ usedIn (x .rows) slot
       used-is = read ∙ used-before (bookOf s) (c .flow) x slot (pseudoJob c) ps done out area at few inside u
 
@@ -58,8 +53,8 @@ module _ (s : List ℕ) (c : Current) (a : List ℕ) (v : Serving s c a) where
       give-is = rw (all, ← work-held, v .rate, v .processors, used-is) refl
 
     -- a slot that gives nothing
-    pub served-nothing : give ≡ 0 → SlotServed s c at done slot out area out area (record { next = at; give = 0 })
-    served-nothing e = record {
+    pub served-nothing : {at : ℕ} {out : List ℕ} → give ≡ 0 → SlotServed s c at done slot out area out area (record { next = at; give = 0 })
+    served-nothing {at} {out} e = record {
       give-within = omega arith;
       next-within = omega arith;
       gives = λ x ps u. sym e ∙ give-is x ps u;
@@ -67,16 +62,18 @@ module _ (s : List ℕ) (c : Current) (a : List ℕ) (v : Serving s c a) where
     }
 
     -- a slot whose rows are put and counted in
-    pub served-some : (n : ℕ) (out′ area′ : List ℕ) (next : ℕ) → n ≡ give →
+    pub served-some : {at n next : ℕ} {out out′ area′ : List ℕ} → n ≡ give →
         Put out at (jobRows (currentFlow s c) (c .flow) slot (pseudoJob c) done n) out′ next → area′ ≡ sets area (2 * slot)
         (bytesOf 2 (used + n)) →
         SlotServed s c at done slot out area out′ area′ (record { next = next; give = n })
-    served-some n out′ area′ next e put stored = record {
-      give-within = omega (arith, give-within-work);
-      next-within = omega (arith, put .place, slot-rows-within slot done n);
-      gives = λ x ps u. e ∙ give-is x ps u;
-      serves = λ x ps u.
-          slot-served (bookOf s) (c .flow) x slot (pseudoJob c) ps done out area at few inside u n out′ area′ next (e ∙ give-is x ps u)
-          (omega (arith, v .rate, v .rate-positive)) (omega (arith, give-within-work)) put
-          (stored ∙ ap (λ (m : ℕ). sets area (2 * slot) (bytesOf 2 (m + n))) (used-is x ps u));
-    }
+    served-some {at} {n} {next} {out} {out′} {area′} e put stored =
+        let within : done + n ≤ work (currentFlow s c) (pseudoJob c) = omega (arith, work-held) in
+        record {
+          give-within = within;
+          next-within = omega (arith, put .place, slot-rows-within slot done n);
+          gives = λ x ps u. e ∙ give-is x ps u;
+          serves = λ x ps u.
+              slot-served (bookOf s) (c .flow) x slot (pseudoJob c) ps done out area at few inside u n out′ area′ next (e ∙ give-is x ps u)
+              (omega (arith, v .rate, v .rate-positive)) within put
+              (stored ∙ ap (λ (m : ℕ). sets area (2 * slot) (bytesOf 2 (m + n))) (used-is x ps u));
+        }

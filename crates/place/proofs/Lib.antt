@@ -1,6 +1,7 @@
 -- Laws of placing that the proofs of the code cite.
 pub mod OneSlot
 pub mod Output
+pub mod Packed
 pub mod FullSlots
 pub mod FlowLoop
 pub mod Given

@@ -29,16 +29,32 @@ pub row-for-none : (t f i n : ℕ) → n ≡ 0 → rowFor t f i n ≡ []
 unfolding rowFor
 row-for-none t f i n e = rw e refl
 
--- a row that fits, one that does not, and none
+-- a row that fits
+pub put-one : (out : List ℕ) (at : ℕ) (r : Row) → at + 6 ≤ length out → Put out at (r ∷ []) (sets out at (rowBytes r)) (at + 6)
+unfolding putRows putRow
+put-one out at r l = record { output = rw (le-leb (at + 6) (length out) l) refl; place = refl }
+
 pub put-fits : (out : List ℕ) (at t f i n : ℕ) → (n ≡ 0 → ⊥) → at + 6 ≤ length out →
     Put out at (rowFor t f i n) (sets out at (rowBytes (row t f i n))) (at + 6)
-unfolding putRows putRow
-put-fits out at t f i n ne l = record { output = rw (row-for-some t f i n ne, le-leb (at + 6) (length out) l) refl; place = rw (row-for-some t f i n ne) refl }
+put-fits out at t f i n ne l = rw (row-for-some t f i n ne) (put-one out at (row t f i n) l)
+
+-- rows of which not even one fits
+row-too-far : (out : List ℕ) (at : ℕ) (r : Row) → length out < at + 6 → putRow out at r ≡ out
+unfolding putRow
+row-too-far out at r l = rw (lt-leb (at + 6) (length out) l) refl
+
+rows-too-far : (out : List ℕ) (at : ℕ) (rows : List Row) → length out < at + 6 → putRows out at rows ≡ out
+unfolding putRows
+rows-too-far out at [] l = refl
+rows-too-far out at (r ∷ rs) l = rw (row-too-far out at r l) (rows-too-far out (at + 6) rs (omega arith))
+
+pub put-rows-too-far : (out : List ℕ) (at : ℕ) (rows : List Row) → length out < at + 6 → Put out at rows out (at + 6 * length rows)
+put-rows-too-far out at rows l = record { output = sym (rows-too-far out at rows l); place = refl }
 
 pub put-too-far : (out : List ℕ) (at t f i n : ℕ) → (n ≡ 0 → ⊥) → length out < at + 6 → Put out at (rowFor t f i n) out (at + 6)
-unfolding putRows putRow
-put-too-far out at t f i n ne l = record { output = rw (row-for-some t f i n ne, lt-leb (at + 6) (length out) l) refl; place = rw (row-for-some t f i n ne) refl }
+put-too-far out at t f i n ne l = rw (row-for-some t f i n ne) (put-rows-too-far out at (row t f i n ∷ []) l)
 
+-- no row
 pub put-none : (out : List ℕ) (at : ℕ) → Put out at [] out at
 unfolding putRows
 put-none out at = record { output = refl; place = sym (add-zero at) }

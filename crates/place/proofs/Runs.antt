@@ -26,7 +26,7 @@ pub record RunSoFar (s : List ℕ) (c : Current) (x : Beside) (ps : List PseudoJ
   pub going-on : done < work (currentFlow s c) (pseudoJob c) → UnderwayBy s c x slot (standing (pseudoJob c ∷ ps) done) out area next
   pub over : done ≡ work (currentFlow s c) (pseudoJob c) → RunDone s c x ps slot out area next
 
-module _ (s : List ℕ) (c : Current) (a : List ℕ) (v : Serving s c a) (x : Beside) (ps : List PseudoJob) where
+module _ {s : List ℕ} {c : Current} {names takes rows : List ℕ} (v : Serving s c names takes rows) (x : Beside) (ps : List PseudoJob) where
   pub run-begins : (slot : ℕ) (out area : List ℕ) (next : ℕ) → 0 < work (currentFlow s c) (pseudoJob c) →
       UnderwayBy s c x slot (standing (pseudoJob c ∷ ps) 0) out area next → RunSoFar s c x ps slot 0 out area next
   run-begins slot out area next some u = record { going-on = λ l. u; over = λ e. absurd (omega arith) }
@@ -51,7 +51,7 @@ module _ (s : List ℕ) (c : Current) (a : List ℕ) (v : Serving s c a) (x : Be
           under = subst (λ (g : Progress). UnderwayBy s c x (suc slot) g out′ area′ (r .next))
               (after-slot-finishes w (c .flow) slot p ps done free (omega arith)) after;
           finish =
-              slot-finish (bookOf s) (c .flow) x slot p ps done out area next (omega (arith, v .processors, processors-within s c a v))
+              slot-finish (bookOf s) (c .flow) x slot p ps done out area next (omega (arith, v .processors, processors-within v))
               inside u
               (omega (arith, v .rate, v .rate-positive)) (omega arith) (omega arith);
         };
@@ -75,12 +75,12 @@ pub record RunKept (s : List ℕ) (c : Current) (from limit at : ℕ) (out₀ ar
   pub so-far : (x : Beside) (ps : List PseudoJob) → UnderwayBy s c x from (standing (pseudoJob c ∷ ps) 0) out₀ area₀ at →
       RunSoFar s c x ps slot done out area next
 
-module _ (s : List ℕ) (c : Current) (a : List ℕ) (v : Serving s c a) (from limit at : ℕ) (out₀ area₀ : List ℕ) where
+module _ {s : List ℕ} {c : Current} {names takes rows : List ℕ} (v : Serving s c names takes rows) where
   some-work : 0 < work (currentFlow s c) (pseudoJob c)
-  some-work = omega (arith, work-held s c a v, mul-le-mul-right {m = 1} {n = c .width} (c .rate) (v .width-positive), v .rate-positive)
+  some-work = omega (arith, work-held v, mul-le-mul-right {m = 1} {n = c .width} (c .rate) (v .width-positive), v .rate-positive)
 
-  pub run-kept-first : from ≤ limit → RunKept s c from limit at out₀ area₀ out₀ area₀ 0 from at
-  run-kept-first l = record {
+  pub run-kept-first : {from limit at : ℕ} {out₀ area₀ : List ℕ} → from ≤ limit → RunKept s c from limit at out₀ area₀ out₀ area₀ 0 from at
+  run-kept-first {from} {limit} {at} {out₀} {area₀} l = record {
     slot-from = omega arith;
     slot-to = l;
     done-to = omega arith;
@@ -88,14 +88,14 @@ module _ (s : List ℕ) (c : Current) (a : List ℕ) (v : Serving s c a) (from l
     nothing-yet = λ e. refl;
     out-length = refl;
     area-length = refl;
-    so-far = λ x ps u. run-begins s c a v x ps from out₀ area₀ at some-work u;
+    so-far = λ x ps u. run-begins v x ps from out₀ area₀ at some-work u;
   }
 
-  module _ (out area : List ℕ) (done slot next : ℕ) (k : RunKept s c from limit at out₀ area₀ out area done slot next) where
-    pub run-kept-next : (out′ area′ : List ℕ) (r : Served) → limit ≤ slots → slot < limit → done < work (currentFlow s c) (pseudoJob c) →
+  module _ {from limit at done slot next : ℕ} {out₀ area₀ out area : List ℕ} (k : RunKept s c from limit at out₀ area₀ out area done slot next) where
+    pub run-kept-next : {out′ area′ : List ℕ} {r : Served} → limit ≤ slots → slot < limit → done < work (currentFlow s c) (pseudoJob c) →
         SlotServed s c next done slot out area out′ area′ r → length out′ ≡ length out → length area′ ≡ length area →
         RunKept s c from limit at out₀ area₀ out′ area′ (done + r .give) (slot + 1) (r .next)
-    run-kept-next out′ area′ r most inside left served same-out same-area = record {
+    run-kept-next {out′} {area′} {r} most inside left served same-out same-area = record {
       slot-from = omega (arith, k .slot-from);
       slot-to = omega arith;
       done-to = served .give-within;
@@ -103,13 +103,13 @@ module _ (s : List ℕ) (c : Current) (a : List ℕ) (v : Serving s c a) (from l
       nothing-yet = λ e. absurd (omega (arith, k .slot-from));
       out-length = same-out ∙ k .out-length;
       area-length = same-area ∙ k .area-length;
-      so-far = λ x ps u. run-goes-on s c a v x ps slot done out area out′ area′ next r (omega arith) left (k .so-far x ps u) served;
+      so-far = λ x ps u. run-goes-on v x ps slot done out area out′ area′ next r (omega arith) left (k .so-far x ps u) served;
     }
 
     pub run-kept-stops : limit ≤ slot → done < work (currentFlow s c) (pseudoJob c) →
         (x : Beside) (ps : List PseudoJob) → UnderwayBy s c x from (standing (pseudoJob c ∷ ps) 0) out₀ area₀ at → WorkLeft (bookOf s)
         (c .flow) x limit out area
-    run-kept-stops l left x ps u = run-stops s c a v x ps slot done limit out area next (omega (arith, k .slot-to)) left (k .so-far x ps u)
+    run-kept-stops l left x ps u = run-stops v x ps slot done limit out area next (omega (arith, k .slot-to)) left (k .so-far x ps u)
 
     pub run-kept-done : work (currentFlow s c) (pseudoJob c) ≤ done → RunPlaced s c from at limit out₀ area₀ out area slot next
     run-kept-done l = record {

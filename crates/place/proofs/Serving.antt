@@ -1,19 +1,29 @@
 -- The ranges of what the code holds of a pseudo-job in service: they are those of a book that passes. Assumes nothing.
+use mathlib.Core.Path.{_≡_}
 use Prim.Native.Nat.{ℕ, _≤_, _<_}
 use native.Mathlib.Omega.{arith}
 use mathlib.Core.List.{List}
-use lib.ListN.{getD}
-use Rattle.rules.specs.Book.{jobCount, InRange, FlowInRange}
+use Rattle.rules.specs.declared.Verdict.the-variants.{Pass}
+use Rattle.rules.specs.Book.{flowCount, jobCount, flowOf, InRange, FlowInRange}
 use Rattle.rules.specs.Ideal.{takeOf}
-use Rattle.rules.specs.Reading.{bookOf}
+use Rattle.rules.specs.Reading.{bookOf, bookFault}
 use Rattle.rules.specs.PseudoJobs.{rate}
 use Rattle.rules.proofs.Sums.{sum-le}
 use Rattle.rules.proofs.Ideal.{take-within-cap}
 use Rattle.rules.proofs.Passing.{pass-in-range}
 use Rattle.place.specs.declared.Current.{Current}
 use Rattle.place.specs.Service.{Serving, currentFlow}
+use Rattle.chain.proofs.Parts.{parts-few}
 
-module _ (s : List ℕ) (c : Current) (a : List ℕ) (v : Serving s c a) where
+-- no job of a book that passes takes more processors than there may be
+pub takes-within : (s : List ℕ) (f t : ℕ) → bookFault s ≡ Pass → f < flowCount (bookOf s) → (i : ℕ) → i < jobCount (flowOf (bookOf s) f) →
+    takeOf (flowOf (bookOf s) f) i t ≤ 4096
+takes-within s f t passes flow-in i l =
+    let b = pass-in-range s passes in
+    let j = b .each-flow f flow-in .each-job i l in
+    omega (arith, take-within-cap (flowOf (bookOf s) f) i (j .cap-least) t, j .cap-most, b .processors-most)
+
+module _ {s : List ℕ} {c : Current} {names takes rows : List ℕ} (v : Serving s c names takes rows) where
   book-in-range : InRange (bookOf s)
   book-in-range = pass-in-range s (v .passes)
 
@@ -23,19 +33,17 @@ module _ (s : List ℕ) (c : Current) (a : List ℕ) (v : Serving s c a) where
   pub flow-within : c .flow < 64
   flow-within = omega (arith, v .flow-in, book-in-range .flows-most)
 
-  pub jobs-within : c .jobs ≤ 64
-  jobs-within = omega (arith, v .jobs, flow-in-range .jobs-most)
+  pub jobs-within : jobCount (currentFlow s c) ≤ 64
+  jobs-within = flow-in-range .jobs-most
+
+  pub parts-within : c .parts ≤ 64
+  parts-within = omega (arith, v .parts .count, parts-few (λ i. takeOf (currentFlow s c) i (c .first)) (jobCount (currentFlow s c)), jobs-within)
 
   pub processors-within : c .processors ≤ 4096
   processors-within = omega (arith, v .processors, book-in-range .processors-most)
 
-  take-of-within : (i : ℕ) → i < jobCount (currentFlow s c) → takeOf (currentFlow s c) i (c .first) ≤ 4096
-  take-of-within i l =
-      let j = flow-in-range .each-job i l in
-      omega (arith, take-within-cap (currentFlow s c) i (j .cap-least) (c .first), j .cap-most, book-in-range .processors-most)
-
-  pub take-within : (i : ℕ) → i < c .jobs → getD a i 0 ≤ 4096
-  take-within i l = omega (arith, v .takes i l, take-of-within i (omega (arith, v .jobs)))
+  pub take-within : (i : ℕ) → i < jobCount (currentFlow s c) → takeOf (currentFlow s c) i (c .first) ≤ 4096
+  take-within = takes-within s (c .flow) (c .first) (v .passes) (v .flow-in)
 
   pub rate-within : c .rate ≤ 262144
   unfolding rate
@@ -43,6 +51,6 @@ module _ (s : List ℕ) (c : Current) (a : List ℕ) (v : Serving s c a) where
       omega (
         arith,
         v .rate,
-        sum-le (λ i. takeOf (currentFlow s c) i (c .first)) 4096 (jobCount (currentFlow s c)) take-of-within,
-        flow-in-range .jobs-most,
+        sum-le (λ i. takeOf (currentFlow s c) i (c .first)) 4096 (jobCount (currentFlow s c)) take-within,
+        jobs-within,
       )

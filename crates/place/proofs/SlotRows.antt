@@ -1,9 +1,10 @@
--- The rows of one slot, as a loop over the jobs puts them: those of the jobs below j. Assumes nothing.
-use mathlib.Core.Path.{_≡_, refl, sym, ap, subst, _∙_}
-use Prim.Native.Nat.{ℕ, suc, _+_, _-_, _%_, _≤_, _<_, min, max}
+-- The rows of one slot, as a loop over the parts puts them: those of the jobs below the next part. Assumes nothing.
+use mathlib.Core.Path.{_≡_, refl, sym}
+use Prim.Native.Nat.{ℕ, _+_, _-_, _%_, _≤_, _<_, min, max}
 use native.Mathlib.Nat.{mod-lt}
+use native.Mathlib.Numerals.{add-one}
 use native.Mathlib.Omega.{arith}
-use mathlib.Core.List.{List}
+use mathlib.Core.List.{List, _++_, append-nil}
 use lib.ListN.{getD}
 use Rattle.rules.specs.Walks.{sumTo}
 use Rattle.rules.specs.Book.{Flow, jobCount}
@@ -11,13 +12,15 @@ use Rattle.rules.specs.Ideal.{takeOf}
 use Rattle.rules.specs.PseudoJobs.{PseudoJob, rate, work}
 use Rattle.rules.specs.Rows.{Row, rowFor}
 use Rattle.rules.specs.Placing.{share}
-use Rattle.rules.proofs.Shares.{offset, offset-within-rate, share-overlap}
+use Rattle.rules.proofs.Shares.{offset, offset-within-rate, share-none, share-overlap}
+use Rattle.chain.specs.Runs.{partsBelow}
 use Rattle.place.specs.declared.Current.{Current}
 use Rattle.place.specs.Output.{Put}
 use Rattle.place.specs.Service.{Serving, currentFlow, pseudoJob, jobRows, overlaps}
 use Rattle.place.proofs.Serving.{jobs-within, rate-within, take-within}
-use Rattle.place.proofs.OneSlot.{rowsOfSlot, slot-rows-next, slot-rows-few}
-use Rattle.place.proofs.Output.{put-more}
+use Rattle.place.proofs.OneSlot.{rowsOfSlot, slot-rows-none, slot-rows-next, slot-rows-few}
+use Rattle.place.proofs.Output.{row-for-none, put-none, put-more}
+use Rattle.chain.proofs.Parts.{PartAt, parts-none, part-at, past-parts}
 
 -- those of the jobs below j
 abbrev pub rowsBelow : Flow → ℕ → ℕ → PseudoJob → ℕ → ℕ → ℕ → List Row
@@ -27,16 +30,18 @@ pub rows-below-all : (w : Flow) (f t : ℕ) (p : PseudoJob) (done n : ℕ) → r
 unfolding rowsOfSlot jobRows
 rows-below-all w f t p done n = refl
 
+rows-below-next : (w : Flow) (f t : ℕ) (p : PseudoJob) (done n j : ℕ) →
+    rowsBelow w f t p done n (j + 1) ≡ rowsBelow w f t p done n j ++ rowFor t f j (share w p j done n)
+rows-below-next w f t p done n j = rw add-one (slot-rows-next t f (λ i. share w p i done n) j)
+
 -- the units of the slot before those of the next job
-pub offset-none : (w : Flow) (p : PseudoJob) → offset w p 0 ≡ 0
+offset-none : (w : Flow) (p : PseudoJob) → offset w p 0 ≡ 0
 unfolding offset sumTo
 offset-none w p = refl
 
-pub offset-next : (w : Flow) (p : PseudoJob) (i : ℕ) → offset w p (i + 1) ≡ offset w p i + takeOf w i (p .first)
+offset-next : (w : Flow) (p : PseudoJob) (i : ℕ) → offset w p (i + 1) ≡ offset w p i + takeOf w i (p .first)
 unfolding offset sumTo
-offset-next w p i =
-    let e : i + 1 ≡ suc i = omega arith in
-    rw e refl
+offset-next w p i = rw (add-one i) refl
 
 -- a job has at most its take in one slot of the run and its take in the next
 overlap-within : (y s a m : ℕ) → s ≤ m → min y (s + a) - m ≤ a
@@ -46,55 +51,100 @@ pub overlaps-within : (o n s a r : ℕ) → overlaps o n s a r ≤ a + a
 overlaps-within o n s a r =
     omega (arith, overlap-within (o + n) s a (max o s) (omega arith), overlap-within (o + n) (s + r) a (max o (s + r)) (omega arith))
 
-pub overlaps-nothing : (o n s a r : ℕ) → a ≡ 0 → overlaps o n s a r ≡ 0
-overlaps-nothing o n s a r e = omega (arith, overlaps-within o n s a r)
+-- ---- the loop over parts
+-- the rows of the jobs below j are put, and `off` units stand before those of job j
+pub record JobsPut (w : Flow) (f t : ℕ) (p : PseudoJob) (done n : ℕ) (out : List ℕ) (at : ℕ) (out′ : List ℕ) (next off j : ℕ) : Type 0 where
+  pub units : off ≡ offset w p j
+  pub put : Put out at (rowsBelow w f t p done n j) out′ next
 
--- ---- one turn: job j of the pseudo-job in service, in a slot that uses `give` units after the first `done`
-module _ (s : List ℕ) (c : Current) (a : List ℕ) (v : Serving s c a) (done give : ℕ) (fits : done + give ≤ work (currentFlow s c) (pseudoJob c)) (most : give ≤ c .rate) where
+-- the rows of the first q parts are put: those of the jobs below one that stands behind q parts
+pub record SlotKept (w : Flow) (f t : ℕ) (p : PseudoJob) (done n : ℕ) (out : List ℕ) (at : ℕ) (out′ : List ℕ) (next off q : ℕ) : Type 0 where
+  pub job : ℕ
+  pub job-to : job ≤ jobCount w
+  pub behind : partsBelow (λ i. takeOf w i (p .first)) job ≡ q
+  pub so-far : JobsPut w f t p done n out at out′ next off job
+
+pub slot-kept-first : {w : Flow} {f t : ℕ} {p : PseudoJob} {done n : ℕ} {out : List ℕ} {at : ℕ} → SlotKept w f t p done n out at out at 0 0
+slot-kept-first {w} {f} {t} {p} {done} {n} {out} {at} = record {
+  job = 0;
+  job-to = omega arith;
+  behind = parts-none (λ i. takeOf w i (p .first));
+  so-far = record { units = sym (offset-none w p); put = rw (slot-rows-none t f (λ i. share w p i done n)) (put-none out at) };
+}
+
+-- one turn, in a slot that uses `give` units of the pseudo-job in service after the first `done`
+module _ {s : List ℕ} {c : Current} {names takes rows : List ℕ} (v : Serving s c names takes rows) {done give t at next off q : ℕ}
+    {out out′ : List ℕ} (fits : done + give ≤ work (currentFlow s c) (pseudoJob c)) (most : give ≤ c .rate)
+    (k : SlotKept (currentFlow s c) (c .flow) t (pseudoJob c) done give out at out′ next off q) where
   abbrev w : Flow
   w = currentFlow s c
 
   abbrev p : PseudoJob
   p = pseudoJob c
 
-  one-more : (j : ℕ) → j + 1 ≡ suc j
-  one-more j = omega arith
+  abbrev take : ℕ → ℕ
+  take i = takeOf w i (c .first)
+
+  abbrev PutBelow : ℕ → Type 0
+  PutBelow j = JobsPut w (c .flow) t p done give out at out′ next off j
 
   positive : 0 < rate w p
   positive = omega (arith, v .rate, v .rate-positive)
 
-  -- its units in a slot of the run stand within the slot
-  pub units-within : (j : ℕ) → j < c .jobs → offset w p j + getD a j 0 ≤ c .rate
-  units-within j l = omega (arith, v .takes j l, v .rate, offset-within-rate w p j (omega (arith, v .jobs)))
+  -- a job that takes nothing has no row
+  pass : (i : ℕ) → i < jobCount w → take i ≡ 0 → PutBelow i → PutBelow (i + 1)
+  pass i l e b = record {
+    units = omega (arith, b .units, offset-next w p i);
+    put = rw (rows-below-next w (c .flow) t p done give i, row-for-none t (c .flow) i _ (share-none w p i done give positive fits l e), append-nil) (b .put);
+  }
 
-  -- its share without division
-  pub share-is-overlaps : (j : ℕ) → j < c .jobs → overlaps (done % c .rate) give (offset w p j) (getD a j 0) (c .rate) ≡ share w p j done give
-  share-is-overlaps j l =
-      rw (v .takes j l, v .rate) (sym (share-overlap w p j done give positive fits (omega (arith, v .rate)) (omega (arith, v .jobs))))
+  part : q < c .parts → PartAt take (jobCount w) names takes q PutBelow
+  part l = part-at take (jobCount w) names takes (c .parts) (v .parts) PutBelow pass (k .job) q (k .job-to) (k .behind) l (k .so-far)
+
+  -- the units of part q in a slot of the run stand within the slot
+  pub units-within : q < c .parts → off + getD takes q 0 ≤ c .rate
+  units-within l =
+      let j = part l in
+      omega (arith, j .holds .units, j .amount-is, v .rate, offset-within-rate w p (j .job) (j .job-in))
 
   -- what its row asks
-  pub row-asked : (t at next j off : ℕ) (out out′ : List ℕ) → at + 384 < 4294967296 → j < c .jobs → off ≡ offset w p j →
-      Put out at (rowsBelow w (c .flow) t p done give j) out′ next →
-      (next < 4294967296) × (done % c .rate < c .rate) × (give ≤ c .rate) × (off + getD a j 0 ≤ c .rate) × (c .rate ≤ 262144) ×
-      (getD a j 0 ≤ 4096)
-  row-asked t at next j off out out′ room l e put = (
-    omega (arith, put .place, slot-rows-few t (c .flow) (λ i. share w p i done give) j, jobs-within s c a v),
-    mod-lt done (v .rate-positive),
-    most,
-    omega (arith, units-within j l),
-    rate-within s c a v,
-    take-within s c a v j l,
-  )
+  pub row-asked : q < c .parts → at + 384 < 4294967296 →
+      (next < 4294967296) × (done % c .rate < c .rate) × (give ≤ c .rate) × (off + getD takes q 0 ≤ c .rate) × (c .rate ≤ 262144) ×
+      (getD takes q 0 ≤ 4096)
+  row-asked l room =
+      let j = part l in (
+        omega (arith, j .holds .put .place, slot-rows-few t (c .flow) (λ i. share w p i done give) (j .job), j .job-in, jobs-within v),
+        mod-lt done (v .rate-positive),
+        most,
+        units-within l,
+        rate-within v,
+        omega (arith, j .amount-is, take-within v (j .job) (j .job-in)),
+      )
 
-  -- its row after those of the jobs below it
-  pub row-put : (t at next next′ j off : ℕ) (out out′ out″ : List ℕ) → j < c .jobs → off ≡ offset w p j →
-      Put out at (rowsBelow w (c .flow) t p done give j) out′ next →
-      Put out′ next (rowFor t (c .flow) j (overlaps (done % c .rate) give off (getD a j 0) (c .rate))) out″ next′ →
-      (off + getD a j 0 ≡ offset w p (j + 1)) × Put out at (rowsBelow w (c .flow) t p done give (j + 1)) out″ next′
-  row-put t at next next′ j off out out′ out″ l e put row = (
-    omega (arith, v .takes j l, offset-next w p j),
-    rw (one-more j, slot-rows-next t (c .flow) (λ i. share w p i done give) j)
-        (put-more out out′ out″ at next next′ (rowsBelow w (c .flow) t p done give j) (rowFor t (c .flow) j (share w p j done give)) put
-        (subst (λ n. Put out′ next (rowFor t (c .flow) j n) out″ next′)
-        (ap (λ (o : ℕ). overlaps (done % c .rate) give o (getD a j 0) (c .rate)) e ∙ share-is-overlaps j l) row)),
-  )
+  -- the share of job j, without division
+  share-is-overlaps : (j : ℕ) → j < jobCount w → overlaps (done % c .rate) give (offset w p j) (take j) (c .rate) ≡ share w p j done give
+  share-is-overlaps j l = rw (v .rate) (sym (share-overlap w p j done give positive fits (omega (arith, v .rate)) l))
+
+  -- its row after those of the parts before it
+  pub slot-kept-next : {out″ : List ℕ} {next′ : ℕ} → q < c .parts →
+      Put out′ next (rowFor t (c .flow) (getD names q 0) (overlaps (done % c .rate) give off (getD takes q 0) (c .rate))) out″ next′ →
+      SlotKept w (c .flow) t p done give out at out″ next′ (off + getD takes q 0) (q + 1)
+  slot-kept-next {out″} {next′} l row =
+      let j = part l in
+      let its : Put out′ next (rowFor t (c .flow) (j .job) (share w p (j .job) done give)) out″ next′ =
+      rw (← share-is-overlaps (j .job) (j .job-in), ← j .holds .units, ← j .amount-is, ← j .name-is) row in
+      record {
+        job = j .job + 1;
+        job-to = omega (arith, j .job-in);
+        behind = j .one-more;
+        so-far = record {
+          units = omega (arith, j .holds .units, j .amount-is, offset-next w p (j .job));
+          put = rw (rows-below-next w (c .flow) t p done give (j .job)) (put-more out out′ out″ at next next′ _ _ (j .holds .put) its);
+        };
+      }
+
+  -- all parts are put
+  pub slot-kept-done : c .parts ≤ q → Put out at (jobRows w (c .flow) t p done give) out′ next
+  slot-kept-done l =
+      rw (← rows-below-all w (c .flow) t p done give)
+      (past-parts take (jobCount w) names takes (c .parts) (v .parts) PutBelow pass (k .job) (k .job-to) (omega (arith, k .behind)) (k .so-far) .put)

@@ -5,11 +5,16 @@ use Prim.Native.Nat.{ℕ, suc, _+_, _*_, _-_, _<_, _≤_}
 use mathlib.Core.List.{List, _∷_, _++_}
 use lib.ListN.{length}
 use Rattle.rules.specs.Limits.{slots}
-use Rattle.rules.specs.Book.{Book, flowOf}
-use Rattle.rules.specs.Reading.{bookOf}
+use Rattle.rules.specs.declared.Verdict.the-variants.{Pass}
+use Rattle.rules.specs.Book.{Book, flowCount, flowOf}
+use Rattle.rules.specs.Reading.{bookOf, bookFault}
 use Rattle.rules.specs.PseudoJobs.{PseudoJob, work}
 use Rattle.rules.specs.Rows.{Row, usedIn, finishOf, workUsed}
 use Rattle.rules.specs.Placing.{Progress, given, afterSlot, progress, flowRows, freeProcessors, slotsFor, planned, infeasible, placeFlow}
+use Rattle.book.specs.declared.FlowJobs.{FlowJobs}
+use Rattle.book.specs.Promise.{Loaded}
+use Rattle.chain.specs.declared.Ideal.{Ideal}
+use Rattle.chain.specs.Runs.{RunInput}
 use Rattle.place.specs.declared.Current.{Current}
 use Rattle.place.specs.declared.Served.{Served}
 use Rattle.place.specs.declared.Placed.{Placed}
@@ -82,6 +87,21 @@ RunAnswer s c from at limit out area out′ area′ Infeasible =
     WorkLeft (bookOf s) (c .flow) x limit out′ area′
 
 -- ---- one flow
+-- the lists hold flow f of the book in these bytes, which passes: its caps, and its starts, ends, last takes and least starts on endless
+-- processors
+pub record FlowHeld (s : List ℕ) (f : ℕ) (caps starts ends lasts firsts : List ℕ) (count path : ℕ) : Type 0 where
+  pub passes : bookFault s ≡ Pass
+  pub flow-in : f < flowCount (bookOf s)
+  pub jobs : FlowJobs
+  pub ideal : Ideal
+  pub loaded : Loaded s f jobs
+  pub held : RunInput caps starts ends lasts firsts count path jobs ideal
+  pub caps-whole : count ≤ length caps
+  pub starts-whole : count ≤ length starts
+  pub ends-whole : count ≤ length ends
+  pub lasts-whole : count ≤ length lasts
+  pub firsts-whole : count ≤ length firsts
+
 -- the rows of flow f beside those of the flows before it
 abbrev pub newRows : Book → ℕ → List Row → List Row
 newRows b f rows = flowRows (flowOf b f) f (freeProcessors b rows) (slotsFor (flowOf b f))

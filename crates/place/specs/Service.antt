@@ -1,17 +1,17 @@
 -- The pseudo-job in service, as the code holds it, in the specification's values. Assumes nothing.
 use mathlib.Core.Path.{_≡_}
-use Prim.Native.Nat.{ℕ, _+_, _-_, _<_, _≤_, min, max}
-use mathlib.Core.List.{List}
+use Prim.Native.Nat.{ℕ, _+_, _*_, _-_, _/_, _%_, _<_, _≤_, min, max}
+use mathlib.Core.List.{List, [], _∷_}
 use lib.ListN.{length, getD}
-use lib.Dec.{ltb}
 use Rattle.rules.specs.declared.Verdict.the-variants.{Pass}
-use Rattle.rules.specs.Walks.{joinFrom, countTo}
+use Rattle.rules.specs.Walks.{joinFrom}
 use Rattle.rules.specs.Book.{Flow, flowCount, jobCount, flowOf}
 use Rattle.rules.specs.Reading.{bookOf, bookFault}
 use Rattle.rules.specs.Ideal.{takeOf}
 use Rattle.rules.specs.PseudoJobs.{PseudoJob, rate}
 use Rattle.rules.specs.Rows.{Row, rowFor}
 use Rattle.rules.specs.Placing.{share}
+use Rattle.chain.specs.Runs.{PartsOf}
 use Rattle.place.specs.declared.Current.{Current}
 
 -- its flow, and its pseudo-job
@@ -21,21 +21,27 @@ currentFlow s c = flowOf (bookOf s) (c .flow)
 abbrev pub pseudoJob : Current → PseudoJob
 pseudoJob c = record { first = c .first; width = c .width }
 
--- how many of the first n jobs take something, where the takes are those of a list
-unfoldable pub partsIn : List ℕ → ℕ → ℕ
-partsIn a n = countTo (λ i. ltb 0 (getD a i 0)) n
+-- the four bytes of a row after its slot, as one number of which the lowest byte comes first: flow, job and processors
+unfoldable pub packed : ℕ → ℕ → ℕ → ℕ
+packed f j n = f + 256 * j + 65536 * (n / 256) + 16777216 * (n % 256)
+
+-- the row of slot t with these four bytes
+unfoldable pub packedRow : ℕ → ℕ → Row
+packedRow t v = record { slot = t; flow = v % 256; job = v / 256 % 256; processors = 256 * (v / 65536 % 256) + v / 16777216 }
 
 -- the values that the code holds are those of the book in these bytes, which passes
-pub record Serving (s : List ℕ) (c : Current) (a : List ℕ) : Type 0 where
+pub record Serving (s : List ℕ) (c : Current) (names takes rows : List ℕ) : Type 0 where
   pub passes : bookFault s ≡ Pass
   pub flow-in : c .flow < flowCount (bookOf s)
-  pub jobs : c .jobs ≡ jobCount (currentFlow s c)
   pub processors : c .processors ≡ bookOf s .processors
   pub rate : c .rate ≡ rate (currentFlow s c) (pseudoJob c)
   pub rate-positive : 0 < c .rate
   pub width-positive : 0 < c .width
-  pub takes-whole : c .jobs ≤ length a
-  pub takes : (i : ℕ) → i < c .jobs → getD a i 0 ≡ takeOf (currentFlow s c) i (c .first)
+  pub parts : PartsOf (λ i. takeOf (currentFlow s c) i (c .first)) (jobCount (currentFlow s c)) names takes (c .parts)
+  pub names-whole : c .parts ≤ length names
+  pub takes-whole : c .parts ≤ length takes
+  pub rows-whole : c .parts ≤ length rows
+  pub rows-are : (q : ℕ) → q < c .parts → getD rows q 0 ≡ packed (c .flow) (getD names q 0) (getD takes q 0)
 
 -- the units of one job among n units from the o-th of a slot on, where its own begin at `offset` in each slot
 abbrev pub overlaps : ℕ → ℕ → ℕ → ℕ → ℕ → ℕ
@@ -45,6 +51,6 @@ overlaps o n offset a r = (min (o + n) (offset + a) - max o offset) + (min (o + 
 unfoldable pub jobRows : Flow → ℕ → ℕ → PseudoJob → ℕ → ℕ → List Row
 jobRows w f t p done n = joinFrom (λ i. rowFor t f i (share w p i done n)) (jobCount w) 0
 
--- the rows of the first n jobs of flow f in slot t, each with its take
-unfoldable pub takeRows : ℕ → ℕ → List ℕ → ℕ → List Row
-takeRows t f a n = joinFrom (λ i. rowFor t f i (getD a i 0)) n 0
+-- the first n of a list of packed rows, in slot t
+unfoldable pub packedRows : ℕ → List ℕ → ℕ → List Row
+packedRows t a n = joinFrom (λ q. packedRow t (getD a q 0) ∷ []) n 0

@@ -2,17 +2,17 @@
 ghost use mathlib.Core.Path.{_≡_};
 ghost use Prim.Native.Nat.{ℕ, _+_, _*_, _-_, _<_, _≤_, min, max};
 ghost use lib.ListN.{length, getD};
-ghost use lib.Dec.{ltb};
-ghost use Rattle.rules.specs.Walks.{bit};
 ghost use Rattle.rules.specs.PseudoJobs.{work};
-ghost use mathlib.Core.List.{List};
+ghost use mathlib.Core.List.{List, [], _∷_};
 ghost use Rattle.rules.specs.Limits.{slots, workBytes};
 ghost use Rattle.rules.specs.Reading.{bookOf};
 ghost use Rattle.rules.specs.Rows.{Row, rowFor, usedIn, workUsed};
 ghost use Rattle.book.specs.Promise.{FlowStands};
-ghost use Rattle.place.specs.Flows.{SlotServed, RunAnswer, FlowPlaced};
+ghost use Rattle.rules.specs.Book.{flowOf};
+ghost use Rattle.rules.specs.Placing.{slotsFor};
+ghost use Rattle.place.specs.Flows.{SlotServed, RunAnswer, FlowHeld, FlowPlaced};
 ghost use Rattle.place.specs.Output.{Put};
-ghost use Rattle.place.specs.Service.{Serving, currentFlow, pseudoJob, partsIn, takeRows, jobRows, overlaps};
+ghost use Rattle.place.specs.Service.{Serving, currentFlow, pseudoJob, packed, packedRow, packedRows, jobRows, overlaps};
 use book::bytes;
 
 pub mod planner;
@@ -21,7 +21,7 @@ pub mod table;
 // The pseudo-job in service: its flow, and what a slot needs of it.
 pub struct Current {
     pub flow: usize,
-    pub jobs: usize,
+    pub parts: usize,
     pub processors: u16,
     pub first: u32,
     pub width: u32,
@@ -65,7 +65,7 @@ pub fn put_row(out: &mut [u8], at: usize, slot: u16, flow: u8, job: u8, processo
     end
 }
 
-// The row of a job for its share of the units that a slot uses; a job that takes nothing has none.
+// The row of a job for its share of the units that a slot uses.
 pub fn put_share(
     out: &mut [u8],
     at: usize,
@@ -81,60 +81,60 @@ pub fn put_share(
     requires { ⌜ (at < 4294967296) × (o < rate) × (give ≤ rate) × (offset + take ≤ rate) × (rate ≤ 262144) × (take ≤ 4096) ⌝ }
     ensures { λ r. ⌜ Put (now (out .entry)) at (rowFor slot flow job (overlaps o give offset take rate)) (now (out .exit)) r ⌝ }
 {
-    if take == 0 {
-        return at;
-    }
     let share = share_of(o, give, offset, take, rate);
     put_row(out, at, slot, flow, job, share as u16)
 }
 
-// One part more, where something is taken.
-pub fn one_more(take: u32, parts: usize) -> usize
-    requires { ⌜ parts < 4294967296 ⌝ }
-    ensures { λ r. ⌜ r ≡ parts + bit (ltb 0 take) ⌝ }
+// The four bytes of a job's row after its slot, as one number, so that they are written at once.
+pub fn pack(flow: u8, job: u8, take: u32) -> u32
+    requires { ⌜ take ≤ 4096 ⌝ }
+    ensures { λ r. ⌜ r ≡ packed flow job take ⌝ }
 {
-    if 0 < take {
-        return parts + 1;
-    }
-    parts
+    (flow as u32) + 256 * (job as u32) + 65536 * (take / 256) + 16777216 * (take % 256)
 }
 
-// How many of the first `jobs` jobs take something.
-pub fn parts_of(takes: &[u32], jobs: usize) -> usize
-    requires { ⌜ (jobs ≤ length (now takes)) × (jobs ≤ 64) ⌝ }
-    ensures { λ r. ⌜ r ≡ partsIn (now (takes .entry)) jobs ⌝ }
+// The rows of a pseudo-job's parts in a slot in which each has its take, without the slot.
+pub fn pack_parts(flow: u8, names: &[u8], takes: &[u32], parts: usize, rows: &mut [u32])
+    requires { ⌜ (parts ≤ length (now names)) × (parts ≤ length (now takes)) × (parts ≤ length (now rows)) × ((q : ℕ) → q < parts → getD (now takes) q 0 ≤ 4096) ⌝ }
+    ensures { λ _. ⌜ ((q : ℕ) → q < parts → getD (now (rows .exit)) q 0 ≡ packed flow (getD (now (names .entry)) q 0) (getD (now (takes .entry)) q 0)) ⌝ }
 {
-    let mut parts: usize = 0;
-    let mut j: usize = 0;
-    while j < jobs {
-        parts = one_more(takes[j], parts);
-        j = j + 1;
+    let mut q: usize = 0;
+    while q < parts {
+        rows[q] = pack(flow, names[q], takes[q]);
+        q = q + 1;
     }
-    parts
 }
 
-// The rows of a slot in which each job has its take: it is one whole slot of the run; the place after them.
-pub fn put_full(
-    takes: &[u32],
-    out: &mut [u8],
-    at: usize,
-    slot: u16,
-    flow: u8,
-    jobs: usize,
-    parts: usize,
-) -> usize
-    requires { ⌜ (jobs ≤ length (now takes)) × (jobs ≤ 64) × (parts ≡ partsIn (now takes) jobs) × ((i : ℕ) → i < jobs → getD (now takes) i 0 ≤ 4096) × (at + 384 < 4294967296) ⌝ }
-    ensures { λ r. ⌜ Put (now (out .entry)) at (takeRows slot flow (now (takes .entry)) jobs) (now (out .exit)) r ⌝ }
+// A packed row of a slot, where the output has room for it; the place after it.
+pub fn put_packed(out: &mut [u8], at: usize, slot: u16, row: u32) -> usize
+    requires { ⌜ at < 4294967296 ⌝ }
+    ensures { λ r. ⌜ Put (now (out .entry)) at (packedRow slot row ∷ []) (now (out .exit)) r ⌝ }
+{
+    let end = at + 6;
+    if out.len() < end {
+        return end;
+    }
+    bytes::write16(out, at, slot);
+    out[at + 2] = (row % 256) as u8;
+    out[at + 3] = (row / 256 % 256) as u8;
+    out[at + 4] = (row / 65536 % 256) as u8;
+    out[at + 5] = (row / 16777216) as u8;
+    end
+}
+
+// The rows of a slot in which each part has its take: it is one whole slot of the run; the place after them.
+pub fn put_full(rows: &[u32], out: &mut [u8], at: usize, slot: u16, parts: usize) -> usize
+    requires { ⌜ (parts ≤ length (now rows)) × (parts ≤ 64) × (at + 384 < 4294967296) ⌝ }
+    ensures { λ r. ⌜ Put (now (out .entry)) at (packedRows slot (now (rows .entry)) parts) (now (out .exit)) r ⌝ }
 {
     if out.len() < at + 6 {
         return at + 6 * parts;
     }
     let mut next = at;
-    let mut j: usize = 0;
-    while j < jobs {
-        let take = takes[j];
-        next = put_row(out, next, slot, flow, j as u8, take as u16);
-        j = j + 1;
+    let mut q: usize = 0;
+    while q < parts {
+        next = put_packed(out, next, slot, rows[q]);
+        q = q + 1;
     }
     next
 }
@@ -142,35 +142,36 @@ pub fn put_full(
 // The rows of one slot, which uses `give` units after the first `done`; the place after them.
 pub fn put_slot(
     book: &[u8],
+    names: &[u8],
     takes: &[u32],
+    rows: &[u32],
     out: &mut [u8],
     at: usize,
     c: Current,
-    parts: usize,
     done: u64,
     give: u32,
     slot: usize,
 ) -> usize
-    requires { ⌜ Serving (now book) c (now takes) × (done + give ≤ work (currentFlow (now book) c) (pseudoJob c)) × (give ≤ c .rate) × (slot < 8192) × (at + 384 < 4294967296) × (parts ≡ partsIn (now takes) (c .jobs)) ⌝ }
+    requires { ⌜ Serving (now book) c (now names) (now takes) (now rows) × (done + give ≤ work (currentFlow (now book) c) (pseudoJob c)) × (give ≤ c .rate) × (slot < 8192) × (at + 384 < 4294967296) ⌝ }
     ensures { λ r. ⌜ Put (now (out .entry)) at (jobRows (currentFlow (now (book .entry)) c) (c .flow) slot (pseudoJob c) done give) (now (out .exit)) r ⌝ }
 {
-    let jobs = c.jobs;
-    let flow = c.flow as u8;
+    let parts = c.parts;
     if give == c.rate {
-        return put_full(takes, out, at, slot as u16, flow, jobs, parts);
+        return put_full(rows, out, at, slot as u16, parts);
     }
+    let flow = c.flow as u8;
     let o = (done % (c.rate as u64)) as u32;
     let mut next = at;
     let mut offset: u32 = 0;
-    let mut j: usize = 0;
-    while j < jobs {
-        let take = takes[j];
+    let mut q: usize = 0;
+    while q < parts {
+        let take = takes[q];
         next = put_share(
             out,
             next,
             slot as u16,
             flow,
-            j as u8,
+            names[q],
             o,
             give,
             offset,
@@ -178,7 +179,7 @@ pub fn put_slot(
             c.rate,
         );
         offset = offset + take;
-        j = j + 1;
+        q = q + 1;
     }
     next
 }
@@ -219,16 +220,17 @@ pub fn work_of(width: u32, rate: u32) -> u64
 // Rule 4 in one slot: the pseudo-job in service, of whose units `done` are given, gets its processors.
 pub fn serve_slot(
     book: &[u8],
+    names: &[u8],
     takes: &[u32],
+    rows: &[u32],
     out: &mut [u8],
     area: &mut [u8],
     at: usize,
     c: Current,
-    parts: usize,
     done: u64,
     slot: usize,
 ) -> Served
-    requires { ⌜ Serving (now book) c (now takes) × (workBytes ≤ length (now area)) × (done ≤ work (currentFlow (now book) c) (pseudoJob c)) × (slot < 8192) × (at + 384 < 4294967296) × (parts ≡ partsIn (now takes) (c .jobs)) ⌝ }
+    requires { ⌜ Serving (now book) c (now names) (now takes) (now rows) × (workBytes ≤ length (now area)) × (done ≤ work (currentFlow (now book) c) (pseudoJob c)) × (slot < 8192) × (at + 384 < 4294967296) ⌝ }
     ensures { λ r. ⌜ SlotServed (now (book .entry)) c at done slot (now (out .entry)) (now (area .entry)) (now (out .exit)) (now (area .exit)) r ⌝ }
 {
     let used = bytes::read16(area, 2 * slot);
@@ -236,7 +238,7 @@ pub fn serve_slot(
     if give == 0 {
         return Served { next: at, give: 0 };
     }
-    let next = put_slot(book, takes, out, at, c, parts, done, give, slot);
+    let next = put_slot(book, names, takes, rows, out, at, c, done, give, slot);
     bytes::write16(area, 2 * slot, used + give as u16);
     Served { next, give }
 }
@@ -244,7 +246,9 @@ pub fn serve_slot(
 // Rule 4 for the pseudo-job in service: slot after slot from `from` on, until its work is done; rule 6 where the limit is reached before.
 pub fn place_run(
     book: &[u8],
+    names: &[u8],
     takes: &[u32],
+    rows: &[u32],
     out: &mut [u8],
     area: &mut [u8],
     at: usize,
@@ -252,11 +256,10 @@ pub fn place_run(
     from: usize,
     limit: usize,
 ) -> Placed
-    requires { ⌜ Serving (now book) c (now takes) × (workBytes ≤ length (now area)) × (from ≤ limit) × (limit ≤ 8192) × (at + 384 * (8192 - from) < 4294967296) ⌝ }
+    requires { ⌜ Serving (now book) c (now names) (now takes) (now rows) × (workBytes ≤ length (now area)) × (from ≤ limit) × (limit ≤ 8192) × (at + 384 * (8192 - from) < 4294967296) ⌝ }
     ensures { λ r. ⌜ RunAnswer (now (book .entry)) c from at limit (now (out .entry)) (now (area .entry)) (now (out .exit)) (now (area .exit)) r ⌝ }
 {
     let total = work_of(c.width, c.rate);
-    let parts = parts_of(takes, c.jobs);
     let mut done: u64 = 0;
     let mut slot = from;
     let mut next = at;
@@ -264,7 +267,7 @@ pub fn place_run(
         if limit <= slot {
             return Placed::Infeasible;
         }
-        let served = serve_slot(book, takes, out, area, next, c, parts, done, slot);
+        let served = serve_slot(book, names, takes, rows, out, area, next, c, done, slot);
         next = served.next;
         done = done + served.give as u64;
         slot = slot + 1;
@@ -272,7 +275,69 @@ pub fn place_run(
     Placed::To(slot, next)
 }
 
-// Rules 4 to 6 for flow f, which starts at `start`: its pseudo-jobs one after the other, each from the slot after the one before it.
+// Rules 4 to 6 for flow f, which the lists hold: its pseudo-jobs one after the other, each from the slot after the one before it.
+pub fn place_cuts(
+    book: &[u8],
+    caps: &[u32],
+    starts: &[u32],
+    ends: &[u32],
+    lasts: &[u32],
+    firsts: &[u32],
+    names: &mut [u8],
+    takes: &mut [u32],
+    rows: &mut [u32],
+    out: &mut [u8],
+    area: &mut [u8],
+    at: usize,
+    f: usize,
+    processors: u16,
+    count: usize,
+    path: u32,
+    limit: usize,
+) -> Placed
+    requires { ⌜ FlowHeld (now book) f (now caps) (now starts) (now ends) (now lasts) (now firsts) count path × (count ≤ length (now names)) × (count ≤ length (now takes)) × (count ≤ length (now rows)) × (processors ≡ bookOf (now book) .processors) × (limit ≡ slotsFor (flowOf (bookOf (now book)) f)) × (workBytes ≤ length (now area)) × (at + 3145728 < 4294967296) ⌝ }
+    ensures { λ r. ⌜ ((rows : List Row) (bytes : List ℕ) → now (area .entry) ≡ workUsed slots rows bytes → ((t : ℕ) → usedIn rows t ≤ processors) → FlowPlaced (bookOf (now (book .entry))) f rows bytes (now (out .entry)) at (now (out .exit)) (now (area .exit)) r) ⌝ }
+{
+    let mut from: usize = 0;
+    let mut t: u32 = 0;
+    let mut slot: usize = 0;
+    let mut next = at;
+    while t < path {
+        from = chain::skip_ended(ends, count, from, t);
+        let run = chain::run_at(
+            caps,
+            starts,
+            ends,
+            lasts,
+            firsts,
+            count,
+            path,
+            from,
+            t,
+            names,
+            takes,
+        );
+        pack_parts(f as u8, names, takes, run.parts, rows);
+        let c = Current {
+            flow: f,
+            parts: run.parts,
+            processors,
+            first: t,
+            width: run.width,
+            rate: run.rate,
+        };
+        let Placed::To(s, a) = place_run(book, names, takes, rows, out, area, next, c, slot, limit)
+        else {
+            return Placed::Infeasible;
+        };
+        slot = s;
+        next = a;
+        t = t + run.width;
+    }
+    Placed::To(slot, next)
+}
+
+// Rules 1 to 6 for flow f, which starts at `start`.
 pub fn place_flow(
     book: &[u8],
     out: &mut [u8],
@@ -288,32 +353,31 @@ pub fn place_flow(
     let jobs = book::load_flow(book, start, f);
     let ideal = chain::ideal_of(jobs);
     let limit = 2 * bytes::wide16(jobs.deadline);
-    let path = ideal.path;
-    let count = jobs.count;
     let caps = jobs.cap;
     let starts = ideal.starts;
     let ends = ideal.ends;
     let lasts = ideal.lasts;
-    let mut t: u32 = 0;
-    let mut slot: usize = 0;
-    let mut next = at;
-    while t < path {
-        let run = chain::run_at(&caps, &starts, &ends, &lasts, count, path, t);
-        let takes = run.takes;
-        let c = Current {
-            flow: f,
-            jobs: count,
-            processors,
-            first: t,
-            width: run.width,
-            rate: run.rate,
-        };
-        let Placed::To(s, a) = place_run(book, &takes, out, area, next, c, slot, limit) else {
-            return Placed::Infeasible;
-        };
-        slot = s;
-        next = a;
-        t = t + run.width;
-    }
-    Placed::To(slot, next)
+    let firsts = ideal.firsts;
+    let mut names = [0u8; 64];
+    let mut takes = [0u32; 64];
+    let mut rows = [0u32; 64];
+    place_cuts(
+        book,
+        &caps,
+        &starts,
+        &ends,
+        &lasts,
+        &firsts,
+        &mut names,
+        &mut takes,
+        &mut rows,
+        out,
+        area,
+        at,
+        f,
+        processors,
+        jobs.count,
+        ideal.path,
+        limit,
+    )
 }

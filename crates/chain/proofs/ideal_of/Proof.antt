@@ -1,8 +1,8 @@
 -- `chain::ideal_of` meets its contract. The first loop's invariant: both arrays are filled up to i, with durations and last
 -- takes. The second loop's: the starts are filled up to k, each by its end and its duration. The measures are what is left of
--- the count. Assumes nothing.
+-- the count. The ends, the path and the least starts are what the calls give. Assumes nothing.
 use borrow.Author.Needs.{needs}
-use mathlib.Core.Path.{_≡_, refl}
+use mathlib.Core.Path.{_≡_, refl, _∙_}
 use Prim.Native.Nat.{ℕ, _≤_, _<_, _-_}
 use native.Mathlib.Omega.{arith}
 use lib.ListN.{length, getD}
@@ -10,7 +10,7 @@ use Rattle.rules.specs.Book.{jobCount, jobOf}
 use Rattle.rules.specs.Ideal.{duration, lastTake}
 use Rattle.book.specs.Promise.{flowFrom}
 use Rattle.chain.proofs.Filled.{Filled, filled-none, filled-next}
-use Rattle.chain.proofs.Starts.{count-of, duration-most, slots-by-values, last-by-values, ends-held, end-held, start-by-end}
+use Rattle.chain.proofs.Starts.{count-of, duration-most, slots-by-values, last-by-values, end-held, path-held, start-by-end}
 use Rattle.chain.proofs.ideal_of.Statement.{statement}
 use Rattle.chain.proofs.ideal_of.Tie as tie
 
@@ -22,10 +22,10 @@ abbrev μ-loop : tie.MeasureT-loop
 μ-loop jobs count slots₀ last₀ i₀ slots last i = count - i
 
 abbrev Inv-loop2 : tie.InvT-loop2
-Inv-loop2 count slots last i ends path starts₀ k₀ starts k = (k ≤ count) × Filled (λ j. getD ends j 0 - getD slots j 0) k starts
+Inv-loop2 count slots last i all path starts₀ k₀ starts k = (k ≤ count) × Filled (λ j. getD all j 0 - getD slots j 0) k starts
 
 abbrev μ-loop2 : tie.MeasureT-loop2
-μ-loop2 count slots last i ends path starts₀ k₀ starts k = count - k
+μ-loop2 count slots last i all path starts₀ k₀ starts k = count - k
 
 loop-holds : tie.Need-loop-holds Inv-loop μ-loop Inv-loop2 μ-loop2
 loop-holds c = (omega arith, filled-none _, filled-none _)
@@ -85,21 +85,24 @@ slice-aggregate-ends c = search needs
 slice-aggregate-ends-2 : tie.Need-slice-aggregate-ends-2 Inv-loop μ-loop Inv-loop2 μ-loop2
 slice-aggregate-ends-2 c = search needs
 
+slice-aggregate-ends-3 : tie.Need-slice-aggregate-ends-3 Inv-loop μ-loop Inv-loop2 μ-loop2
+slice-aggregate-ends-3 c = search needs
+
 ends-requires : tie.Need-ends-requires Inv-loop μ-loop Inv-loop2 μ-loop2
 ends-requires c κs =
-    let o = c .before .before .before .before .before in
-    let loop = c .before .before .before .before .loop in
+    let o = c .before .before .before .before .before .before in
+    let loop = c .before .before .before .before .before .loop in
     let jobs = o .args .t1 in
     let room = o .pre .count-most in
     let size = loop .inv .1 .front .size in
-    let whole : length (c .before .before .before .before .before .args .t1 .predecessors) ≡ 64 = search needs in
-    (omega arith, omega arith, omega arith, λ i h. omega (arith, loop .inv .1 .front .values i (omega arith), duration-most jobs (o .pre) i h))
+    let whole : length (jobs .predecessors) ≡ 64 = search needs in
+    (omega arith, omega arith, omega arith, omega arith, λ i h. omega (arith, loop .inv .1 .front .values i (omega arith), duration-most jobs (o .pre) i h))
 
-path-requires : tie.Need-path-requires Inv-loop μ-loop Inv-loop2 μ-loop2
-path-requires c κs =
-    let o = c .before .before .before .before .before .before in
-    let loop = c .before .before .before .before .before .loop in
-    (o .pre, ends-held (o .args .t1) (loop .slots) (c .ends .result) (λ i h. loop .inv .1 .front .values i (omega arith)) (c .ends .ensures))
+slice-aggregate-largest : tie.Need-slice-aggregate-largest Inv-loop μ-loop Inv-loop2 μ-loop2
+slice-aggregate-largest c = search needs
+
+largest-requires : tie.Need-largest-requires Inv-loop μ-loop Inv-loop2 μ-loop2
+largest-requires c κs = search needs
 
 loop2-holds : tie.Need-loop2-holds Inv-loop μ-loop Inv-loop2 μ-loop2
 loop2-holds c = (omega arith, filled-none _)
@@ -118,13 +121,13 @@ array-read-starts-2 c = search needs
 
 sub-starts : tie.Need-sub-starts Inv-loop μ-loop Inv-loop2 μ-loop2
 sub-starts c =
-    let jobs = c .before .before .before .before .before .before .before .before .before .args .t1 in
-    let loop = c .before .before .before .before .before .before .before .before .loop in
-    let ends = c .before .before .before .ends in
+    let jobs = c .before .before .before .before .before .before .before .before .before .before .before .before .args .t1 in
+    let loop = c .before .before .before .before .before .before .before .before .before .before .before .loop in
+    let ends = c .before .before .before .before .before .ends in
     let k = c .before .loop2 .k in
     omega (
       arith,
-      start-by-end jobs (loop .slots) (ends .result) (λ i h. loop .inv .1 .front .values i (omega arith)) (ends .ensures) k (c .loop2-test .taken),
+      start-by-end jobs (loop .slots) _ (λ i h. loop .inv .1 .front .values i (omega arith)) _ (ends .ensures) k (c .loop2-test .taken),
     )
 
 mul-starts-3 : tie.Need-mul-starts-3 Inv-loop μ-loop Inv-loop2 μ-loop2
@@ -144,23 +147,32 @@ loop2-again c =
     let l = c .before .loop2 in
     (omega arith, filled-next _ (l .k) _ (l .starts) (omega arith) (l .inv .1) refl)
 
+slice-aggregate-least-from : tie.Need-slice-aggregate-least-from Inv-loop μ-loop Inv-loop2 μ-loop2
+slice-aggregate-least-from c = search needs
+
+least-from-requires : tie.Need-least-from-requires Inv-loop μ-loop Inv-loop2 μ-loop2
+least-from-requires c κs =
+    let room = c .before .before .before .before .before .before .before .before .before .before .before .before .before .pre .count-most in
+    (room, omega (arith, c .before .before .loop2 .inv .1 .front .size))
+
 returns : tie.Need-returns Inv-loop μ-loop Inv-loop2 μ-loop2
 returns c =
-    let jobs = c .before .before .before .before .before .before .before .before .before .args .t1 in
-    let loop = c .before .before .before .before .before .before .before .before .loop in
-    let ends = c .before .before .before .ends in
+    let jobs = c .before .before .before .before .before .before .before .before .before .before .before .before .before .before .args .t1 in
+    let loop = c .before .before .before .before .before .before .before .before .before .before .before .before .before .loop in
+    let ends = c .before .before .before .before .before .before .before .ends in
     let below : (i : ℕ) → i < jobCount (flowFrom jobs) → i < jobs .count = λ i h. omega (arith, h, count-of jobs) in
     let durations : (i : ℕ) → i < jobs .count → getD (loop .slots) i 0 ≡ duration (jobOf (flowFrom jobs) i) = λ i h. loop .inv .1 .front .values i (omega arith) in
     record {
       starts = λ i h.
           omega (
             arith,
-            c .before .loop2 .inv .1 .front .values i (omega (arith, below i h)),
-            start-by-end jobs (loop .slots) (ends .result) durations (ends .ensures) i (below i h),
+            c .before .before .before .loop2 .inv .1 .front .values i (omega (arith, below i h)),
+            start-by-end jobs (loop .slots) _ durations _ (ends .ensures) i (below i h),
           );
-      ends = λ i h. end-held jobs (loop .slots) (ends .result) durations (ends .ensures) i (below i h);
+      ends = λ i h. end-held jobs (loop .slots) _ durations _ (ends .ensures) i (below i h);
       lasts = λ i h. loop .inv .2 .front .values i (omega (arith, below i h));
-      path = c .before .before .path .ensures;
+      firsts = λ i h. rw (count-of jobs) (c .least-from .ensures i (below i h));
+      path = c .before .before .before .before .largest .ensures ∙ path-held jobs (loop .slots) _ durations _ (ends .ensures);
     }
 
 pub ideal-of-spec : {M : Type 1} → statement M
@@ -186,8 +198,10 @@ ideal-of-spec =
     loop-again
     slice-aggregate-ends
     slice-aggregate-ends-2
+    slice-aggregate-ends-3
     ends-requires
-    path-requires
+    slice-aggregate-largest
+    largest-requires
     loop2-holds
     mul-starts
     array-read-starts
@@ -199,4 +213,6 @@ ideal-of-spec =
     add-k
     loop2-less
     loop2-again
+    slice-aggregate-least-from
+    least-from-requires
     returns)

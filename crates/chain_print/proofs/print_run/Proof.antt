@@ -1,4 +1,4 @@
--- `chain_print::print_run` meets its contract. The loop's invariant: i is at most the count. The measure is what is left of it.
+-- `chain_print::print_run` meets its contract. The loop's invariant: q is at most the count of parts. The measure is what is left of it.
 -- Assumes nothing.
 use borrow.Author.Needs.{needs}
 use Prim.Native.Nat.{_≤_, _-_}
@@ -6,10 +6,10 @@ use Rattle.chain_print.proofs.print_run.Statement.{statement}
 use Rattle.chain_print.proofs.print_run.Tie as tie
 
 abbrev Inv-loop : tie.InvT-loop
-Inv-loop first count run i₀ t9 i = i ≤ count
+Inv-loop first names takes parts q₀ t10 q = q ≤ parts
 
 abbrev μ-loop : tie.MeasureT-loop
-μ-loop first count run i₀ t9 i = count - i
+μ-loop first names takes parts q₀ t10 q = parts - q
 
 slice-aggregate-print-number : tie.Need-slice-aggregate-print-number Inv-loop μ-loop
 slice-aggregate-print-number c = search needs
@@ -38,17 +38,20 @@ print-number-requires-3 c κs = search needs
 loop-holds : tie.Need-loop-holds Inv-loop μ-loop
 loop-holds c = search needs
 
-mul-print-take : tie.Need-mul-print-take Inv-loop μ-loop
-mul-print-take c = search needs
+shared-slice-read-print-part : tie.Need-shared-slice-read-print-part Inv-loop μ-loop
+shared-slice-read-print-part c = search needs
 
-element-copy-out-print-take : tie.Need-element-copy-out-print-take Inv-loop μ-loop
-element-copy-out-print-take c = search needs
+mul-print-part : tie.Need-mul-print-part Inv-loop μ-loop
+mul-print-part c = search needs
 
-print-take-requires : tie.Need-print-take-requires Inv-loop μ-loop
-print-take-requires c κs = search needs
+shared-slice-read-print-part-2 : tie.Need-shared-slice-read-print-part-2 Inv-loop μ-loop
+shared-slice-read-print-part-2 c = search needs
 
-add-i : tie.Need-add-i Inv-loop μ-loop
-add-i c = search needs
+print-part-requires : tie.Need-print-part-requires Inv-loop μ-loop
+print-part-requires c κs = search needs
+
+add-q : tie.Need-add-q Inv-loop μ-loop
+add-q c = search needs
 
 loop-less : tie.Need-loop-less Inv-loop μ-loop
 loop-less c = search needs
@@ -80,10 +83,11 @@ print-run-spec =
     cast-print-number-2
     print-number-requires-3
     loop-holds
-    mul-print-take
-    element-copy-out-print-take
-    print-take-requires
-    add-i
+    shared-slice-read-print-part
+    mul-print-part
+    shared-slice-read-print-part-2
+    print-part-requires
+    add-q
     loop-less
     loop-again
     slice-aggregate-write-all

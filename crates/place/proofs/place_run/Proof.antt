@@ -3,32 +3,24 @@ use Prim.Native.Nat.{_-_}
 use borrow.Author.Needs.{needs}
 use native.Mathlib.Omega.{arith}
 use Rattle.place.proofs.Given.{work-held}
-use Rattle.place.proofs.Serving.{jobs-within}
 use Rattle.place.proofs.Runs.{RunKept, run-kept-first, run-kept-next, run-kept-stops, run-kept-done}
 use Rattle.place.proofs.place_run.Statement.{statement}
 use Rattle.place.proofs.place_run.Tie as tie
 
 abbrev Inv-loop : tie.InvT-loop
-Inv-loop book takes out₀ area₀ at c from limit total parts done₀ slot₀ next₀ out area done slot next =
+Inv-loop book names takes rows out₀ area₀ at c from limit total done₀ slot₀ next₀ out area done slot next =
     RunKept book c from limit at out₀ area₀ out area done slot next
 
 abbrev μ-loop : tie.MeasureT-loop
-μ-loop book takes out₀ area₀ at c from limit total parts done₀ slot₀ next₀ out area done slot next = limit - slot
+μ-loop book names takes rows out₀ area₀ at c from limit total done₀ slot₀ next₀ out area done slot next = limit - slot
 
 work-of-requires : tie.Need-work-of-requires Inv-loop μ-loop
 work-of-requires c κs = tt
 
-parts-of-requires : tie.Need-parts-of-requires Inv-loop μ-loop
-parts-of-requires c κs =
-    let a = c .before .before .before .before .before .args in
-    let v = c .before .before .before .before .before .pre in
-    (v .0 .takes-whole, jobs-within (a .book .now) (a .c) (a .takes .now) (v .0))
-
 loop-holds : tie.Need-loop-holds Inv-loop μ-loop
 loop-holds c =
-    let a = c .before .before .before .before .before .before .args in
-    let v = c .before .before .before .before .before .before .pre in
-    run-kept-first (a .book .now) (a .c) (a .takes .now) (v .0) (a .from) (a .limit) (a .at) (a .out .now) (a .area .now) (v .2)
+    let v = c .before .before .before .before .before .before .before .pre in
+    run-kept-first (v .0) (v .2)
 
 same-length : tie.Need-same-length Inv-loop μ-loop
 same-length c = c .before .before .loop .inv .out-length
@@ -38,21 +30,16 @@ same-length-2 c = c .before .before .loop .inv .area-length
 
 returns : tie.Need-returns Inv-loop μ-loop
 returns c =
-    let a = c .before .before .before .before .before .before .before .before .before .args in
-    let v = c .before .before .before .before .before .before .before .before .before .pre in
+    let v = c .before .before .before .before .before .before .before .before .before .before .pre in
     let l = c .before .before .loop in
-    let total = c .before .before .before .before .work-of .ensures in
-    run-kept-stops (a .book .now) (a .c) (a .takes .now) (v .0) (a .from) (a .limit) (a .at) (a .out .now) (a .area .now) (l .out)
-    (l .area) (l .done) (l .slot) (l .next) (l .inv) (c .if1 .taken)
-    (omega (arith, c .before .loop-test .taken, work-held (a .book .now) (a .c) (a .takes .now) (v .0)))
+    run-kept-stops (v .0) (l .inv) (c .if1 .taken) (omega (arith, c .before .loop-test .taken, work-held (v .0)))
 
 serve-slot-requires : tie.Need-serve-slot-requires Inv-loop μ-loop
 serve-slot-requires c κs =
-    let a = c .before .before .before .before .before .before .before .before .before .before .before .args in
-    let v = c .before .before .before .before .before .before .before .before .before .before .before .pre in
+    let v = c .before .before .before .before .before .before .before .before .before .before .before .before .pre in
     let l = c .before .before .before .before .loop in
     let inside = c .before .before .if1 .left in
-    (v .0, omega (arith, v .1, l .inv .area-length), l .inv .done-to, omega (arith, inside), omega (arith, inside, l .inv .next-to, l .inv .slot-from), c .before .before .before .before .before .parts-of .ensures)
+    (v .0, omega (arith, v .1, l .inv .area-length), l .inv .done-to, omega (arith, inside), omega (arith, inside, l .inv .next-to, l .inv .slot-from))
 
 cast-done : tie.Need-cast-done Inv-loop μ-loop
 cast-done c = search needs
@@ -60,15 +47,13 @@ cast-done c = search needs
 add-done : tie.Need-add-done Inv-loop μ-loop
 add-done c =
     let looped = c .before .before .before .before .before .before .before .before .before .before in
-    let a = looped .before .before .before .before .before .before .before .args in
-    let v = looped .before .before .before .before .before .before .before .pre in
-    let total = looped .before .before .work-of .ensures in
-    omega (arith, total, c .before .before .before .before .before .serve-slot .ensures .give-within, work-held (a .book .now) (a .c) (a .takes .now) (v .0))
+    let v = looped .before .before .before .before .before .before .before .before .pre in
+    omega (arith, looped .before .work-of .ensures, c .before .before .before .before .before .serve-slot .ensures .give-within, work-held (v .0))
 
 add-slot : tie.Need-add-slot Inv-loop μ-loop
 add-slot c =
     let inside = c .before .before .before .before .before .before .before .before in
-    omega (arith, inside .if1 .left, inside .before .before .before .before .before .before .before .before .before .pre .3)
+    omega (arith, inside .if1 .left, inside .before .before .before .before .before .before .before .before .before .before .pre .3)
 
 loop-less : tie.Need-loop-less Inv-loop μ-loop
 loop-less c = omega (arith, c .before .before .before .before .before .before .before .before .if1 .left)
@@ -77,14 +62,11 @@ loop-again : tie.Need-loop-again Inv-loop μ-loop
 loop-again c =
     let inside = c .before .before .before .before .before .before .before .before in
     let looped = inside .before .before in
-    let a = looped .before .before .before .before .before .before .before .args in
-    let v = looped .before .before .before .before .before .before .before .pre in
+    let v = looped .before .before .before .before .before .before .before .before .pre in
     let l = looped .loop in
-    let total = looped .before .before .work-of .ensures in
-    let served = c .before .before .before .before .before .serve-slot in
-    run-kept-next (a .book .now) (a .c) (a .takes .now) (v .0) (a .from) (a .limit) (a .at) (a .out .now) (a .area .now) (l .out) (l .area)
-    (l .done) (l .slot) (l .next) (l .inv) (served .last .1 .1 .0) (served .last .1 .1 .1 .0) (served .result) (v .3) (inside .if1 .left)
-    (omega (arith, total, inside .before .loop-test .taken, work-held (a .book .now) (a .c) (a .takes .now) (v .0))) (served .ensures) (omega arith) (omega arith)
+    run-kept-next (v .0) (l .inv) (v .3) (inside .if1 .left)
+    (omega (arith, looped .before .work-of .ensures, inside .before .loop-test .taken, work-held (v .0)))
+    (c .before .before .before .before .before .serve-slot .ensures) (omega arith) (omega arith)
 
 same-length-3 : tie.Need-same-length-3 Inv-loop μ-loop
 same-length-3 c = c .before .loop .inv .out-length
@@ -94,12 +76,9 @@ same-length-4 c = c .before .loop .inv .area-length
 
 returns-2 : tie.Need-returns-2 Inv-loop μ-loop
 returns-2 c =
-    let a = c .before .before .before .before .before .before .before .before .args in
-    let v = c .before .before .before .before .before .before .before .before .pre in
+    let v = c .before .before .before .before .before .before .before .before .before .pre in
     let l = c .before .loop in
-    let total = c .before .before .before .work-of .ensures in
-    run-kept-done (a .book .now) (a .c) (a .takes .now) (v .0) (a .from) (a .limit) (a .at) (a .out .now) (a .area .now) (l .out) (l .area)
-    (l .done) (l .slot) (l .next) (l .inv) (omega (arith, c .loop-test .left, work-held (a .book .now) (a .c) (a .takes .now) (v .0)))
+    run-kept-done (v .0) (l .inv) (omega (arith, c .loop-test .left, work-held (v .0)))
 
 pub place-run-spec : {M : Type 1} → statement M
 place-run-spec =
@@ -108,7 +87,6 @@ place-run-spec =
     Inv-loop
     μ-loop
     work-of-requires
-    parts-of-requires
     loop-holds
     same-length
     same-length-2

@@ -1,60 +1,43 @@
--- The rows of one slot. The loop's invariant: the rows of the jobs below j are put, and `offset` is that of job j. The measure is what is
--- left of the jobs. Assumes nothing.
-use mathlib.Core.Path.{_≡_, sym}
-use Prim.Native.Nat.{_≤_, _-_}
+-- The rows of one slot: the packed ones where it is a full slot, else one part after the other. The invariant is `SlotKept`; the measure is
+-- what is left of the parts. Assumes nothing.
+use Prim.Native.Nat.{_-_}
 use native.Mathlib.Nat.{mod-lt}
-use Rattle.rules.specs.Book.{jobCount}
-use Rattle.rules.specs.Placing.{share}
-use Rattle.rules.proofs.Shares.{offset as offsetOf}
-use Rattle.place.specs.Service.{currentFlow, pseudoJob}
-use Rattle.place.specs.Output.{Put}
-use Rattle.place.proofs.Serving.{flow-within, jobs-within, rate-within, take-within}
-use Rattle.place.proofs.SlotRows.{rowsBelow, rows-below-all, offset-none, units-within, row-asked, row-put}
-use Rattle.place.proofs.FullSlots.{full-rows}
-use Rattle.place.proofs.OneSlot.{slot-rows-none}
-use Rattle.place.proofs.Output.{put-none, put-same-length}
-use borrow.Author.Needs.{needs}
 use native.Mathlib.Omega.{arith}
+use Rattle.place.specs.Service.{currentFlow, pseudoJob}
+use Rattle.place.proofs.Serving.{flow-within, parts-within, rate-within}
+use Rattle.place.proofs.SlotRows.{SlotKept, slot-kept-first, slot-kept-next, slot-kept-done, units-within, row-asked}
+use Rattle.place.proofs.FullSlots.{full-rows}
+use Rattle.place.proofs.Output.{put-same-length}
+use borrow.Author.Needs.{needs}
 use Rattle.place.proofs.put_slot.Statement.{statement}
 use Rattle.place.proofs.put_slot.Tie as tie
 
 abbrev Inv-loop : tie.InvT-loop
-Inv-loop book takes out₀ at c parts done give slot jobs flow o next₀ offset₀ j₀ out next offset j =
-    (j ≤ c .jobs) × (offset ≡ offsetOf (currentFlow book c) (pseudoJob c) j) ×
-    Put out₀ at (rowsBelow (currentFlow book c) (c .flow) slot (pseudoJob c) done give j) out next
+Inv-loop book names takes rows out₀ at c done give slot parts flow o next₀ offset₀ q₀ out next offset q =
+    SlotKept (currentFlow book c) (c .flow) slot (pseudoJob c) done give out₀ at out next offset q
 
 abbrev μ-loop : tie.MeasureT-loop
-μ-loop book takes out₀ at c parts done give slot jobs flow o next₀ offset₀ j₀ out next offset j = c .jobs - j
-
-cast-flow : tie.Need-cast-flow Inv-loop μ-loop
-cast-flow c =
-    let a = c .before .before .before .before .args in
-    let v = c .before .before .before .before .pre in
-    omega (arith, flow-within (a .book .now) (a .c) (a .takes .now) (v .0))
+μ-loop book names takes rows out₀ at c done give slot parts flow o next₀ offset₀ q₀ out next offset q = parts - q
 
 cast-put-full : tie.Need-cast-put-full Inv-loop μ-loop
 cast-put-full c = search needs
 
 put-full-requires : tie.Need-put-full-requires Inv-loop μ-loop
 put-full-requires c κs =
-    let a = c .before .before .before .before .before .before .before .args in
-    let v = c .before .before .before .before .before .before .before .pre in (
-      v .0 .takes-whole,
-      jobs-within (a .book .now) (a .c) (a .takes .now) (v .0),
-      v .5,
-      take-within (a .book .now) (a .c) (a .takes .now) (v .0),
-      v .4,
-    )
+    let v = c .before .before .before .before .before .before .before .before .pre in
+    (v .0 .rows-whole, parts-within (v .0), v .4)
 
 same-length : tie.Need-same-length Inv-loop μ-loop
 same-length c = search needs
 
 returns : tie.Need-returns Inv-loop μ-loop
 returns c =
-    let a = c .before .before .before .before .before .before .before .before .before .before .args in
-    let v = c .before .before .before .before .before .before .before .before .before .before .pre in
-    rw (← full-rows (a .book .now) (a .c) (a .takes .now) (v .0) (a .done) (a .give) (a .slot) (v .1) (c .before .before .before .before .if1 .taken))
-    (c .before .before .put-full .ensures)
+    let a = c .before .before .before .before .before .before .before .before .before .before .before .args in
+    let v = c .before .before .before .before .before .before .before .before .before .before .before .pre in
+    rw (← full-rows (v .0) (a .slot) (a .done) (a .give) (v .1) (c .before .before .before .before .if1 .taken)) (c .before .before .put-full .ensures)
+
+cast-flow : tie.Need-cast-flow Inv-loop μ-loop
+cast-flow c = omega (arith, flow-within (c .before .before .before .before .before .before .before .before .pre .0))
 
 cast-o : tie.Need-cast-o Inv-loop μ-loop
 cast-o c = search needs
@@ -64,21 +47,12 @@ rem-o c = search needs
 
 cast-o-2 : tie.Need-cast-o-2 Inv-loop μ-loop
 cast-o-2 c =
-    let a = c .before .before .before .before .before .before .before .args in
-    let v = c .before .before .before .before .before .before .before .pre in
-    omega (arith, mod-lt (a .done) (v .0 .rate-positive), rate-within (a .book .now) (a .c) (a .takes .now) (v .0))
+    let a = c .before .before .before .before .before .before .before .before .before .args in
+    let v = c .before .before .before .before .before .before .before .before .before .pre in
+    omega (arith, mod-lt (a .done) (v .0 .rate-positive), rate-within (v .0))
 
 loop-holds : tie.Need-loop-holds Inv-loop μ-loop
-loop-holds c =
-    let a = c .before .before .before .before .before .before .before .args in
-    let v = c .before .before .before .before .before .before .before .pre in
-    let w = currentFlow (a .book .now) (a .c) in
-    let p = pseudoJob (a .c) in (
-      omega arith,
-      sym (offset-none w p),
-      rw (slot-rows-none (a .slot) (a .c .flow) (λ i. share w p i (a .done) (a .give)))
-          (put-none (a .out .now) (a .at)),
-    )
+loop-holds c = slot-kept-first
 
 mul-take : tie.Need-mul-take Inv-loop μ-loop
 mul-take c = search needs
@@ -89,64 +63,44 @@ shared-slice-read-take c = search needs
 cast-put-share : tie.Need-cast-put-share Inv-loop μ-loop
 cast-put-share c = search needs
 
-cast-put-share-2 : tie.Need-cast-put-share-2 Inv-loop μ-loop
-cast-put-share-2 c =
-    let a = c .before .before .before .before .before .before .before .before .before .before .before .args in
-    let v = c .before .before .before .before .before .before .before .before .before .before .before .pre in
-    omega (arith, jobs-within (a .book .now) (a .c) (a .takes .now) (v .0))
+shared-slice-read-put-share : tie.Need-shared-slice-read-put-share Inv-loop μ-loop
+shared-slice-read-put-share c = search needs
 
 put-share-requires : tie.Need-put-share-requires Inv-loop μ-loop
 put-share-requires c κs =
-    let a = c .before .before .before .before .before .before .before .before .before .before .before .args in
-    let v = c .before .before .before .before .before .before .before .before .before .before .before .pre in
-    let l = c .before .before .before .loop in
-    row-asked (a .book .now) (a .c) (a .takes .now) (v .0) (a .done) (a .give) (v .1) (v .2) (a .slot) (a .at) (l .next) (l .j) (l .offset)
-    (a .out .now) (l .out) (v .4) (c .before .before .loop-test .taken) (l .inv .1) (l .inv .2)
+    let v = c .before .before .before .before .before .before .before .before .before .before .before .before .before .before .pre in
+    let l = c .before .before .before .before .loop in
+    row-asked (v .0) (v .1) (v .2) (l .inv) (c .before .before .before .loop-test .taken) (v .4)
 
 add-offset : tie.Need-add-offset Inv-loop μ-loop
 add-offset c =
-    let a = c .before .before .before .before .before .before .before .before .before .before .before .before .before .before .args in
-    let v = c .before .before .before .before .before .before .before .before .before .before .before .before .before .before .pre in
-    let l = c .before .before .before .before .before .before .loop in
-    omega (
-      arith,
-      l .inv .1,
-      units-within (a .book .now) (a .c) (a .takes .now) (v .0) (a .done) (a .give) (v .1) (v .2) (l .j)
-          (c .before .before .before .before .before .loop-test .taken),
-      rate-within (a .book .now) (a .c) (a .takes .now) (v .0),
-    )
+    let v = c .before .before .before .before .before .before .before .before .before .before .before .before .before .before .before .before .before .pre in
+    let l = c .before .before .before .before .before .before .before .loop in
+    omega (arith, units-within (v .0) (v .1) (v .2) (l .inv) (c .before .before .before .before .before .before .loop-test .taken), rate-within (v .0))
 
-add-j : tie.Need-add-j Inv-loop μ-loop
-add-j c = search needs
+add-q : tie.Need-add-q Inv-loop μ-loop
+add-q c = search needs
 
 loop-less : tie.Need-loop-less Inv-loop μ-loop
 loop-less c = omega arith
 
 loop-again : tie.Need-loop-again Inv-loop μ-loop
 loop-again c =
-    let a = c .before .before .before .before .before .before .before .before .before .before .before .before .before .before .args in
-    let v = c .before .before .before .before .before .before .before .before .before .before .before .before .before .before .pre in
-    let l = c .before .before .before .before .before .before .loop in
-    let turn = row-put (a .book .now) (a .c) (a .takes .now) (v .0) (a .done) (a .give) (v .1) (v .2) (a .slot) (a .at) (l .next)
-    (c .before .before .put-share .result) (l .j) (l .offset) (a .out .now) (l .out) (c .before .before .put-share .last .0)
-    (c .before .before .before .before .before .loop-test .taken) (l .inv .1) (l .inv .2) (c .before .before .put-share .ensures) in
-    (omega arith, turn .0, turn .1)
+    let v = c .before .before .before .before .before .before .before .before .before .before .before .before .before .before .before .before .before .pre in
+    let l = c .before .before .before .before .before .before .before .loop in
+    slot-kept-next (v .0) (v .1) (v .2) (l .inv) (c .before .before .before .before .before .before .loop-test .taken) (c .before .before .put-share .ensures)
 
 same-length-2 : tie.Need-same-length-2 Inv-loop μ-loop
 same-length-2 c =
-    let a = c .before .before .before .before .before .before .before .before .before .args in
+    let a = c .before .before .before .before .before .before .before .before .before .before .before .args in
     let l = c .before .loop in
-    put-same-length (a .out .now) (l .out) (a .at) (l .next) _ (l .inv .2)
+    put-same-length (a .out .now) (l .out) (a .at) (l .next) _ (l .inv .so-far .put)
 
 returns-2 : tie.Need-returns-2 Inv-loop μ-loop
 returns-2 c =
-    let a = c .before .before .before .before .before .before .before .before .before .args in
-    let v = c .before .before .before .before .before .before .before .before .before .pre in
+    let v = c .before .before .before .before .before .before .before .before .before .before .before .pre in
     let l = c .before .loop in
-    let w = currentFlow (a .book .now) (a .c) in
-    let p = pseudoJob (a .c) in
-    let e : l .j ≡ jobCount w = omega (arith, v .0 .jobs) in
-    rw (← rows-below-all w (a .c .flow) (a .slot) p (a .done) (a .give), ← e) (l .inv .2)
+    slot-kept-done (v .0) (v .1) (v .2) (l .inv) (c .loop-test .left)
 
 pub put-slot-spec : {M : Type 1} → statement M
 put-slot-spec =
@@ -154,11 +108,11 @@ put-slot-spec =
     (tie.spec
     Inv-loop
     μ-loop
-    cast-flow
     cast-put-full
     put-full-requires
     same-length
     returns
+    cast-flow
     cast-o
     rem-o
     cast-o-2
@@ -166,10 +120,10 @@ put-slot-spec =
     mul-take
     shared-slice-read-take
     cast-put-share
-    cast-put-share-2
+    shared-slice-read-put-share
     put-share-requires
     add-offset
-    add-j
+    add-q
     loop-less
     loop-again
     same-length-2

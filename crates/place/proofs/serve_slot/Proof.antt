@@ -1,7 +1,8 @@
 -- One slot: what is read of the area, what is given, and the rows that are put and counted in. Assumes nothing.
 use mathlib.Core.Path.{sym, _∙_}
 use native.Mathlib.Omega.{arith}
-use Rattle.place.proofs.Given.{work-held, give-within-work, served-nothing, served-some}
+use Rattle.place.proofs.Serving.{processors-within}
+use Rattle.place.proofs.Given.{work-held, served-nothing, served-some}
 use borrow.Author.Needs.{needs}
 use Rattle.place.proofs.serve_slot.Statement.{statement}
 use Rattle.place.proofs.serve_slot.Tie as tie
@@ -17,9 +18,8 @@ work-of-requires c κs = search needs
 
 sub-give-of : tie.Need-sub-give-of
 sub-give-of c =
-    let a = c .before .before .before .before .before .before .before .args in
-    let v = c .before .before .before .before .before .before .before .pre in
-    omega (arith, c .work-of .ensures, work-held (a .book .now) (a .c) (a .takes .now) (v .0), v .2)
+    let v = c .before .before .before .before .before .before .before .before .before .pre in
+    omega (arith, c .work-of .ensures, work-held (v .0), v .2)
 
 give-of-requires : tie.Need-give-of-requires
 give-of-requires c κs = search needs
@@ -29,33 +29,32 @@ same-length c = search needs
 
 returns : tie.Need-returns
 returns c =
-    let a = c .before .before .before .before .before .before .before .before .before .args in
-    let v = c .before .before .before .before .before .before .before .before .before .pre in
+    let a = c .before .before .before .before .before .before .before .before .before .before .before .args in
+    let v = c .before .before .before .before .before .before .before .before .before .before .before .pre in
     let used = c .before .before .before .read16 in
     let total = c .before .before .work-of in
     let give = c .before .give-of in
-    served-nothing (a .book .now) (a .c) (a .takes .now) (v .0) (a .at) (a .done) (a .slot) (total .result) (used .result) (a .out .now)
-    (a .area .now) (total .ensures) (v .2) (v .3) (used .ensures) (sym (give .ensures) ∙ c .if1 .taken)
+    served-nothing (v .0) (a .done) (a .slot) (a .area .now) (total .ensures) (v .2) (v .3) (used .ensures) (sym (give .ensures) ∙ c .if1 .taken)
 
 put-slot-requires : tie.Need-put-slot-requires
 put-slot-requires c κs =
-    let a = c .before .before .before .before .before .before .before .before .before .before .args in
-    let v = c .before .before .before .before .before .before .before .before .before .before .pre in
-    let used = c .before .before .before .before .read16 in
+    let v = c .before .before .before .before .before .before .before .before .before .before .before .before .pre in
     let total = c .before .before .before .work-of in
     let give = c .before .before .give-of in
-    let within = give-within-work (a .book .now) (a .c) (a .takes .now) (v .0) (a .at) (a .done) (a .slot) (total .result) (used .result)
-    (a .out .now) (a .area .now) (total .ensures) (v .2) (v .3) (used .ensures) in
-    (v .0, rw (give .ensures) within, omega (arith, give .ensures), v .3, v .4, v .5)
+    (v .0, omega (arith, give .ensures, total .ensures, work-held (v .0), v .2), omega (arith, give .ensures), v .3, v .4)
 
 mul-write16 : tie.Need-mul-write16
 mul-write16 c = search needs
 
 cast-write16 : tie.Need-cast-write16
-cast-write16 c = search needs
+cast-write16 c =
+    let gave = c .before .before .before .before .before .before in
+    omega (arith, gave .give-of .ensures, processors-within (gave .before .before .before .before .before .before .before .before .before .before .pre .0))
 
 add-write16 : tie.Need-add-write16
-add-write16 c = search needs
+add-write16 c =
+    let gave = c .before .before .before .before .before .before in
+    omega (arith, gave .give-of .ensures, processors-within (gave .before .before .before .before .before .before .before .before .before .before .pre .0))
 
 write16-requires : tie.Need-write16-requires
 write16-requires c κs = search needs
@@ -69,15 +68,13 @@ same-length-3 c = search needs
 returns-2 : tie.Need-returns-2
 returns-2 c =
     let gave = c .before .before .before .before .before .before .before .before .before in
-    let a = gave .before .before .before .before .before .before .before .before .args in
-    let v = gave .before .before .before .before .before .before .before .before .pre in
+    let a = gave .before .before .before .before .before .before .before .before .before .before .args in
+    let v = gave .before .before .before .before .before .before .before .before .before .before .pre in
     let used = gave .before .before .read16 in
     let total = gave .before .work-of in
     let give = gave .give-of in
     let put = c .before .before .before .before .before .before .put-slot in
-    served-some (a .book .now) (a .c) (a .takes .now) (v .0) (a .at) (a .done) (a .slot) (total .result) (used .result) (a .out .now)
-    (a .area .now) (total .ensures) (v .2) (v .3) (used .ensures) (give .result) (put .last .1 .1 .0) (c .before .before .write16 .last .0)
-    (put .result) (give .ensures) (put .ensures) (c .before .before .write16 .ensures)
+    served-some (v .0) (a .done) (a .slot) (a .area .now) (total .ensures) (v .2) (v .3) (used .ensures) (give .ensures) (put .ensures) (c .before .before .write16 .ensures)
 
 pub serve-slot-spec : {M : Type 1} → statement M
 serve-slot-spec =

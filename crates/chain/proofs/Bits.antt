@@ -1,0 +1,33 @@
+-- The bits of a number, read by halving it: after k halvings the lowest bit is bit k, and where 0 is left, no later bit is set.
+-- Assumes nothing.
+use mathlib.Core.Path.{_≡_, ap, _∙_}
+use mathlib.Core.Bool.{Bool, false}
+use Prim.Native.Nat.{ℕ, _+_, _-_, _/_, _%_, _^_, _≤_}
+use native.Mathlib.Nat.{div-one, zero-div}
+use native.Mathlib.Omega.{arith}
+use lib.Dec.{eqb}
+use lib.Pow.{shr-shr}
+use Rattle.rules.specs.Book.{hasBit}
+
+abbrev lowest : ℕ → Bool
+lowest b = eqb (b % 2) 1
+
+pub lowest-bit : (b : ℕ) → hasBit b 0 ≡ eqb (b % 2) 1
+unfolding hasBit
+lowest-bit b = ap lowest (div-one b)
+
+-- b is what is left of p after k halvings
+module _ (p b k : ℕ) (left : b ≡ p / 2 ^ k) where
+  pub bit-of-left : hasBit b 0 ≡ hasBit p k
+  unfolding hasBit
+  bit-of-left = ap lowest (div-one b ∙ left)
+
+  pub left-next : b / 2 ≡ p / 2 ^ (k + 1)
+  left-next = ap (_/ 2) left ∙ shr-shr p k 1
+
+  pub no-bit-left : b ≡ 0 → (i : ℕ) → k ≤ i → hasBit p i ≡ false
+  unfolding hasBit
+  no-bit-left none i h =
+      let e : k + (i - k) ≡ i = omega arith in
+      let zero-left : p / 2 ^ i ≡ 0 = rw (← e, ← shr-shr p k (i - k), ← left, none) (zero-div (2 ^ (i - k))) in
+      ap lowest zero-left
