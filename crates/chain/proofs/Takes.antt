@@ -1,13 +1,13 @@
 -- A job's take by its start and end, and the slots for which it stays: it is nothing before the start and from the end
 -- on, the last take in the slot before the end, and the cap in between, so it changes at the start, at the end, and one
 -- slot before the end where the last take is not the cap. Assumes nothing.
-use mathlib.Core.Path.{_≡_, refl, sym, ap, _∙_}
+use mathlib.Core.Path.{_≡_, refl, sym, ap, subst, _∙_}
 use mathlib.Core.Bool.{Bool, true, false, _||_}
 use Prim.Native.Nat.{ℕ, _+_, _-_, _≤_, _<_, min}
 use native.Mathlib.Omega.{arith}
 use mathlib.Core.Logic.{_⊎_, inl, inr}
 use lib.Dec.{ltb, leb, eqb}
-use borrow.Author.Tests.{lt-ltb, le-ltb, le-leb, lt-leb, eq-eqb, ne-eqb}
+use borrow.Author.Tests.{ltb-true, ltb-false, leb-true, leb-false, eqb-true, eqb-false, lt-ltb, le-ltb, le-leb, lt-leb, eq-eqb, ne-eqb}
 use Rattle.rules.specs.Walks.{if_then_else_}
 use Rattle.rules.proofs.Division.{lt-or-ge}
 use Rattle.chain.specs.Runs.{takeBetween, NextChange}
@@ -35,6 +35,14 @@ module _ (start end last cap u : ℕ) where
   cap-before h l = rw (le-ltb u start h, lt-leb end u (omega arith), ne-eqb (u + 1) end (λ e. omega arith)) refl
 
 -- ---- the next change
+-- what a choice tells
+abbrev Chosen : Bool → ℕ → ℕ → ℕ → Type 0
+Chosen b r x y = ((b ≡ true) × (r ≡ x)) ⊎ ((b ≡ false) × (r ≡ y))
+
+chosen : (b : Bool) {r x y : ℕ} → r ≡ (if b then x else y) → Chosen b r x y
+chosen true e = inl (refl, e)
+chosen false e = inr (refl, e)
+
 module _ (start end last cap t limit : ℕ) where
   -- after d slots the take is known to change
   change-after : (d n : ℕ) → 0 < d → 0 < limit → ((u : ℕ) → u < d → takeBetween start end last cap (t + u) ≡ takeBetween start end last cap t) →
@@ -109,3 +117,42 @@ module _ (start end last cap t limit : ℕ) where
         limit-some
         (λ u b. cap-before start end last cap (t + u) (omega arith) (omega arith) ∙ sym (cap-before start end last cap t h l))
         (λ q. ne (sym (last-in-last-slot start end last cap (t + (end - t - 1)) (omega arith) (omega arith)) ∙ q ∙ cap-before start end last cap t h l))
+
+    -- the next cut by four choices, whatever the slot
+    module _ (turn running next cut : ℕ) (fits : t + limit ≤ 4294967295) (et : turn ≡ (if eqb last cap then end else end - 1))
+        (er : running ≡ (if ltb t turn then turn else end)) (en : next ≡ (if ltb t start then start else running))
+        (ec : cut ≡ (if leb end t then 4294967295 else next)) where
+      pub cut-ahead : t ≤ cut
+      cut-ahead = go (chosen (leb end t) ec) (chosen (ltb t start) en) (chosen (ltb t turn) er)
+        where
+          go : Chosen (leb end t) cut 4294967295 next → Chosen (ltb t start) next start running → Chosen (ltb t turn) running turn end → t ≤ cut
+          go (inl (a, c)) _ _ = omega arith
+          go (inr (a, c)) (inl (b, d)) _ = omega (arith, ltb-true t start b)
+          go (inr (a, c)) (inr (b, d)) (inl (f, g)) = omega (arith, ltb-true t turn f)
+          go (inr (a, c)) (inr (b, d)) (inr (f, g)) = omega (arith, leb-false end t a)
+
+      pub change-at-cut : (n : ℕ) → n ≡ min (cut - t) limit → NextChange (takeBetween start end last cap) t limit n
+      change-at-cut n e =
+          go (chosen (leb end t) ec) (chosen (ltb t start) en) (chosen (ltb t turn) er) (chosen (eqb last cap) et)
+        where
+          in-last-slot : start ≤ t → t + 1 ≡ end → cut ≡ end → NextChange (takeBetween start end last cap) t limit n
+          in-last-slot h l c =
+              let one : 1 ≡ n = omega arith in
+              subst (λ (m : ℕ). NextChange (takeBetween start end last cap) t limit m) one (change-next h l)
+
+          go : Chosen (leb end t) cut 4294967295 next → Chosen (ltb t start) next start running → Chosen (ltb t turn) running turn end →
+              Chosen (eqb last cap) turn end (end - 1) → NextChange (takeBetween start end last cap) t limit n
+          go (inl (a, c)) _ _ _ =
+              let all : limit ≡ n = omega arith in
+              subst (λ (m : ℕ). NextChange (takeBetween start end last cap) t limit m) all (no-change-after-end (leb-true end t a) (omega arith))
+          go (inr (a, c)) (inl (b, d)) _ _ = change-at-start n (ltb-true t start b) (omega arith)
+          go (inr (a, c)) (inr (b, d)) (inl (f, g)) (inl (k, m)) = to-the-end (lt-or-ge (t + 1) end)
+            where
+              to-the-end : (t + 1 < end) ⊎ (end ≤ t + 1) → NextChange (takeBetween start end last cap) t limit n
+              to-the-end (inl l) = cap-to-the-end n (ltb-false t start b) l (eqb-true last cap k) (omega arith)
+              to-the-end (inr l) = in-last-slot (ltb-false t start b) (omega (arith, leb-false end t a)) (omega arith)
+          go (inr (a, c)) (inr (b, d)) (inl (f, g)) (inr (k, m)) =
+              change-before-end n (ltb-false t start b) (omega (arith, ltb-true t turn f)) (eqb-false last cap k) (omega arith)
+          go (inr (a, c)) (inr (b, d)) (inr (f, g)) (inl (k, m)) = absurd (omega (arith, ltb-false t turn f, leb-false end t a))
+          go (inr (a, c)) (inr (b, d)) (inr (f, g)) (inr (k, m)) =
+              in-last-slot (ltb-false t start b) (omega (arith, ltb-false t turn f, leb-false end t a)) (omega arith)

@@ -187,25 +187,26 @@ pub fn take_at(start: u32, end: u32, last: u32, cap: u32, t: u32) -> u32
     cap
 }
 
+// One of two numbers. A choice, not a branch: which job changes next is hard to foresee.
+pub fn choose(first: bool, a: u32, b: u32) -> u32
+    ensures { λ r. ⌜ r ≡ (if first then a else b) ⌝ }
+{
+    if first {
+        return a;
+    }
+    b
+}
+
 // How many slots from ideal slot t on a job's take is unchanged, where at most `limit` are of interest.
 pub fn until_change(start: u32, end: u32, last: u32, cap: u32, t: u32, limit: u32) -> u32
-    requires { ⌜ (start < end) × (1 ≤ last) × (1 ≤ cap) × (1 ≤ limit) ⌝ }
+    requires { ⌜ (start < end) × (1 ≤ last) × (1 ≤ cap) × (1 ≤ limit) × (t + limit ≤ 4294967295) ⌝ }
     ensures { λ r. ⌜ NextChange (takeBetween start end last cap) t limit r ⌝ }
 {
-    if end <= t {
-        return limit;
-    }
-    if t < start {
-        return least(start - t, limit);
-    }
-    let left = end - t;
-    if left == 1 {
-        return 1;
-    }
-    if last == cap {
-        return least(left, limit);
-    }
-    least(left - 1, limit)
+    let turn = choose(last == cap, end, end - 1);
+    let running = choose(t < turn, turn, end);
+    let next = choose(t < start, start, running);
+    let cut = choose(end <= t, 4294967295, next);
+    least(cut - t, limit)
 }
 
 // A pseudo-job: its width, its rate, and how many jobs take something.

@@ -9,6 +9,7 @@ use Rattle.book.specs.declared.FlowJobs.{FlowJobs}
 use Rattle.book.specs.Promise.{flowFrom}
 use Rattle.chain.specs.declared.Ideal.{Ideal}
 use Rattle.chain.specs.Runs.{RunInput}
+use Rattle.chain.proofs.Starts.{path-most}
 use Rattle.chain.proofs.Cuts.{RunSoFar, parts-so-far, ended-so-far-of, none-begun-of, all-jobs-of, change-asked-of, rate-fits-of, job-counted-in-of}
 use Rattle.chain.proofs.run_at.Statement.{statement}
 use Rattle.chain.proofs.run_at.Tie as tie
@@ -138,7 +139,8 @@ until-change-requires c κs =
     let h = c .before .before .before .before .before .before .before .before .loop-test .taken in
     let so-far = loop .inv .3 (some .jobs) (some .ideal) (some .held) in
     let asked = change-asked-of (a .caps .now) (a .starts .now) (a .ends .now) (a .lasts .now) (a .firsts .now) (a .count) (a .most) (some .jobs) (some .ideal) (some .held) (a .t) (loop .i) h in
-    (asked .0, asked .1, asked .2, so-far .some)
+    let path = path-most (some .jobs) (some .held .input) in
+    (asked .0, asked .1, asked .2, so-far .some, omega (arith, so-far .within, path))
 
 add-i : tie.Need-add-i Inv-loop μ-loop
 add-i c = search needs
