@@ -3,15 +3,14 @@
 use mathlib.Core.Path.{_≡_, sym, ap, _∙_}
 use Prim.Native.Nat.{ℕ, _+_, _≤_, _<_}
 use mathlib.Core.List.{List}
-use lib.ListN.{length, getD}
+use lib.ListN.{length}
 use Rattle.rules.specs.declared.Verdict.the-variants.{Pass}
 use Rattle.rules.specs.Fields.{byte, field}
 use Rattle.rules.specs.Limits.{mostJobs}
-use Rattle.rules.specs.Book.{Flow, flowCount, jobCount, flowOf, jobOf}
+use Rattle.rules.specs.Book.{Flow, jobCount, flowOf, jobOf}
 use Rattle.rules.specs.Reading.{flowHead, jobRecord, flowStart, jobStart, jobAt, flowAt, bookOf, bookFault}
 use Rattle.rules.proofs.Passing.{flow-count, flow-of-book, job-count, job-of-flow, deadline-of-flow, FlowPasses, flow-of-passing}
-use Rattle.book.specs.declared.Index.{Index}
-use Rattle.book.specs.Promise.{Indexed, FlowStands}
+use Rattle.book.specs.Promise.{FlowStands}
 
 -- how a walk over the heads meets each flow
 pub stands-at : (s : List ℕ) (f start : ℕ) → bookFault s ≡ Pass → f < byte s 7 → start ≡ flowStart s f → FlowStands s f start
@@ -50,7 +49,3 @@ module _ (s : List ℕ) (f start : ℕ) (stands : FlowStands s f start) where
 
     pub job-is : jobOf (flowOf (bookOf s) f) i ≡ jobAt s (jobStart start i)
     job-is = ap (λ (w : Flow). jobOf w i) flow-is ∙ job-of-flow s start i job-below
-
--- where the index says that a flow starts, it starts
-pub indexed-stands : (s : List ℕ) (x : Index) (f : ℕ) → Indexed s x → f < flowCount (bookOf s) → FlowStands s f (getD (x .starts) f 0)
-indexed-stands s x f ix h = record { passes = ix .passes; flow-in = h; start-at = ix .starts f h }

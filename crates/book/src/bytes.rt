@@ -1,11 +1,11 @@
 // Fields of a slice of bytes, big-endian, and the work area.
 ghost use mathlib.Core.Path.{_≡_};
-ghost use Prim.Native.Nat.{ℕ, _+_, _<_, _≤_, min, max};
+ghost use Prim.Native.Nat.{_+_, _<_, _≤_, min, max};
 ghost use lib.ListN.{length};
 ghost use lib.Seq.{sets};
 ghost use Rattle.rules.specs.Fields.{field, bytesOf};
 ghost use Rattle.rules.specs.Limits.{slots, workBytes};
-ghost use Rattle.rules.specs.Rows.{Row, workZero};
+ghost use Rattle.rules.specs.Rows.{workZero};
 ghost use Rattle.rules.specs.Table.{rowBytes};
 
 // The number in two bytes.

@@ -1,7 +1,7 @@
 // The chain of pseudo-jobs of a flow, rules 1 to 3.
 ghost use mathlib.Core.Path.{_≡_};
 ghost use mathlib.Core.List.{_++_};
-ghost use Prim.Native.Nat.{ℕ, _+_, _-_, _<_, _≤_, min, max};
+ghost use Prim.Native.Nat.{ℕ, _+_, _-_, _<_, _≤_, max};
 ghost use lib.ListN.{length, getD, drop};
 ghost use lib.Dec.{ltb};
 ghost use Rattle.rules.specs.Walks.{if_then_else_, bit, maxTo};
@@ -12,6 +12,7 @@ ghost use Rattle.chain.specs.Runs.{IdealOf, LeastFrom, RunInput, SomeFlo
 ghost use Rattle.book.specs.declared.FlowJobs.{FlowJobs};
 ghost use Rattle.chain.specs.declared.Ideal.{Ideal};
 use book::FlowJobs;
+use book::bytes;
 
 // How many slots a job lasts, and what it takes in the last of them.
 pub struct Lasting {
@@ -19,7 +20,7 @@ pub struct Lasting {
     pub last: u32,
 }
 
-// Rule 1: the whole slots of a job, and the rest in its last slot. No other routine divides.
+// Rule 1: the whole slots of a job, and the rest in its last slot. A job is divided here and nowhere else.
 pub fn lasts(size: u32, cap: u32) -> Lasting
     requires { ⌜ (1 ≤ size) × (size ≤ 1000000) × (1 ≤ cap) ⌝ }
     ensures { λ r. ⌜ ((p : ℕ) → LastsAs (jobWith size cap p) r) ⌝ }
@@ -36,20 +37,6 @@ pub fn lasts(size: u32, cap: u32) -> Lasting
         slots: whole + 1,
         last: rest,
     }
-}
-
-// The smaller of two.
-pub fn least(a: u32, b: u32) -> u32
-    ensures { λ r. ⌜ r ≡ min a b ⌝ }
-{
-    if a < b { a } else { b }
-}
-
-// The larger of two.
-pub fn most(a: u32, b: u32) -> u32
-    ensures { λ r. ⌜ r ≡ max a b ⌝ }
-{
-    if a < b { b } else { a }
 }
 
 // The later of a start and the end of the job whose bit is the lowest, where that bit is set.
@@ -105,7 +92,7 @@ pub fn largest(numbers: &[u32], n: usize) -> u32
     let mut most_so_far: u32 = 0;
     let mut k: usize = 0;
     while k < n {
-        most_so_far = most(most_so_far, numbers[k]);
+        most_so_far = bytes::most(most_so_far, numbers[k]);
         k = k + 1;
     }
     most_so_far
@@ -121,7 +108,7 @@ pub fn least_from(numbers: &[u32], n: usize) -> [u32; 64]
     let mut k = n;
     while 0 < k {
         k = k - 1;
-        least_so_far = least(numbers[k], least_so_far);
+        least_so_far = bytes::least(numbers[k], least_so_far);
         leasts[k] = least_so_far;
     }
     leasts
@@ -206,7 +193,7 @@ pub fn until_change(start: u32, end: u32, last: u32, cap: u32, t: u32, limit: u3
     let running = choose(t < turn, turn, end);
     let next = choose(t < start, start, running);
     let cut = choose(end <= t, 4294967295, next);
-    least(cut - t, limit)
+    bytes::least(cut - t, limit)
 }
 
 // A pseudo-job: its width, its rate, and how many jobs take something.
@@ -267,7 +254,7 @@ pub fn run_at(
         let first = firsts[i];
         if t < first {
             return Run {
-                width: least(width, first - t),
+                width: bytes::least(width, first - t),
                 rate,
                 parts,
             };

@@ -1,8 +1,8 @@
 // The calls that a dispatcher in C makes. Thin: each hands its slices to the proved core and has the core's contract. Neither has a
 // `requires`: every sequence of bytes is taken.
 ghost use mathlib.Core.Path.{_≡_};
-ghost use Rattle.rules.specs.Check.{CheckOutcome, checkCall};
-ghost use Rattle.rules.specs.Planner.{PlanOutcome, planCall};
+ghost use Rattle.rules.specs.Check.{checkCall};
+ghost use Rattle.rules.specs.Planner.{planCall};
 use rules::CheckAnswer;
 use rules::PlanAnswer;
 

@@ -1,16 +1,12 @@
 -- What one flow's rows add to the finishes, and the late flows by deadlines and finishes.
 -- All rows of a flow are its own, so that they change its finish alone. Assumes nothing.
-use mathlib.Core.Path.{_≡_, refl, sym, ap, ap₂, subst, _∙_}
-use Prim.Native.Nat.{ℕ, _+_, _<_}
-use native.Mathlib.Numerals.{add-one}
+use mathlib.Core.Path.{_≡_, sym, ap, subst, _∙_}
+use Prim.Native.Nat.{ℕ}
 use native.Mathlib.Omega.{arith}
 use mathlib.Core.List.{List, _++_}
-use lib.ListN.{getD}
-use Rattle.rules.specs.Walks.{bit, sumTo}
-use Rattle.rules.specs.Book.{Flow, Book, flowCount, jobCount, flowOf}
-use Rattle.rules.specs.Rows.{Row, finishOf, isLate, lateFlows}
+use Rattle.rules.specs.Book.{Flow, jobCount}
+use Rattle.rules.specs.Rows.{Row, finishOf}
 use Rattle.rules.specs.Placing.{flowRows}
-use Rattle.rules.proofs.Sums.{sum-ext}
 use Rattle.rules.proofs.Rising.{_∈_}
 use Rattle.rules.proofs.RowSums.{finish-least}
 use Rattle.rules.proofs.FlowRows.{grid-in}

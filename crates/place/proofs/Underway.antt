@@ -1,7 +1,7 @@
 -- A flow on its way, one slot more: what the area holds in the slot is the use of the flows before, and after the slot's rows are put and
 -- counted in, the flow stands where rule 4 says. Assumes nothing.
 use mathlib.Core.Path.{_≡_, refl, sym, ap, _∙_}
-use Prim.Native.Nat.{ℕ, suc, _+_, _*_, _-_, _≤_, _<_}
+use Prim.Native.Nat.{ℕ, suc, _+_, _*_, _≤_, _<_}
 use native.Mathlib.Omega.{arith}
 use mathlib.Core.List.{List, [], _∷_, _++_, append-assoc, append-nil}
 use lib.Seq.{sets}

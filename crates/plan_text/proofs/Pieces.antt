@@ -71,9 +71,6 @@ unfolding digitsOf
 digits-length zero x = (omega arith, omega arith)
 digits-length (suc n) x = number-length (ltb x 10) (digit x) (digitsOf n (x / 10)) n (digits-length n (x / 10) .1)
 
-pub digits-least : (n x : ℕ) → 1 ≤ length (digitsOf n x)
-digits-least n x = digits-length n x .0
-
 pub digits-most : (n x : ℕ) → length (digitsOf n x) ≤ n + 1
 digits-most n x = digits-length n x .1
 

@@ -1,8 +1,8 @@
 -- The check accepts every table that the planner writes: the plan's table is that of a valid schedule, and the check accepts each of these.
 -- Assumes nothing.
-use mathlib.Core.Path.{_≡_, refl, sym, ap, _∙_}
+use mathlib.Core.Path.{_≡_, refl}
 use mathlib.Core.Bool.{Bool, true, false}
-use Prim.Native.Nat.{ℕ, _+_, _≤_, _<_}
+use Prim.Native.Nat.{ℕ, _≤_}
 use mathlib.Core.List.{List, _++_}
 use native.Mathlib.Omega.{arith}
 use lib.ListN.{length, take, drop}
@@ -13,7 +13,7 @@ use Rattle.rules.specs.declared.Verdict.the-variants.{Pass, Refused}
 use Rattle.rules.specs.Walks.{if_then_else_}
 use Rattle.rules.specs.Answers.{none, planAccepted, planRefused, checkAccepted}
 use Rattle.rules.specs.Limits.{slots, workBytes}
-use Rattle.rules.specs.Book.{Book, InRange}
+use Rattle.rules.specs.Book.{Book}
 use Rattle.rules.specs.Reading.{Reading, read, unread, readingOf, bookOf, bookFault, readBook}
 use Rattle.rules.specs.Rows.{Row, lateFlows, workUsed, workZero}
 use Rattle.rules.specs.Placing.{Plan, planned, infeasible, plan}

@@ -1,9 +1,9 @@
 -- Demand 3, as the specification states it of the planner's outcome: for every book that passes, every cut, every output and every work area
 -- that is long enough. A cut book is a book of its own, so the theorems on values hold of it. Assumes nothing.
 use mathlib.Core.Path.{_≡_, refl, ap}
-use mathlib.Core.Logic.{_⊎_, inl, inr}
+use mathlib.Core.Logic.{inl, inr}
 use mathlib.Core.Bool.{Bool, true, false}
-use Prim.Native.Nat.{ℕ, _+_, _≤_, _<_}
+use Prim.Native.Nat.{ℕ, _≤_}
 use mathlib.Core.List.{List, _++_}
 use native.Mathlib.Omega.{arith}
 use lib.ListN.{length, drop}
@@ -12,12 +12,12 @@ use borrow.Author.Tests.{ltb-true, le-ltb}
 use Rattle.rules.specs.Walks.{if_then_else_}
 use Rattle.rules.specs.Answers.{none, planAccepted, planRefused}
 use Rattle.rules.specs.Limits.{slots, workBytes}
-use Rattle.rules.specs.Book.{Book, flowCount, InRange}
+use Rattle.rules.specs.Book.{Book, InRange}
 use Rattle.rules.specs.Reading.{read, readBook, bookBytes}
 use Rattle.rules.specs.Rows.{Row, lateFlows, workUsed, workZero}
 use Rattle.rules.specs.Placing.{Plan, planned, infeasible, rowsOf, plan}
 use Rattle.rules.specs.Table.{tableLength, tableBytes}
-use Rattle.rules.specs.Planner.{PlanOutcome, planOutcome, planReading, planCall}
+use Rattle.rules.specs.Planner.{planOutcome, planReading, planCall}
 use Rattle.rules.specs.Cut.{cut}
 use Rattle.rules.specs.Demands.{PlannerOwes, PlannedWell, Demand3}
 use Rattle.rules.proofs.Passing.{read-in-range}

@@ -1,8 +1,8 @@
 -- The demands, all of them, of the outcomes of planner and check. The contracts of the exported calls say that they have these outcomes.
 -- Assumes nothing.
-use mathlib.Core.Path.{_≡_, refl, ap, _∙_}
+use mathlib.Core.Path.{_≡_, refl, ap}
 use mathlib.Core.Bool.{Bool, true, false}
-use Prim.Native.Nat.{ℕ, _+_, _≤_}
+use Prim.Native.Nat.{ℕ}
 use mathlib.Core.List.{List, _++_}
 use native.Mathlib.Omega.{arith}
 use lib.ListN.{length, drop}
@@ -11,7 +11,6 @@ use Rattle.rules.specs.Walks.{if_then_else_}
 use Rattle.rules.specs.Answers.{none, planAccepted, planRefused}
 use Rattle.rules.specs.Limits.{slots, workBytes}
 use Rattle.rules.specs.Book.{Book}
-use Rattle.rules.specs.Reading.{read, readBook}
 use Rattle.rules.specs.Rows.{Row, lateFlows, workUsed, workZero}
 use Rattle.rules.specs.Placing.{Plan, planned, infeasible, rowsOf, plan}
 use Rattle.rules.specs.Table.{tableLength, tableBytes}

@@ -5,7 +5,7 @@ use native.Mathlib.Nat.{add-zero, zero-add, add-suc, add-assoc, mul-assoc, add-m
 use native.Mathlib.Omega.{arith}
 use mathlib.Core.Logic.{_⊎_, inl, inr}
 use mathlib.Core.List.{List, [], _∷_, _++_}
-use lib.ListN.{length, getD, set, length-append, List·getD-append}
+use lib.ListN.{length, set, length-append, List·getD-append}
 use lib.Seq.{getD-append-add, ext-getD, sets}
 use Rattle.rules.specs.Walks.{sumTo, joinFrom}
 use Rattle.rules.specs.Fields.{byte, field, bytesOf, AllBytes}

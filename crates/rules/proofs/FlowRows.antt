@@ -1,21 +1,19 @@
 -- The rows of one flow, laid out by slot and job. Rows that are joined add up; of the rows of a flow, those of one job in one slot are one
 -- row or none. Assumes nothing.
 use mathlib.Core.Path.{_≡_, refl, sym, ap, _∙_}
-use Prim.Native.Nat.{ℕ, zero, suc, _+_, _≤_, _<_, max}
+use Prim.Native.Nat.{ℕ, zero, suc, _+_, _≤_, _<_}
 use mathlib.Core.Bool.{Bool, true, false}
-use mathlib.Core.List.{List, [], _∷_, _++_, List·Memᴰ·tail}
-use mathlib.Core.Logic.{_⊎_, inl, inr}
+use mathlib.Core.List.{List, _++_}
 use native.Mathlib.Omega.{arith}
 use lib.Dec.{eqb}
-use borrow.Author.Tests.{eq-eqb, ne-eqb, eqb-true}
-use Rattle.rules.specs.Walks.{if_then_else_, sumTo, joinFrom}
-use Rattle.rules.specs.Rows.{Row, rowFor, sumWhere, usedIn, finishOf}
-use Rattle.rules.specs.Schedule.{EndsBy, scheduleOf}
-use Rattle.rules.proofs.Division.{lt-or-ge}
+use borrow.Author.Tests.{eq-eqb, ne-eqb}
+use Rattle.rules.specs.Walks.{sumTo, joinFrom}
+use Rattle.rules.specs.Rows.{Row, rowFor, sumWhere, usedIn}
+use Rattle.rules.specs.Schedule.{scheduleOf}
 use Rattle.rules.proofs.Sums.{sum-ext, sum-nothing, sum-one}
 use Rattle.rules.proofs.Walks.{join-last}
-use Rattle.rules.proofs.Rising.{_∈_, first-in, join-in}
-use Rattle.rules.proofs.RowSums.{isAt, at-is, not-at, counted-true, counted-false, sum-where-append}
+use Rattle.rules.proofs.Rising.{_∈_, join-in}
+use Rattle.rules.proofs.RowSums.{isAt, at-is, not-at, sum-where-append}
 use Rattle.rules.proofs.ScheduleRows.{rowWith, row-for-in}
 
 -- ---- sums over rows

@@ -1,7 +1,7 @@
 -- The marked plans A to F of document 01, shown of the rules themselves by one theorem: whole outcomes, with output and work area.
 -- Each field is computed from the definitions. Assumes nothing.
 use mathlib.Core.Path.{_≡_, refl}
-use Prim.Native.Nat.{ℕ, zero, suc, _+_, _*_, _-_, _/_, _%_, _^_}
+use Prim.Native.Nat.{ℕ, zero, suc, _*_, _-_, _/_, _%_, _^_}
 use mathlib.Core.List.{List, [], _∷_, _++_}
 use lib.ListN.{replicate}
 use Rattle.rules.specs.Walks.{sumTo, maxTo, anyTo, allTo, listFrom, joinFrom}

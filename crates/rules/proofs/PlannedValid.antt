@@ -15,7 +15,7 @@ use Rattle.rules.specs.Limits.{slots}
 use Rattle.rules.specs.Book.{Job, Book, flowCount, jobCount, flowOf, jobOf, hasBit, precedes, JobInRange, FlowInRange, InRange}
 use Rattle.rules.specs.Rows.{Row, sumWhere, usedIn, finishOf}
 use Rattle.rules.specs.Schedule.{Schedule, everyFlow, IsJob, Valid, EndsBy, InSlots, scheduleOf}
-use Rattle.rules.specs.Placing.{progress, freeProcessors, slotsFor, planned, placeFirst, rowsOf, plan}
+use Rattle.rules.specs.Placing.{freeProcessors, slotsFor, planned, placeFirst, rowsOf, plan}
 use Rattle.rules.specs.Cut.{amongFirst}
 use Rattle.rules.proofs.Division.{lt-or-ge}
 use Rattle.rules.proofs.Sums.{sum-ext, sum-mono, sum-add, sum-zero, sum-up, sum-quiet}

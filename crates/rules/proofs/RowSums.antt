@@ -4,8 +4,8 @@
 use mathlib.Core.Path.{_≡_, refl, sym, ap, _∙_}
 use mathlib.Core.Logic.{_⊎_, inl, inr}
 use mathlib.Core.Bool.{Bool, true, false, _&&_, and-eq-true-iff, and-false}
-use Prim.Native.Nat.{ℕ, zero, suc, _+_, _≤_, _<_, max}
-use native.Mathlib.Nat.{not-suc-le-zero, lt-suc-self}
+use Prim.Native.Nat.{ℕ, zero, suc, _+_, _≤_, _<_}
+use native.Mathlib.Nat.{not-suc-le-zero}
 use native.Mathlib.Omega.{arith}
 use mathlib.Core.List.{List, [], _∷_, _++_, List·Memᴰ·tail, List·Memᴰ·cases-cons, List·Memᴰ·not-nil}
 use lib.ListN.{length, take, getD}
@@ -18,7 +18,6 @@ use Rattle.rules.specs.Rows.{Row, sumWhere, usedIn, isOf, totalOf, doneB
 use Rattle.rules.specs.Schedule.{inUse, EndsBy, scheduleOf}
 use Rattle.rules.proofs.Division.{lt-or-ge}
 use Rattle.rules.proofs.Sums.{sum-ext, sum-add, sum-zero, sum-one}
-use Rattle.rules.proofs.Walks.{last-or}
 use Rattle.rules.proofs.Rising.{_∈_, first-in}
 
 -- ---- what one row adds

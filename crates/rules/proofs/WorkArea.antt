@@ -1,14 +1,14 @@
 -- Laws of the work area: two bytes per slot hold the use of rows. A pair reads as the use of its slot, and rows in one slot change its pair
 -- alone. The number of slots is a parameter throughout. Assumes nothing.
-use mathlib.Core.Path.{_≡_, refl, sym, ap, ap₂, _∙_}
-use Prim.Native.Nat.{ℕ, zero, suc, _+_, _*_, _-_, _^_, _≤_, _<_}
-use native.Mathlib.Nat.{add-zero, zero-add, add-assoc}
+use mathlib.Core.Path.{_≡_, refl, sym, ap, _∙_}
+use Prim.Native.Nat.{ℕ, zero, suc, _+_, _*_, _-_, _≤_, _<_}
+use native.Mathlib.Nat.{zero-add}
 use native.Mathlib.Omega.{arith}
 use mathlib.Core.List.{List, [], _∷_, _++_, append-assoc}
 use lib.ListN.{length, take, drop, replicate, length-append, length-drop, length-replicate}
 use lib.Seq.{sets, sets-eq, take-at, drop-at}
 use borrow.Author.Tests.{eq-eqb, ne-eqb}
-use Rattle.rules.specs.Walks.{sumTo, joinFrom}
+use Rattle.rules.specs.Walks.{joinFrom}
 use Rattle.rules.specs.Fields.{field, bytesOf}
 use Rattle.rules.specs.Rows.{Row, sumWhere, usedIn, workUsed, workZero}
 use Rattle.rules.proofs.Sums.{sum-ext, sum-const}

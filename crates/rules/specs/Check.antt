@@ -1,8 +1,8 @@
 -- The table check: refusals 14 to 21 in the order of document 01, and a call's answer and work area for every book, table and work area.
 -- Assumes nothing.
 use Prim.Native.Nat.{ℕ, zero, suc, _+_, _*_, _-_, _/_, _%_}
-use mathlib.Core.Bool.{Bool, true, false, not, _&&_, _||_}
-use mathlib.Core.List.{List, [], _∷_}
+use mathlib.Core.Bool.{Bool, true, not, _&&_, _||_}
+use mathlib.Core.List.{List}
 use lib.ListN.{length, take, getD}
 use lib.Dec.{ltb, leb, eqb}
 use Rattle.rules.specs.declared.Verdict.{Verdict}
@@ -12,7 +12,7 @@ use Rattle.rules.specs.Walks.{if_then_else_, anyTo, listFrom}
 use Rattle.rules.specs.Fields.{byte, field}
 use Rattle.rules.specs.Answers.{none, _andThen_, firstFault, checkAccepted, checkRefused}
 use Rattle.rules.specs.Limits.{slots, workBytes}
-use Rattle.rules.specs.Book.{Job, Flow, Book, flowCount, jobCount, flowOf, jobOf, precedes}
+use Rattle.rules.specs.Book.{Book, flowCount, jobCount, flowOf, jobOf, precedes}
 use Rattle.rules.specs.Reading.{Reading, read, unread, readBook}
 use Rattle.rules.specs.Service.{servedBefore}
 use Rattle.rules.specs.Rows.{Row, usedIn, totalOf, doneBefore, finishOf, lateFlows, workUsed, workZero}

@@ -1,17 +1,15 @@
 -- The demands as types: what is owed of the planner and of the table check, for every input. Later files prove them. Assumes nothing.
 use mathlib.Core.Path.{_≡_}
 use mathlib.Core.Logic.{_⊎_}
-use Prim.Native.Nat.{ℕ, _+_, _*_, _≤_, _<_}
+use Prim.Native.Nat.{ℕ, _*_, _≤_, _<_}
 use mathlib.Core.Bool.{Bool, true, _||_}
 use mathlib.Core.List.{List, _++_}
 use lib.ListN.{length, take, drop}
 use lib.Dec.{eqb}
-use Rattle.rules.specs.declared.PlanAnswer.{PlanAnswer}
-use Rattle.rules.specs.declared.CheckAnswer.{CheckAnswer}
 use Rattle.rules.specs.Fields.{AllBytes}
-use Rattle.rules.specs.Answers.{none, checkAccepted}
+use Rattle.rules.specs.Answers.{checkAccepted}
 use Rattle.rules.specs.Limits.{slots, workBytes}
-use Rattle.rules.specs.Book.{Flow, Book, flowCount, flowOf}
+use Rattle.rules.specs.Book.{Book, flowCount, flowOf}
 use Rattle.rules.specs.Reading.{read, readBook, bookBytes}
 use Rattle.rules.specs.Service.{servedBefore}
 use Rattle.rules.specs.Rows.{Row, lateFlows, workZero}

@@ -1,7 +1,7 @@
 -- "Fields are unsigned and big-endian": numbers in bytes, read and written. Assumes nothing.
 use Prim.Native.Nat.{ℕ, zero, suc, _+_, _*_, _/_, _%_, _^_, _<_}
 use mathlib.Core.List.{List, [], _∷_}
-use lib.ListN.{length, getD}
+use lib.ListN.{getD}
 
 -- the byte at i
 abbrev pub byte : List ℕ → ℕ → ℕ

@@ -1,6 +1,5 @@
 -- Rules 4 to 6: placing slot by slot, rows by units, infeasible books. Assumes nothing.
 use Prim.Native.Nat.{ℕ, zero, suc, _+_, _*_, _-_, min}
-use mathlib.Core.Bool.{Bool, true, false}
 use mathlib.Core.List.{List, [], _∷_, _++_}
 use lib.ListN.{take, drop, replicate, getD}
 use lib.Dec.{eqb}

@@ -9,7 +9,7 @@ use Rattle.rules.specs.Answers.{none, planAccepted, planRefused}
 use Rattle.rules.specs.Limits.{slots, workBytes}
 use Rattle.rules.specs.Book.{Book}
 use Rattle.rules.specs.Reading.{Reading, read, unread, readBook}
-use Rattle.rules.specs.Rows.{Row, lateFlows, workUsed, workZero}
+use Rattle.rules.specs.Rows.{lateFlows, workUsed, workZero}
 use Rattle.rules.specs.Placing.{Plan, planned, infeasible, plan}
 use Rattle.rules.specs.Table.{tableLength, tableBytes}
 

@@ -1,8 +1,8 @@
 -- Rows, and what planner and check both read off them: use, totals, finishes, late flows, work area. Assumes nothing.
 use Prim.Native.Nat.{ℕ, zero, suc, _+_, _*_, max}
-use mathlib.Core.Bool.{Bool, true, false, _&&_}
+use mathlib.Core.Bool.{Bool, _&&_}
 use mathlib.Core.List.{List, [], _∷_, _++_}
-use lib.ListN.{length, drop, replicate}
+use lib.ListN.{drop, replicate}
 use lib.Dec.{ltb, eqb}
 use Rattle.rules.specs.Walks.{if_then_else_, countTo, joinFrom}
 use Rattle.rules.specs.Fields.{bytesOf}

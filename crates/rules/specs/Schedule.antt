@@ -7,7 +7,7 @@ use lib.ListN.{getD}
 use lib.Dec.{eqb}
 use Rattle.rules.specs.Walks.{sumTo, joinFrom}
 use Rattle.rules.specs.Limits.{slots}
-use Rattle.rules.specs.Book.{Job, Flow, Book, flowCount, jobCount, flowOf, jobOf, precedes}
+use Rattle.rules.specs.Book.{Book, flowCount, jobCount, flowOf, jobOf, precedes}
 use Rattle.rules.specs.Service.{serviceOrder}
 use Rattle.rules.specs.Rows.{Row, rowFor, isOf, sumWhere}
 use Rattle.rules.specs.Table.{tableBytes}

@@ -1,21 +1,19 @@
 -- 20, 21 and the late flows, turn by turn, and that what the walk handed back gives those of the table. Assumes nothing.
 use mathlib.Core.Path.{_≡_, refl, sym, ap, _∙_}
-use Prim.Native.Nat.{ℕ, zero, suc, _+_, _*_, _≤_, _<_}
-use mathlib.Core.Bool.{Bool, true, false}
+use Prim.Native.Nat.{ℕ, _+_, _≤_, _<_}
 use mathlib.Core.List.{List}
 use native.Mathlib.Numerals.{add-one}
 use native.Mathlib.Omega.{arith}
-use lib.ListN.{length, getD}
-use lib.Dec.{ltb, eqb}
+use lib.ListN.{getD}
+use lib.Dec.{eqb}
 use borrow.Author.Tests.{eq-eqb, ne-eqb}
 use Rattle.rules.specs.declared.Verdict.{Verdict}
 use Rattle.rules.specs.declared.Verdict.the-variants.{Pass, Refused}
-use Rattle.rules.specs.Walks.{if_then_else_, sumTo, bit, countTo}
-use Rattle.rules.specs.Answers.{_andThen_, firstFault}
-use Rattle.rules.specs.Book.{Job, Flow, Book, flowCount, jobCount, flowOf, jobOf, InRange}
-use Rattle.rules.specs.Rows.{Row, totalOf, finishOf, isLate, lateFlows}
-use Rattle.rules.specs.Check.{tableRows, tableHeadFault, rowFault, totalFault, statedFinish, finishFault, tableFault}
-use Rattle.rules.proofs.Sums.{sum-ext}
+use Rattle.rules.specs.Walks.{if_then_else_}
+use Rattle.rules.specs.Answers.{firstFault}
+use Rattle.rules.specs.Book.{Book, flowCount, jobCount, flowOf, jobOf, InRange}
+use Rattle.rules.specs.Rows.{Row, lateFlows}
+use Rattle.rules.specs.Check.{totalFault, statedFinish, finishFault}
 use Rattle.rules.proofs.Faults.{not-pass, fault-stop, fault-next, fault-ext}
 use Rattle.rules.specs.Reading.{bookOf}
 use Rattle.rules.proofs.Passing.{pass-in-range}

@@ -1,18 +1,17 @@
 -- 14 as the code tests it: the length first, then all other parts of the head together. Assumes nothing.
-use mathlib.Core.Path.{_≡_, refl, sym, ap, _∙_}
-use Prim.Native.Nat.{ℕ, _+_, _*_, _-_, _%_, _/_, _^_, _≤_, _<_, zero, suc}
-use mathlib.Core.Bool.{Bool, true, false, not, _||_}
+use mathlib.Core.Path.{_≡_, refl}
+use Prim.Native.Nat.{ℕ, _+_, _*_, _-_, _%_, _^_, _≤_, _<_, zero, suc}
+use mathlib.Core.Bool.{Bool, not, _||_}
 use mathlib.Core.List.{List}
 use native.Mathlib.Nat.{pow-suc}
 use native.Mathlib.Omega.{arith}
 use lib.ListN.{length}
 use lib.Dec.{ltb, eqb}
 use borrow.Author.Tests.{lt-ltb, le-ltb, ltb-false, eqb-true, not-false}
-use Rattle.rules.specs.declared.Verdict.{Verdict}
 use Rattle.rules.specs.declared.Verdict.the-variants.{Pass, Refused}
 use Rattle.rules.specs.Walks.{if_then_else_}
 use Rattle.rules.specs.Fields.{byte, field, AllBytes}
-use Rattle.rules.specs.Book.{Flow, Book, flowCount}
+use Rattle.rules.specs.Book.{Book, flowCount}
 use Rattle.rules.specs.Table.{tableHead, rowLength}
 use Rattle.rules.proofs.Passing.{test-passed, neither-true}
 use Rattle.rules.specs.Check.{tableHeadFault}

@@ -2,22 +2,18 @@
 -- fault is the table's; where all pass, the work area and the late flows are those of the rows. Assumes nothing.
 use mathlib.Core.Path.{_≡_, refl, sym, ap, _∙_}
 use Prim.Native.Nat.{ℕ, _+_, _*_, _≤_, _<_}
-use mathlib.Core.Bool.{Bool, true, false}
 use mathlib.Core.List.{List}
 use native.Mathlib.Omega.{arith}
-use lib.ListN.{length, getD}
-use lib.Dec.{ltb}
+use lib.ListN.{length}
 use borrow.Author.Tests.{lt-ltb, le-ltb}
 use Rattle.rules.specs.declared.Verdict.{Verdict}
 use Rattle.rules.specs.declared.Verdict.the-variants.{Pass, Refused}
-use Rattle.rules.specs.declared.CheckAnswer.{CheckAnswer}
-use Rattle.rules.specs.Walks.{if_then_else_}
 use Rattle.rules.specs.Answers.{_andThen_, firstFault, checkAccepted, checkRefused}
 use Rattle.rules.specs.Limits.{slots, workBytes}
-use Rattle.rules.specs.Book.{Job, Flow, Book, flowCount, jobCount, flowOf}
-use Rattle.rules.specs.Reading.{bookOf, bookFault, readBook, readingOf}
-use Rattle.rules.specs.Rows.{Row, lateFlows, workUsed, workZero}
-use Rattle.rules.specs.Check.{tableRows, tableHeadFault, rowFault, totalFault, finishFault, tableFault, CheckOutcome, checkOutcome, checkReading, checkCall}
+use Rattle.rules.specs.Book.{Book, flowCount, jobCount, flowOf}
+use Rattle.rules.specs.Reading.{bookOf, bookFault, readBook}
+use Rattle.rules.specs.Rows.{workZero}
+use Rattle.rules.specs.Check.{tableRows, tableHeadFault, rowFault, totalFault, finishFault, tableFault, checkOutcome, checkReading, checkCall}
 use Rattle.rules.proofs.Faults.{not-pass, fault-stands}
 use Rattle.rules.proofs.Passing.{pass-in-range}
 use Rattle.book.specs.declared.Index.{Index}

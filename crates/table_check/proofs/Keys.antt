@@ -9,14 +9,14 @@ use native.Mathlib.Nat.{mul-le-mul-right}
 use native.Mathlib.Omega.{arith}
 use lib.ListN.{getD}
 use lib.Dec.{ltb, leb, eqb}
-use borrow.Author.Tests.{lt-ltb, le-ltb, eq-eqb, ne-eqb, ltb-true, ltb-false, eqb-true, eqb-false, le-leb}
+use borrow.Author.Tests.{lt-ltb, le-ltb, eq-eqb, ne-eqb, eqb-true, eqb-false, le-leb}
 use Rattle.rules.specs.Limits.{slots}
-use Rattle.rules.specs.Book.{Flow, Book, flowOf}
+use Rattle.rules.specs.Book.{Book, flowOf}
 use Rattle.rules.specs.Service.{servedBefore}
 use Rattle.rules.specs.Rows.{Row}
 use Rattle.rules.specs.Check.{noRow, rowBefore, rises}
 use Rattle.rules.proofs.Division.{lt-or-ge}
-use Rattle.table_check.specs.Tally.{keyOf, rowKey, leastKey}
+use Rattle.table_check.specs.Tally.{rowKey, leastKey}
 
 -- ---- pairs
 module _ (m a x c y : ℕ) (h : x < m) (l : y < m) where

@@ -1,21 +1,20 @@
 -- A row's verdict, test by test: what the tests in the walk say of it. The tests of 15 and 16, of 17 and 18, and of 19 stand one after the other,
 -- each group counting where those before it pass. Assumes nothing.
 use mathlib.Core.Path.{_≡_, refl, sym, ap, _∙_, subst}
-use Prim.Native.Nat.{ℕ, zero, suc, _+_, _*_, _-_, _/_, _≤_, _<_}
-use mathlib.Core.Bool.{Bool, true, false, not, _&&_, _||_, true≢false}
-use mathlib.Core.Logic.{_⊎_, inl, inr, ⊎-elim}
-use mathlib.Core.List.{List, [], _∷_, _++_}
+use Prim.Native.Nat.{ℕ, _+_, _≤_, _<_}
+use mathlib.Core.Bool.{Bool, true, false, not, _&&_, _||_}
+use mathlib.Core.List.{List}
 use native.Mathlib.Omega.{arith}
-use lib.ListN.{length, getD, take}
+use lib.ListN.{getD, take}
 use lib.Dec.{ltb, leb, eqb}
-use borrow.Author.Tests.{lt-ltb, le-ltb, le-leb, lt-leb, eq-eqb, ne-eqb, ltb-true, ltb-false, leb-true, leb-false, eqb-true, eqb-false, not-false}
+use borrow.Author.Tests.{le-leb, lt-leb, ltb-true, ltb-false, leb-false}
 use Rattle.rules.specs.declared.Verdict.{Verdict}
 use Rattle.rules.specs.declared.Verdict.the-variants.{Pass, Refused}
 use Rattle.rules.specs.Walks.{if_then_else_, anyTo}
 use Rattle.rules.specs.Limits.{slots}
 use Rattle.rules.specs.Answers.{firstFault}
-use Rattle.rules.specs.Book.{Job, Flow, Book, flowCount, jobCount, flowOf, jobOf, hasBit, precedes, InRange}
-use Rattle.rules.specs.Rows.{Row, usedIn, doneBefore, finishOf}
+use Rattle.rules.specs.Book.{Book, flowCount, jobCount, flowOf, jobOf, hasBit, InRange}
+use Rattle.rules.specs.Rows.{Row, usedIn, doneBefore}
 use Rattle.rules.specs.Check.{noRow, rises, lacksPredecessor, rowFault}
 use Rattle.rules.proofs.Walks.{any-ext}
 use Rattle.rules.proofs.Faults.{fault-pass}

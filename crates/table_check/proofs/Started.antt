@@ -2,22 +2,22 @@
 -- are added and slots go on. So the predecessors are asked at a job's first row alone. Assumes nothing.
 use mathlib.Core.Path.{_≡_, refl, sym, ap, _∙_}
 use mathlib.Core.Bool.{Bool, true, false, _&&_, and-eq-true-iff}
-use Prim.Native.Nat.{ℕ, zero, suc, _+_, _≤_, _<_}
-use mathlib.Core.List.{List, []}
+use Prim.Native.Nat.{ℕ, _+_, _≤_, _<_}
+use mathlib.Core.List.{List}
 use native.Mathlib.Omega.{arith}
 use lib.ListN.{length, getD, take, length-take}
 use lib.Seq.{getD-take, take-take}
 use lib.Dec.{ltb, eqb}
-use borrow.Author.Tests.{eqb-true, ltb-true, ltb-false, lt-ltb}
+use borrow.Author.Tests.{eqb-true, ltb-true, lt-ltb}
 use Rattle.rules.specs.declared.Verdict.the-variants.{Pass}
 use Rattle.rules.specs.Walks.{if_then_else_}
 use Rattle.rules.specs.Answers.{firstFault}
-use Rattle.rules.specs.Book.{Job, Book, flowOf, jobOf, precedes}
+use Rattle.rules.specs.Book.{Book, flowOf, jobOf, precedes}
 use Rattle.rules.specs.Rows.{Row, isOf, totalOf, doneBefore, finishOf}
 use Rattle.rules.specs.Check.{noRow, lacksPredecessor, rowFault}
 use Rattle.rules.proofs.Faults.{fault-pass}
-use Rattle.rules.proofs.RowSums.{counted, sum-where-mono, sum-where-met, sum-where-take, finish-above}
-use Rattle.rules.proofs.Rising.{_∈_, in-at}
+use Rattle.rules.proofs.RowSums.{sum-where-mono, sum-where-met, sum-where-take, finish-above}
+use Rattle.rules.proofs.Rising.{in-at}
 use Rattle.rules.proofs.TablePasses.{PredecessorsDone, row-passes, none-lacks}
 
 -- more rows and later slots: no less

@@ -2,21 +2,21 @@
 -- A job is complete from the slot after the one in which its total reaches its size: rows of a flow stand in no falling order of slots, so
 -- before a later slot it has its total, and in the slot itself it still had less. Assumes nothing.
 use mathlib.Core.Path.{_≡_, refl, sym, ap, _∙_, subst}
-use Prim.Native.Nat.{ℕ, zero, suc, _+_, _*_, _-_, _≤_, _<_, max}
-use mathlib.Core.Bool.{Bool, true, false, _&&_, true≢false}
-use mathlib.Core.Logic.{_⊎_, inl, inr, ⊎-elim}
+use Prim.Native.Nat.{ℕ, suc, _+_, _*_, _≤_, _<_}
+use mathlib.Core.Bool.{Bool, true, false, true≢false}
+use mathlib.Core.Logic.{_⊎_, inl, inr}
 use mathlib.Core.List.{List, [], _∷_, _++_}
 use native.Mathlib.Nat.{add-zero}
 use native.Mathlib.Omega.{arith}
-use lib.ListN.{length, getD, set, replicate, length-append, getD-replicate}
+use lib.ListN.{length, getD, set, length-append}
 use lib.Seq.{sets, getD-set-same, getD-set-other}
 use lib.Dec.{ltb, leb, eqb}
-use borrow.Author.Tests.{lt-ltb, le-ltb, le-leb, lt-leb, eq-eqb, ne-eqb, ltb-true, ltb-false, leb-true, leb-false, eqb-true, eqb-false}
+use borrow.Author.Tests.{lt-ltb, le-ltb, eq-eqb, ne-eqb, ltb-true, ltb-false, leb-true, leb-false, eqb-true, eqb-false}
 use Rattle.rules.specs.Walks.{if_then_else_}
 use Rattle.rules.specs.Limits.{slots}
 use Rattle.rules.specs.Fields.{bytesOf}
-use Rattle.rules.specs.Book.{Job, Flow, Book, flowCount, jobCount, flowOf, jobOf, InRange}
-use Rattle.rules.specs.Rows.{Row, sumWhere, usedIn, isOf, totalOf, doneBefore, finishOf, workUsed, workZero}
+use Rattle.rules.specs.Book.{Book, flowCount, jobCount, flowOf, jobOf, InRange}
+use Rattle.rules.specs.Rows.{Row, sumWhere, usedIn, isOf, totalOf, doneBefore, finishOf, workZero}
 use Rattle.rules.proofs.Division.{lt-or-ge}
 use Rattle.rules.proofs.RowsSoFar.{used-last, total-last, done-last, finish-last, done-is-total}
 use Rattle.rules.proofs.RowSums.{done-le-total}

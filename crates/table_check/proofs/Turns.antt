@@ -1,39 +1,38 @@
 -- One turn of the walk in the values of the code: what holds of the locals as a turn begins, what is known of its row once 15 to 18 have passed,
 -- and what each way out of the turn gives. Assumes nothing.
-use mathlib.Core.Path.{_≡_, refl, sym, ap, _∙_, subst}
-use Prim.Native.Nat.{ℕ, zero, suc, _+_, _*_, _-_, _/_, _≤_, _<_}
+use mathlib.Core.Path.{_≡_, refl, sym, ap, _∙_}
+use Prim.Native.Nat.{ℕ, _+_, _*_, _-_, _/_, _≤_, _<_}
 use mathlib.Core.Bool.{Bool, true, false}
-use mathlib.Core.List.{List, [], _∷_, _++_}
+use mathlib.Core.List.{List}
 use native.Mathlib.Numerals.{add-one}
 use native.Mathlib.Omega.{arith}
 use lib.Dec.{ltb}
 use Rattle.rules.specs.Walks.{if_then_else_}
 use borrow.Author.Tests.{ltb-true, ltb-false}
 use lib.ListN.{length, getD, take, set, length-set, length-take}
-use lib.Seq.{sets, length-sets, take-all}
+use lib.Seq.{sets, take-all}
 use Rattle.rules.specs.declared.Verdict.{Verdict}
 use Rattle.rules.specs.declared.Verdict.the-variants.{Pass, Refused}
 use Rattle.rules.specs.Walks.{anyTo}
 use Rattle.rules.specs.Limits.{slots, workBytes}
-use Rattle.rules.specs.Fields.{byte, field, bytesOf, AllBytes}
+use Rattle.rules.specs.Fields.{field, bytesOf, AllBytes}
 use Rattle.rules.specs.Answers.{firstFault}
-use Rattle.rules.specs.Book.{Job, Flow, Book, flowCount, jobCount, flowOf, jobOf, InRange}
+use Rattle.rules.specs.Book.{Job, flowCount, jobCount, flowOf, jobOf, InRange}
 use Rattle.rules.specs.Reading.{flowStart, bookOf, bookFault}
 use Rattle.rules.specs.Rows as rules
 use Rattle.rules.specs.Rows.{usedIn, totalOf, finishOf, workUsed, workZero}
 use Rattle.rules.specs.Table.{tableHead, rowLength, rowAt}
-use Rattle.rules.specs.Check.{noRow, tableRows, tableHeadFault, lacksPredecessor, rowFault}
+use Rattle.rules.specs.Check.{noRow, tableRows, lacksPredecessor, rowFault}
 use Rattle.rules.proofs.Faults.{fault-stop, not-pass}
 use Rattle.rules.proofs.Walks.{any-true}
 use Rattle.rules.proofs.Passing.{pass-in-range}
 use Rattle.rules.proofs.WorkArea.{used-length, used-pair, used-cleared, cleared-twice, cleared-length, used-over-cleared}
 use Rattle.book.specs.declared.Index.{Index}
 use Rattle.book.specs.declared.JobRecord.{JobRecord}
-use Rattle.book.specs.Promise.{Indexed, jobFrom, FlowStands}
+use Rattle.book.specs.Promise.{jobFrom, FlowStands}
 use Rattle.table_check.specs.declared.Row.{Row}
-use Rattle.table_check.specs.declared.Walked.{Walked}
-use Rattle.table_check.specs.Tally.{rowFrom, rowKey, keyOf, leastKey, place, earlyNumber, lateNumber, lacksAt, asked, readyAfter, Tally}
-use Rattle.table_check.specs.Walk.{Ready, Summed, RowsWalked}
+use Rattle.table_check.specs.Tally.{rowFrom, rowKey, keyOf, place, earlyNumber, lateNumber, lacksAt, asked, readyAfter}
+use Rattle.table_check.specs.Walk.{Ready, RowsWalked}
 use Rattle.table_check.proofs.Heads.{head-passes, field-below}
 use Rattle.table_check.proofs.Tallies.{Counts, finish-most}
 use Rattle.table_check.proofs.Started.{started-lacks-none}

@@ -1,24 +1,23 @@
 -- The walk over a table's rows: what holds after k of them, that it holds of none, and that a row that passes its tests is one turn of it.
 -- Assumes nothing.
-use mathlib.Core.Path.{_≡_, refl, sym, ap, _∙_, subst}
-use Prim.Native.Nat.{ℕ, zero, suc, _+_, _*_, _-_, _/_, _≤_, _<_}
-use mathlib.Core.Bool.{Bool, true, false}
+use mathlib.Core.Path.{_≡_, refl, ap, _∙_}
+use Prim.Native.Nat.{ℕ, _+_, _*_, _-_, _/_, _≤_, _<_}
+use mathlib.Core.Bool.{false}
 use mathlib.Core.List.{List, [], _∷_, _++_}
 use native.Mathlib.Omega.{arith}
 use native.Mathlib.Numerals.{add-one}
-use lib.ListN.{length, getD, take, set, length-take}
-use lib.Seq.{sets, take-suc, take-all}
-use Rattle.rules.specs.declared.Verdict.{Verdict}
-use Rattle.rules.specs.declared.Verdict.the-variants.{Pass, Refused}
+use lib.ListN.{length, getD, take, set}
+use lib.Seq.{sets, take-suc}
+use Rattle.rules.specs.declared.Verdict.the-variants.{Pass}
 use Rattle.rules.specs.Limits.{slots}
 use Rattle.rules.specs.Fields.{bytesOf}
 use Rattle.rules.specs.Answers.{firstFault}
-use Rattle.rules.specs.Book.{Job, Flow, Book, flowCount, jobCount, flowOf, jobOf, InRange}
-use Rattle.rules.specs.Rows.{Row, usedIn, totalOf, finishOf, workUsed, workZero}
+use Rattle.rules.specs.Book.{Book, flowOf, jobOf, InRange}
+use Rattle.rules.specs.Rows.{Row, usedIn, totalOf, workZero}
 use Rattle.rules.specs.Table.{tableHead, rowLength, rowAt}
 use Rattle.rules.specs.Check.{noRow, tableRows, lacksPredecessor, rowFault}
 use Rattle.rules.proofs.Walks.{list-length, list-at}
-use Rattle.rules.proofs.Faults.{fault-next, fault-stop, not-pass}
+use Rattle.rules.proofs.Faults.{fault-next}
 use Rattle.table_check.specs.Tally.{rowKey, leastKey, place, readyAfter, Tally}
 use Rattle.table_check.proofs.Tallies.{Counts, tally-none, tally-next}
 use Rattle.table_check.proofs.RowFaults.{EarlyPassed, LatePassed, passed-counts, row-passes}

@@ -12,7 +12,7 @@ use Rattle.rules.specs.Fields.{byte, field}
 use Rattle.rules.specs.Answers.{none}
 use Rattle.rules.specs.Walks.{if_then_else_}
 use Rattle.rules.specs.Limits.{slots}
-use Rattle.rules.specs.Book.{Job, Flow, Book, flowCount, jobCount, flowOf, jobOf, hasBit}
+use Rattle.rules.specs.Book.{Book, flowCount, jobCount, flowOf, jobOf, hasBit}
 use Rattle.rules.specs.Rows as rules
 use Rattle.rules.specs.Rows.{usedIn, totalOf, doneBefore, finishOf, workUsed}
 use Rattle.rules.specs.Check.{noRow}

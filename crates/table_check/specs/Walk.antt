@@ -2,16 +2,15 @@
 -- work area. Assumes nothing.
 use mathlib.Core.Path.{_≡_}
 use Prim.Native.Nat.{ℕ, _≤_, _<_}
-use mathlib.Core.Bool.{Bool}
 use mathlib.Core.List.{List}
 use lib.ListN.{length, getD}
-use lib.Dec.{ltb, eqb}
-use Rattle.rules.specs.Walks.{if_then_else_, countTo}
+use lib.Dec.{eqb}
+use Rattle.rules.specs.Walks.{if_then_else_}
 use Rattle.rules.specs.declared.Verdict.{Verdict}
 use Rattle.rules.specs.declared.Verdict.the-variants.{Pass, Refused}
 use Rattle.rules.specs.Answers.{none, firstFault}
 use Rattle.rules.specs.Limits.{slots, workBytes}
-use Rattle.rules.specs.Book.{Job, Flow, Book, flowCount, jobCount, flowOf, jobOf}
+use Rattle.rules.specs.Book.{Book, flowCount, jobCount, flowOf, jobOf}
 use Rattle.rules.specs.Reading.{bookOf}
 use Rattle.rules.specs.Rows.{Row, totalOf, finishOf, lateFlows, workUsed, workZero}
 use Rattle.rules.specs.Check.{tableRows, tableHeadFault, rowFault, statedFinish, tableFault}

@@ -1,18 +1,14 @@
 // The check of a table against a book.
 ghost use mathlib.Core.Path.{_≡_};
-ghost use mathlib.Core.Bool.{Bool, _&&_, _||_, not};
-ghost use Prim.Native.Nat.{ℕ, _+_, _*_, _<_, _≤_};
-ghost use lib.ListN.{length, getD};
-ghost use lib.Dec.{ltb, leb, eqb};
+ghost use Prim.Native.Nat.{_+_, _*_, _<_, _≤_};
+ghost use lib.ListN.{length};
 ghost use Rattle.rules.specs.declared.Verdict.the-variants.{Pass, Refused};
-ghost use Rattle.rules.specs.Walks.{if_then_else_};
 ghost use Rattle.rules.specs.Limits.{slots, workBytes};
-ghost use Rattle.rules.specs.Book.{Flow, flowCount};
 ghost use Rattle.rules.specs.Table.{rowAt};
 ghost use Rattle.table_check.specs.Tally.{rowFrom, keyOf, headFault, earlyNumber, lateNumber, lacksAt, asked, readyAfter};
-ghost use Rattle.rules.specs.Answers.{firstFault, checkAccepted, checkRefused};
+ghost use Rattle.rules.specs.Answers.{firstFault, checkRefused};
 ghost use Rattle.rules.specs.Reading.{bookOf};
-ghost use Rattle.rules.specs.Check.{CheckOutcome, checkCall};
+ghost use Rattle.rules.specs.Check.{checkCall};
 ghost use Rattle.book.specs.Promise.{Indexed};
 ghost use Rattle.table_check.specs.Walk.{Ready, RowsWalked, totalsFaultBy, finishFaultBy, TableJudged};
 use book::Index;

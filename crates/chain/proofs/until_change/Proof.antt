@@ -1,5 +1,4 @@
 -- `chain::until_change` meets its contract: the four choices give the next cut. Assumes nothing.
-use native.Mathlib.Omega.{arith}
 use borrow.Author.Needs.{needs}
 use Rattle.chain.proofs.Takes.{cut-ahead, change-at-cut}
 use Rattle.chain.proofs.until_change.Statement.{statement}

@@ -1,6 +1,6 @@
 -- One flow, from cut to cut. The invariant is `FlowKept`, that the jobs below `from` have ended, and that the lists are as long as they were; the
 -- measure is what is left of the path. Assumes nothing.
-use mathlib.Core.Path.{_≡_, refl, _∙_}
+use mathlib.Core.Path.{_≡_, refl}
 use Prim.Native.Nat.{_-_}
 use lib.ListN.{length}
 use Rattle.rules.specs.Reading.{bookOf}

@@ -1,5 +1,4 @@
 -- One flow: its values are read out, and its lists are those that the cuts are placed by. Assumes nothing.
-use native.Mathlib.Omega.{arith}
 use mathlib.Core.Path.{_≡_}
 use lib.ListN.{length}
 use Rattle.place.proofs.FlowLoop.{chain-asked, limit-held, flow-held}

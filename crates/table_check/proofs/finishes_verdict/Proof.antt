@@ -1,5 +1,5 @@
 -- `table_check::finishes_verdict` meets its contract. The invariant: the flows so far pass. The measure is the flows left. Assumes nothing.
-use mathlib.Core.Path.{_≡_, sym, _∙_}
+use mathlib.Core.Path.{_≡_, sym}
 use Prim.Native.Nat.{_-_, _≤_}
 use Rattle.rules.specs.declared.Verdict.the-variants.{Pass}
 use Rattle.rules.specs.Answers.{firstFault}

@@ -2,7 +2,6 @@
 -- Assumes nothing.
 use Rattle.table_check.proofs.Finals.{index-flows}
 use Rattle.table_check.proofs.Judging.{head-stops, walk-ready, finishes-inside, rows-stop, totals-stop, finishes-stop, judgement-ends}
-use native.Mathlib.Omega.{arith}
 use borrow.Author.Needs.{needs}
 use Rattle.table_check.proofs.judge_table.Statement.{statement}
 use Rattle.table_check.proofs.judge_table.Tie as tie

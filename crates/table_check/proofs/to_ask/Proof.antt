@@ -1,4 +1,3 @@
-use mathlib.Core.Path.{refl}
 use borrow.Author.Tests.{lt-ltb, le-ltb}
 use Rattle.table_check.specs.Tally.{asked}
 use Rattle.table_check.proofs.to_ask.Statement.{statement}

@@ -1,10 +1,10 @@
 -- `table_check::totals_verdict` meets its contract. The invariants: the flows so far pass, and the jobs so far of this flow. The measures are the
 -- flows and the jobs left. Assumes nothing.
-use mathlib.Core.Path.{_≡_, sym, ap, _∙_}
-use Prim.Native.Nat.{ℕ, _-_, _≤_, _<_}
+use mathlib.Core.Path.{_≡_, _∙_}
+use Prim.Native.Nat.{_-_, _≤_, _<_}
 use Rattle.rules.specs.declared.Verdict.the-variants.{Pass}
 use Rattle.rules.specs.Answers.{firstFault}
-use Rattle.rules.specs.Book.{Flow, jobCount, flowOf}
+use Rattle.rules.specs.Book.{jobCount, flowOf}
 use Rattle.rules.specs.Reading.{bookOf}
 use Rattle.book.specs.Promise.{FlowStands}
 use Rattle.table_check.specs.Walk.{totalFaultBy}

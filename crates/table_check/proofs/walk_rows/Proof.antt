@@ -1,13 +1,12 @@
 use mathlib.Core.Path.{_≡_, refl, sym, ap, _∙_}
-use mathlib.Core.Bool.{true, false}
+use mathlib.Core.Bool.{false}
 use Prim.Native.Nat.{ℕ, _*_, _-_, _≤_, _<_}
-use lib.ListN.{length, getD, length-replicate, getD-replicate}
+use lib.ListN.{getD, length-replicate, getD-replicate}
 use Rattle.rules.specs.declared.Verdict.the-variants.{Pass}
 use Rattle.rules.specs.Walks.{anyTo}
 use Rattle.rules.specs.Fields.{AllBytes}
 use Rattle.table_check.specs.Tally.{place, lacksAt, asked}
 use Rattle.table_check.proofs.Turns.{Known, Begun, Turn, none-tested, one-tested, all-tested, asked-most, all-asked, ready-flows, ready-head, slot-inside, known-of, begun-none, work-long, unknown-stops, early-stops, stands, job-inside, late-asks, late-stops, turn-of, flow-few, job-few, slot-few, at-inside, use-fits, total-fits, lacks-stops, begun-next, walk-stops, walk-ends}
-use borrow.Author.Needs.{needs}
 use native.Mathlib.Omega.{arith}
 use Rattle.table_check.proofs.walk_rows.Statement.{statement}
 use Rattle.table_check.proofs.walk_rows.Tie as tie

@@ -6,7 +6,7 @@ use borrow.Author.Fill.{fill-more}
 use lib.ListN.{length, replicate, drop}
 use mathlib.Core.List.{List, _++_}
 use mathlib.Core.Path.{_≡_, ap, subst, _∙_}
-use Prim.Native.Nat.{_≤_, _-_, _+_}
+use Prim.Native.Nat.{_≤_, _-_}
 use native.Mathlib.Omega.{arith}
 use borrow.Author.Needs.{needs}
 use Rattle.rules.specs.Rows.{workZero}
