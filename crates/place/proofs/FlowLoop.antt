@@ -30,7 +30,7 @@ use Rattle.chain.proofs.Cuts.{run-input, parts-counted}
 use Rattle.place.specs.declared.Current.{Current}
 use Rattle.place.specs.declared.Placed.{Placed}
 use Rattle.place.specs.declared.Placed.the-variants.{To, Infeasible}
-use Rattle.place.specs.Service.{packed, Serving, pseudoJob}
+use Rattle.place.specs.Service.{Packs, Serving, pseudoJob}
 use Rattle.place.specs.Flows.{standing, Beside, rowsUpTo, Underway, UnderwayBy, WorkLeft, RunPlaced, RunAnswer, newRows, FlowDone, FlowInfeasible, FlowHeld}
 use Rattle.place.proofs.OneSlot.{finish-nothing}
 use Rattle.place.proofs.Serving.{takes-within}
@@ -219,7 +219,7 @@ module _ {s : List ℕ} {f : ℕ} {caps starts ends lasts firsts : List ℕ} {co
         amount-within (λ i. takeOf (flowOf (bookOf s) f) i t) _ names takes (r .parts) 4096 (run-here .parts) (takes-within s f t (h .passes) (h .flow-in)) q l
 
     pub serving-at : (rows : List ℕ) → P ≡ bookOf s .processors → count ≤ length names → count ≤ length takes → count ≤ length rows →
-        ((q : ℕ) → q < r .parts → getD rows q 0 ≡ packed f (getD names q 0) (getD takes q 0)) → Serving s (currentAt t P r) names takes rows
+        ((q : ℕ) → q < r .parts → Packs (getD rows q 0) f (getD names q 0) (getD takes q 0)) → Serving s (currentAt t P r) names takes rows
     serving-at rows e names-whole takes-whole rows-whole packs = record {
       passes = h .passes;
       flow-in = h .flow-in;

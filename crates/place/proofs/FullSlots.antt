@@ -18,9 +18,8 @@ use Rattle.place.specs.declared.Current.{Current}
 use Rattle.place.specs.Service.{Serving, currentFlow, pseudoJob, packedRow, packedRows, jobRows}
 use Rattle.place.proofs.OneSlot.{rowsOfSlot, slot-rows-none, slot-rows-next}
 use Rattle.place.proofs.Output.{row-for-some, row-for-none}
-use Rattle.place.proofs.Packed.{packed-row, packed-rows-none, packed-rows-next}
+use Rattle.place.proofs.Packed.{packed-rows-none, packed-rows-next}
 use Rattle.chain.proofs.Parts.{parts-none, parts-some, parts-nothing, part-before}
-use Rattle.place.proofs.Serving.{flow-within, jobs-within, take-within}
 use Rattle.place.proofs.SlotRows.{rows-below-all}
 
 share-is-take : (w : Flow) (p : PseudoJob) (i done : ℕ) → 0 < rate w p → done + rate w p ≤ work w p → i < jobCount w →
@@ -44,10 +43,9 @@ module _ {s : List ℕ} {c : Current} {names takes rows : List ℕ} (v : Serving
   row-packed : (j : ℕ) → j < jobCount w → 0 < take j → packedRow t (getD rows (partsBelow take j) 0) ∷ [] ≡ rowFor t (c .flow) j (take j)
   row-packed j l some =
       rw (
-        v .rows-are (partsBelow take j) (omega (arith, v .parts .count, part-before take j (jobCount w) l some)),
+        v .rows-are (partsBelow take j) (omega (arith, v .parts .count, part-before take j (jobCount w) l some)) t,
         v .parts .name j l some,
         v .parts .amount j l some,
-        packed-row t (c .flow) j (take j) (omega (arith, flow-within v)) (omega (arith, jobs-within v)) (omega (arith, take-within v j l)),
       )
       (sym (row-for-some t (c .flow) j (take j) (λ e. omega arith)))
 

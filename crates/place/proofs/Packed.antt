@@ -14,7 +14,7 @@ use Rattle.rules.specs.Table.{rowBytes}
 use Rattle.rules.proofs.Walks.{join-last}
 use Rattle.book.proofs.Stores.{row-stores}
 use Rattle.place.specs.Output.{Put}
-use Rattle.place.specs.Service.{packed, packedRow, packedRows}
+use Rattle.place.specs.Service.{Packs, packedRow, packedRows}
 use Rattle.place.proofs.Output.{put-one, put-more, put-rows-too-far}
 
 -- ---- one row
@@ -26,12 +26,12 @@ bytes-of-packed v f j h l hf hj hh e =
     let after-job : v / 65536 ≡ h + 256 * l = omega arith in
     (omega arith, rw after-flow (omega arith), rw after-job (omega arith), omega arith)
 
-pub packed-row : (t f j n : ℕ) → f < 256 → j < 256 → n < 65536 → packedRow t (packed f j n) ≡ record { slot = t; flow = f; job = j; processors = n }
-unfolding packed packedRow
-packed-row t f j n hf hj hn =
-    let v = bytes-of-packed _ f j (n / 256) (n % 256) hf hj (omega arith) refl in
+pub packed-row : (v f j n : ℕ) → f < 256 → j < 256 → n < 65536 → v ≡ f + 256 * j + 65536 * (n / 256) + 16777216 * (n % 256) → Packs v f j n
+unfolding packedRow
+packed-row v f j n hf hj hn e t =
+    let b = bytes-of-packed v f j (n / 256) (n % 256) hf hj (omega arith) e in
     let processors : 256 * (n / 256) + n % 256 ≡ n = omega arith in
-    rw (v .0, v .1, v .2, v .3, processors) refl
+    rw (b .0, b .1, b .2, b .3, processors) refl
 
 -- its bytes, stored one by one
 two-stores : (s : List ℕ) (at h l : ℕ) → h < 256 → l < 256 → sets s (at + 4) (bytesOf 2 (256 * h + l)) ≡ set (set s (at + 4) h) (at + 5) l

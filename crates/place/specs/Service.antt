@@ -21,13 +21,13 @@ currentFlow s c = flowOf (bookOf s) (c .flow)
 abbrev pub pseudoJob : Current → PseudoJob
 pseudoJob c = record { first = c .first; width = c .width }
 
--- the four bytes of a row after its slot, as one number of which the lowest byte comes first: flow, job and processors
-unfoldable pub packed : ℕ → ℕ → ℕ → ℕ
-packed f j n = f + 256 * j + 65536 * (n / 256) + 16777216 * (n % 256)
-
--- the row of slot t with these four bytes
+-- the row of slot t whose four bytes after the slot, flow, job and processors, are those of a number, the lowest first
 unfoldable pub packedRow : ℕ → ℕ → Row
 packedRow t v = record { slot = t; flow = v % 256; job = v / 256 % 256; processors = 256 * (v / 65536 % 256) + v / 16777216 }
+
+-- the number holds the row of job j of flow f with n processors, whatever the slot
+abbrev pub Packs : ℕ → ℕ → ℕ → ℕ → Type 0
+Packs v f j n = (t : ℕ) → packedRow t v ≡ record { slot = t; flow = f; job = j; processors = n }
 
 -- the values that the code holds are those of the book in these bytes, which passes
 pub record Serving (s : List ℕ) (c : Current) (names takes rows : List ℕ) : Type 0 where
@@ -41,7 +41,7 @@ pub record Serving (s : List ℕ) (c : Current) (names takes rows : List ℕ) : 
   pub names-whole : c .parts ≤ length names
   pub takes-whole : c .parts ≤ length takes
   pub rows-whole : c .parts ≤ length rows
-  pub rows-are : (q : ℕ) → q < c .parts → getD rows q 0 ≡ packed (c .flow) (getD names q 0) (getD takes q 0)
+  pub rows-are : (q : ℕ) → q < c .parts → Packs (getD rows q 0) (c .flow) (getD names q 0) (getD takes q 0)
 
 -- the units of one job among n units from the o-th of a slot on, where its own begin at `offset` in each slot
 abbrev pub overlaps : ℕ → ℕ → ℕ → ℕ → ℕ → ℕ

@@ -12,7 +12,7 @@ ghost use Rattle.rules.specs.Book.{flowOf};
 ghost use Rattle.rules.specs.Placing.{slotsFor};
 ghost use Rattle.place.specs.Flows.{SlotServed, RunAnswer, FlowHeld, FlowPlaced};
 ghost use Rattle.place.specs.Output.{Put};
-ghost use Rattle.place.specs.Service.{Serving, currentFlow, pseudoJob, packed, packedRow, packedRows, jobRows, overlaps};
+ghost use Rattle.place.specs.Service.{Serving, currentFlow, pseudoJob, Packs, packedRow, packedRows, jobRows, overlaps};
 use book::bytes;
 
 pub mod planner;
@@ -88,7 +88,7 @@ pub fn put_share(
 // The four bytes of a job's row after its slot, as one number, so that they are written at once.
 pub fn pack(flow: u8, job: u8, take: u32) -> u32
     requires { ⌜ take ≤ 4096 ⌝ }
-    ensures { λ r. ⌜ r ≡ packed flow job take ⌝ }
+    ensures { λ r. ⌜ Packs r flow job take ⌝ }
 {
     (flow as u32) + 256 * (job as u32) + 65536 * (take / 256) + 16777216 * (take % 256)
 }
@@ -96,7 +96,7 @@ pub fn pack(flow: u8, job: u8, take: u32) -> u32
 // The rows of a pseudo-job's parts in a slot in which each has its take, without the slot.
 pub fn pack_parts(flow: u8, names: &[u8], takes: &[u32], parts: usize, rows: &mut [u32])
     requires { ⌜ (parts ≤ length (now names)) × (parts ≤ length (now takes)) × (parts ≤ length (now rows)) × ((q : ℕ) → q < parts → getD (now takes) q 0 ≤ 4096) ⌝ }
-    ensures { λ _. ⌜ ((q : ℕ) → q < parts → getD (now (rows .exit)) q 0 ≡ packed flow (getD (now (names .entry)) q 0) (getD (now (takes .entry)) q 0)) ⌝ }
+    ensures { λ _. ⌜ ((q : ℕ) → q < parts → Packs (getD (now (rows .exit)) q 0) flow (getD (now (names .entry)) q 0) (getD (now (takes .entry)) q 0)) ⌝ }
 {
     let mut q: usize = 0;
     while q < parts {

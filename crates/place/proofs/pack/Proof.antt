@@ -1,5 +1,7 @@
--- The four bytes of a row after its slot in one number, as the definition adds them. Assumes nothing.
-use Rattle.place.specs.Service.{packed}
+-- The four bytes of a row after its slot in one number: what stands in it is the row. Assumes nothing.
+use native.Mathlib.Omega.{arith}
+use mathlib.Core.Path.{refl}
+use Rattle.place.proofs.Packed.{packed-row}
 use borrow.Author.Needs.{needs}
 use Rattle.place.proofs.pack.Statement.{statement}
 use Rattle.place.proofs.pack.Tie as tie
@@ -23,8 +25,7 @@ add-result-3 : tie.Need-add-result-3
 add-result-3 c = search needs
 
 returns : tie.Need-returns
-unfolding packed
-returns c = search needs
+returns c = packed-row _ (c .args .flow) (c .args .job) (c .args .take) (c .fits .flow .fits) (c .fits .job .fits) (omega (arith, c .pre)) refl
 
 pub pack-spec : {M : Type 1} → statement M
 pack-spec =

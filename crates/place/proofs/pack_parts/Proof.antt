@@ -1,23 +1,26 @@
 -- The parts' rows, packed one after the other. The loop's invariant: those of the parts below q are. Assumes nothing.
-use mathlib.Core.Path.{_≡_}
+use mathlib.Core.Path.{_≡_, refl}
 use Prim.Native.Nat.{ℕ, _-_, _≤_, _<_}
 use lib.ListN.{length, getD, length-set}
-use Rattle.book.proofs.Filled.{values-next}
-use Rattle.place.specs.Service.{packed}
+use lib.Seq.{getD-set-same, getD-set-other}
+use Rattle.rules.proofs.Walks.{last-or}
+use Rattle.place.specs.Service.{Packs}
 use borrow.Author.Needs.{needs}
+use native.Mathlib.Nat.{not-suc-le-zero}
+use native.Mathlib.Numerals.{add-one}
 use native.Mathlib.Omega.{arith}
 use Rattle.place.proofs.pack_parts.Statement.{statement}
 use Rattle.place.proofs.pack_parts.Tie as tie
 
 abbrev Inv-loop : tie.InvT-loop
 Inv-loop flow names takes parts rows₀ q₀ rows q =
-    (q ≤ parts) × (length rows ≡ length rows₀) × ((i : ℕ) → i < q → getD rows i 0 ≡ packed flow (getD names i 0) (getD takes i 0))
+    (q ≤ parts) × (length rows ≡ length rows₀) × ((i : ℕ) → i < q → Packs (getD rows i 0) flow (getD names i 0) (getD takes i 0))
 
 abbrev μ-loop : tie.MeasureT-loop
 μ-loop flow names takes parts rows₀ q₀ rows q = parts - q
 
 loop-holds : tie.Need-loop-holds Inv-loop μ-loop
-loop-holds c = search needs
+loop-holds c = (omega arith, refl, λ i h. absurd (not-suc-le-zero h))
 
 shared-slice-read-pack : tie.Need-shared-slice-read-pack Inv-loop μ-loop
 shared-slice-read-pack c = search needs
@@ -50,8 +53,8 @@ loop-again c =
     let l = c .before .before .before .before .loop in (
       omega arith,
       simp length-set (l .inv .1),
-      values-next (λ i. packed (a .flow) (getD (a .names .now) i 0) (getD (a .takes .now) i 0)) (l .rows) (l .q) (c .pack .result) (search needs)
-          (c .pack .ensures) (l .inv .2),
+      λ i h. last-or i (l .q) (rw add-one at h) (λ e. rw (e, getD-set-same (l .rows) (l .q) (c .pack .result) 0 (search needs)) (c .pack .ensures))
+          (λ b. rw (getD-set-other (l .rows) (l .q) i (c .pack .result) 0 (λ e. omega arith)) (l .inv .2 i b)),
     )
 
 same-length : tie.Need-same-length Inv-loop μ-loop
