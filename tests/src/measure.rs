@@ -1,7 +1,8 @@
 //! Timing for the benchmarks: two ways of doing the same, run in turn, with the
-//! median of each. What counts is the processor time of this thread, so that
-//! other programs on the machine disturb little.
+//! median of each and of how they compare. What counts is the processor time of
+//! this thread, so that other programs on the machine disturb little.
 
+use std::cmp::Ordering;
 use std::time::Duration;
 
 #[repr(C)]
@@ -32,18 +33,14 @@ fn thread_time() -> Duration {
 pub struct Medians {
     pub proved: Duration,
     pub baseline: Duration,
+    /// How many times as long the proved one takes, each round by itself: the
+    /// pace of the machine changes from round to round.
+    pub ratio: f64,
 }
 
-impl Medians {
-    /// How many times as long the proved one takes.
-    pub fn ratio(&self) -> f64 {
-        self.proved.as_secs_f64() / self.baseline.as_secs_f64()
-    }
-}
-
-fn median(mut times: Vec<Duration>) -> Duration {
-    times.sort_unstable();
-    times[times.len() / 2]
+fn median<T: Copy>(mut values: Vec<T>, order: impl Fn(&T, &T) -> Ordering) -> T {
+    values.sort_unstable_by(order);
+    values[values.len() / 2]
 }
 
 fn time(calls: u32, run: &mut dyn FnMut()) -> Duration {
@@ -69,8 +66,11 @@ pub fn in_turn(
         of_proved.push(time(calls, proved));
         of_baseline.push(time(calls, baseline));
     }
+    let rounds = of_proved.iter().zip(&of_baseline);
+    let ratios = rounds.map(|(proved, baseline)| proved.as_secs_f64() / baseline.as_secs_f64());
     Medians {
-        proved: median(of_proved),
-        baseline: median(of_baseline),
+        ratio: median(ratios.collect(), f64::total_cmp),
+        proved: median(of_proved, Duration::cmp),
+        baseline: median(of_baseline, Duration::cmp),
     }
 }

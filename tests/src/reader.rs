@@ -59,15 +59,18 @@ pub fn predecessors(precedence: u64) -> impl Iterator<Item = usize> {
     })
 }
 
+#[inline]
 pub fn be16(bytes: &[u8], at: usize) -> u32 {
     u32::from(u16::from_be_bytes([bytes[at], bytes[at + 1]]))
 }
 
+#[inline]
 pub fn be32(bytes: &[u8], at: usize) -> u32 {
     u32::from_be_bytes([bytes[at], bytes[at + 1], bytes[at + 2], bytes[at + 3]])
 }
 
-fn be64(bytes: &[u8], at: usize) -> u64 {
+#[inline]
+pub fn be64(bytes: &[u8], at: usize) -> u64 {
     u64::from(be32(bytes, at)) << 32 | u64::from(be32(bytes, at + 4))
 }
 

@@ -1,9 +1,13 @@
 //! The table check, written a second time from the rules. `check` walks the
-//! rows once and is the baseline of speed; `check_by_definition` looks back
-//! over all earlier rows for each row and is held against it in the tests.
+//! rows once, allocates nothing and is the baseline of speed;
+//! `check_by_definition` looks back over all earlier rows for each row and is
+//! held against it in the tests.
 
 use crate::answer::{CheckAnswer, Refusal, NONE, SLOTS, WORK_BYTES};
-use crate::reader::{be16, be32, predecessors, read_book, Book};
+use crate::reader::{
+    be16, be32, be64, read_book, Book, BOOK_HEAD, FLOW_HEAD, JOB_RECORD, MOST_DEADLINE, MOST_FLOWS,
+    MOST_JOBS, MOST_PROCESSORS, MOST_SIZE,
+};
 
 /// Bytes of the table's head, of one finish and of one row.
 pub const TABLE_HEAD: usize = 8;
@@ -28,135 +32,300 @@ fn row_at(rows: &[u8]) -> Row {
     }
 }
 
-/// What is known of one job while its rows are walked.
+type Records<'a> = &'a [[u8; JOB_RECORD]];
+type Rows<'a> = &'a [[u8; ROW]];
+type Use = [[u8; 2]; SLOTS];
+
+/// A book that passed 1 to 10, read where it lies.
+struct Index<'a> {
+    processors: u32,
+    flows: usize,
+    deadlines: [u16; MOST_FLOWS],
+    records: [Records<'a>; MOST_FLOWS],
+}
+
+/// One job of the flow whose rows are walked, with the sum of its rows so far.
 #[derive(Clone, Copy)]
 struct Ledger {
+    size: u32,
+    cap: u16,
+    precedence: u64,
     total: u32,
-    last_slot: u32,
-    last_take: u32,
+}
+
+const BLANK: Ledger = Ledger {
+    size: 0,
+    cap: 0,
+    precedence: 0,
+    total: 0,
+};
+
+/// The complete jobs of that flow, as bits: those that were so before `slot`, and
+/// those that `slot` itself completed.
+struct Complete {
+    slot: u16,
+    earlier: u64,
+    here: u64,
+}
+
+impl Complete {
+    /// The jobs that are complete before a slot. Slots never fall.
+    fn before(&mut self, slot: u16) -> u64 {
+        if slot != self.slot {
+            self.earlier |= self.here;
+            self.here = 0;
+            self.slot = slot;
+        }
+        self.earlier
+    }
+
+    fn add(&mut self, slot: u16, job: u8) {
+        self.before(slot);
+        self.here |= 1 << job;
+    }
+}
+
+/// What is kept of each flow: its finish, and the first job whose total is off.
+/// A flow without rows is off at job 0.
+struct Tally {
+    finishes: [u16; MOST_FLOWS],
+    off: [Option<u8>; MOST_FLOWS],
 }
 
 /// Checks a table against a book. On acceptance the work area holds the use of
 /// each slot; a refusal after 11 zeroes it.
 pub fn check(book: &[u8], table: &[u8], work: &mut [u8]) -> CheckAnswer {
-    let book = match read_book(book) {
+    let book = match index(book) {
         Ok(book) => book,
         Err(refusal) => return CheckAnswer::refused(refusal),
     };
-    if work.len() < WORK_BYTES {
+    let Some(work) = work.first_chunk_mut::<WORK_BYTES>() else {
         return CheckAnswer::refused(Refusal::of_all(11));
-    }
-    let mut used = [0u16; SLOTS];
-    match walk(&book, table, &mut used) {
-        Ok(late) => {
-            for (pair, &in_use) in work[..WORK_BYTES].chunks_exact_mut(2).zip(&used) {
-                pair.copy_from_slice(&in_use.to_be_bytes());
-            }
-            CheckAnswer::accepted(late)
-        }
+    };
+    work.fill(0);
+    match walk(&book, table, work) {
+        Ok(late) => CheckAnswer::accepted(late),
         Err(refusal) => {
-            work[..WORK_BYTES].fill(0);
+            work.fill(0);
             CheckAnswer::refused(refusal)
         }
     }
 }
 
+/// 1 to 10, and the index of a book that passes.
+fn index(bytes: &[u8]) -> Result<Index<'_>, Refusal> {
+    let Some((head, mut rest)) = bytes.split_first_chunk::<BOOK_HEAD>() else {
+        return Err(Refusal::of_all(1));
+    };
+    if be32(head, 0) as usize != bytes.len() {
+        return Err(Refusal::of_all(1));
+    }
+    if head[4] != 1 {
+        return Err(Refusal::of_all(2));
+    }
+    let processors = be16(head, 5);
+    if !(1..=MOST_PROCESSORS).contains(&processors) {
+        return Err(Refusal::of_all(3));
+    }
+    let flows = head[7] as usize;
+    if flows > MOST_FLOWS {
+        return Err(Refusal::of_all(4));
+    }
+    let mut book = Index {
+        processors,
+        flows,
+        deadlines: [0; MOST_FLOWS],
+        records: [&[]; MOST_FLOWS],
+    };
+    for flow in 0..flows {
+        let Some((head, jobs)) = rest.split_first_chunk::<FLOW_HEAD>() else {
+            return Err(Refusal::new(5, flow as u8, NONE));
+        };
+        let deadline = be16(head, 0);
+        if !(1..=MOST_DEADLINE).contains(&deadline) {
+            return Err(Refusal::new(6, flow as u8, NONE));
+        }
+        let count = head[2] as usize;
+        if !(1..=MOST_JOBS).contains(&count) {
+            return Err(Refusal::new(7, flow as u8, NONE));
+        }
+        let (records, _) = jobs.as_chunks::<JOB_RECORD>();
+        let records = &records[..count.min(records.len())];
+        records_fit(flow as u8, processors, records)?;
+        if records.len() < count {
+            return Err(Refusal::new(5, flow as u8, records.len() as u8));
+        }
+        book.deadlines[flow] = deadline as u16;
+        book.records[flow] = records;
+        rest = &jobs[JOB_RECORD * count..];
+    }
+    if !rest.is_empty() {
+        return Err(Refusal::of_all(5));
+    }
+    Ok(book)
+}
+
+/// 8, 9, 10 for each job record.
+fn records_fit(flow: u8, processors: u32, records: Records) -> Result<(), Refusal> {
+    for (job, record) in records.iter().enumerate() {
+        let refuse = |number| Err(Refusal::new(number, flow, job as u8));
+        if !(1..=MOST_SIZE).contains(&be32(record, 0)) {
+            return refuse(8);
+        }
+        if !(1..=processors).contains(&be16(record, 4)) {
+            return refuse(9);
+        }
+        if be64(record, 6) >> job != 0 {
+            return refuse(10);
+        }
+    }
+    Ok(())
+}
+
 /// Refusal 14: the head, the finishes and the length of the rows.
-fn head_fits(book: &Book, table: &[u8]) -> bool {
-    let rows_from = TABLE_HEAD + FINISH * book.flows.len();
+fn head_fits(processors: u32, flows: usize, table: &[u8]) -> bool {
+    let rows_from = TABLE_HEAD + FINISH * flows;
     table.len() >= rows_from
         && be32(table, 0) as usize == table.len()
         && table[4] == 1
-        && be16(table, 5) == book.processors
-        && table[7] as usize == book.flows.len()
+        && be16(table, 5) == processors
+        && table[7] as usize == flows
         && (table.len() - rows_from).is_multiple_of(ROW)
 }
 
-fn walk(book: &Book, table: &[u8], used: &mut [u16; SLOTS]) -> Result<u8, Refusal> {
-    if !head_fits(book, table) {
+/// 14 to 21, and the late flows of a table that passes. Rows of a flow stand
+/// together, so ledgers are kept of one flow at a time.
+fn walk(book: &Index, table: &[u8], work: &mut [u8; WORK_BYTES]) -> Result<u8, Refusal> {
+    if !head_fits(book.processors, book.flows, table) {
         return Err(Refusal::of_all(14));
     }
-    let mut rank = [0u32; 64];
-    for (place, flow) in book.service_order().into_iter().enumerate() {
-        rank[flow] = place as u32;
-    }
-    let fresh = Ledger {
-        total: 0,
-        last_slot: u32::MAX,
-        last_take: 0,
+    let (used, _) = work.as_chunks_mut::<2>();
+    let used: &mut Use = used.try_into().expect("two bytes to a slot");
+    let (stated, rows) = table[TABLE_HEAD..].split_at(FINISH * book.flows);
+    let (mut rows, _) = rows.as_chunks::<ROW>();
+    let mut tally = Tally {
+        finishes: [0; MOST_FLOWS],
+        off: [Some(0); MOST_FLOWS],
     };
-    let mut ledgers: Vec<Vec<Ledger>> = book
-        .flows
-        .iter()
-        .map(|flow| vec![fresh; flow.jobs.len()])
-        .collect();
-    let mut finishes = [0u32; 64];
-    let mut before: Option<u64> = None;
+    let mut ledgers = [BLANK; MOST_JOBS];
+    let mut before = None;
 
-    let rows_from = TABLE_HEAD + FINISH * book.flows.len();
-    for row in table[rows_from..].chunks_exact(ROW) {
-        let row = row_at(row);
-        let refuse = |number| Err(Refusal::new(number, row.flow, row.job));
-        let (flow, job) = (row.flow as usize, row.job as usize);
-        let (slot, take) = (u32::from(row.slot), u32::from(row.take));
+    while let Some(&[_, _, flow, ..]) = rows.first() {
+        // A flow that is not in the book has no jobs: 15 at its first row.
+        let at = flow as usize % MOST_FLOWS;
+        let known = (flow as usize) < book.flows;
+        let records = if known { book.records[at] } else { &[] };
+        // A flow that is not after the one before it: 16 at its first row.
+        let service = Some((book.deadlines[at], flow));
+        let least = if service > before { 0 } else { u32::MAX };
+        let ledgers = open(records, &mut ledgers);
+        let finish;
+        (finish, rows) = walk_flow(flow, least, book.processors, ledgers, used, rows)?;
+        tally.finishes[at] = finish;
+        tally.off[at] = first_off(ledgers);
+        before = service;
+    }
+    close(book, &tally, stated)
+}
 
-        if slot as usize >= SLOTS
-            || flow >= book.flows.len()
-            || job >= book.flows[flow].jobs.len()
-            || take == 0
-        {
+/// Fresh ledgers for the jobs of a flow.
+fn open<'a>(records: Records, ledgers: &'a mut [Ledger; MOST_JOBS]) -> &'a mut [Ledger] {
+    for (ledger, record) in ledgers.iter_mut().zip(records) {
+        *ledger = Ledger {
+            size: be32(record, 0),
+            cap: be16(record, 4) as u16,
+            precedence: be64(record, 6),
+            total: 0,
+        };
+    }
+    &mut ledgers[..records.len()]
+}
+
+/// The first job whose total is off.
+fn first_off(ledgers: &[Ledger]) -> Option<u8> {
+    let off = ledgers.iter().position(|job| job.total != job.size);
+    off.map(|job| job as u8)
+}
+
+/// 15 to 19 for the rows of one flow, with which `rows` begins; the flow's finish
+/// and the rows behind it. The next row's place, by slot and job, is at least
+/// `least`.
+fn walk_flow<'a>(
+    flow: u8,
+    mut least: u32,
+    processors: u32,
+    ledgers: &mut [Ledger],
+    used: &mut Use,
+    rows: Rows<'a>,
+) -> Result<(u16, Rows<'a>), Refusal> {
+    let mut complete = Complete {
+        slot: 0,
+        earlier: 0,
+        here: 0,
+    };
+    let mut finish = 0;
+    let mut rows = rows.iter();
+    while let Some(&[slot_high, slot_low, of, job, take_high, take_low]) = rows.as_slice().first() {
+        if of != flow {
+            break;
+        }
+        let refuse = |number| Err(Refusal::new(number, flow, job));
+        let slot = u16::from_be_bytes([slot_high, slot_low]);
+        let take = u16::from_be_bytes([take_high, take_low]);
+
+        let Some(used) = used.get_mut(slot as usize) else {
+            return refuse(15);
+        };
+        let Some(ledger) = ledgers.get_mut(job as usize) else {
+            return refuse(15);
+        };
+        if take == 0 {
             return refuse(15);
         }
-        let place = u64::from(rank[flow]) << 32 | u64::from(slot) << 8 | job as u64;
-        if before.is_some_and(|before| place <= before) {
+        let place = u32::from(slot) << 8 | u32::from(job);
+        if place < least {
             return refuse(16);
         }
-        before = Some(place);
-
-        let record = &book.flows[flow].jobs[job];
-        if take > record.cap {
+        least = place + 1;
+        if take > ledger.cap {
             return refuse(17);
         }
-        let in_use = u32::from(used[slot as usize]) + take;
-        if in_use > book.processors {
+        let in_use = u32::from(u16::from_be_bytes(*used)) + u32::from(take);
+        if in_use > processors {
             return refuse(18);
         }
-        used[slot as usize] = in_use as u16;
+        *used = (in_use as u16).to_be_bytes();
 
-        let ledgers = &mut ledgers[flow];
-        for earlier in predecessors(record.precedence) {
-            let ledger = &ledgers[earlier];
-            let same_slot = if ledger.last_slot == slot {
-                ledger.last_take
-            } else {
-                0
-            };
-            if ledger.total - same_slot < book.flows[flow].jobs[earlier].size {
-                return refuse(19);
-            }
+        // Asked at a job's first row only: what is complete then stays so.
+        if ledger.total == 0 && ledger.precedence & !complete.before(slot) != 0 {
+            return refuse(19);
         }
-        let ledger = &mut ledgers[job];
-        ledger.total += take;
-        ledger.last_slot = slot;
-        ledger.last_take = take;
-        finishes[flow] = slot + 1;
+        let had = ledger.total;
+        ledger.total += u32::from(take);
+        if ledger.total >= ledger.size && had < ledger.size {
+            complete.add(slot, job);
+        }
+        finish = slot + 1;
+        rows.next();
     }
+    Ok((finish, rows.as_slice()))
+}
 
-    for (flow, record) in book.flows.iter().enumerate() {
-        for (job, record) in record.jobs.iter().enumerate() {
-            if ledgers[flow][job].total != record.size {
-                return Err(Refusal::new(20, flow as u8, job as u8));
-            }
+/// 20, 21 and the late flows.
+fn close(book: &Index, tally: &Tally, stated: &[u8]) -> Result<u8, Refusal> {
+    for (flow, off) in tally.off[..book.flows].iter().enumerate() {
+        if let Some(job) = *off {
+            return Err(Refusal::new(20, flow as u8, job));
         }
     }
     let mut late = 0;
-    for (flow, record) in book.flows.iter().enumerate() {
-        if be16(table, TABLE_HEAD + FINISH * flow) != finishes[flow] {
+    let (stated, _) = stated.as_chunks::<FINISH>();
+    let flows = tally.finishes.iter().zip(&book.deadlines).zip(stated);
+    for (flow, ((&finish, &deadline), stated)) in flows.enumerate() {
+        if u16::from_be_bytes(*stated) != finish {
             return Err(Refusal::new(21, flow as u8, NONE));
         }
-        if finishes[flow] > record.deadline {
-            late += 1;
-        }
+        late += u8::from(finish > deadline);
     }
     Ok(late)
 }
@@ -198,7 +367,7 @@ fn done_before(rows: &[Row], flow: u8, job: u8, slot: u32) -> u32 {
 }
 
 fn judge(book: &Book, table: &[u8]) -> Result<(u8, Vec<Row>), Refusal> {
-    if !head_fits(book, table) {
+    if !head_fits(book.processors, book.flows.len(), table) {
         return Err(Refusal::of_all(14));
     }
     let order = book.service_order();

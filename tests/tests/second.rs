@@ -6,10 +6,11 @@ use flowplan_tests::books::{self, encode_book};
 use flowplan_tests::marked;
 use flowplan_tests::reader::{read_book, Book};
 use flowplan_tests::rng::Rng;
+use flowplan_tests::second_check::Row;
 use flowplan_tests::second_planner::{
     chain, chain_by_change_points, chain_by_slots, critical_path, schedule, PseudoJob,
 };
-use flowplan_tests::tables;
+use flowplan_tests::tables::{self, Table};
 use flowplan_tests::{fast_planner, second_check, second_planner};
 
 #[test]
@@ -217,18 +218,82 @@ fn one_pass_check_is_the_one_by_definition() {
                 _ => tables::damaged(&mut rng, &book, &table),
             };
             let room = WORK_BYTES + rng.index(9) - usize::from(rng.chance(1, 32));
-            let mut work = [vec![5; room], vec![5; room]];
-            let one_pass = second_check::check(&bytes, &table, &mut work[0]);
-            let literal = second_check::check_by_definition(&bytes, &table, &mut work[1]);
-            assert_eq!(one_pass, literal);
-            assert!(work[0] == work[1]);
-            met[one_pass.number as usize] += 1;
+            met[number_of_both(&bytes, &table, room) as usize] += 1;
         }
     }
     println!("numbers met by the checks: {met:?}");
     for number in [0, 11, 14, 15, 16, 17, 18, 19, 20, 21] {
         assert!(met[number] > 0, "number {number} was never met");
     }
+}
+
+/// Every row of a table moved to every place, taken out together with every
+/// other, and put in every place once more, faulty or as it is: flows come back
+/// after others, and several have a job whose total is off.
+#[test]
+fn one_pass_check_of_rows_out_of_place() {
+    let mut rng = Rng::new(8);
+    let mut met = [0u32; 22];
+    let mut tables = 0;
+    while tables < 40 {
+        let book = books::tiny_book(&mut rng);
+        let Some(table) = tables::delayed_table(&mut rng, &book) else {
+            continue;
+        };
+        if book.flows.len() < 2 || table.rows.len() > 24 {
+            continue;
+        }
+        tables += 1;
+        let bytes = encode_book(&book);
+        let mut hold = |rows: Vec<Row>| {
+            let finishes = table.finishes.clone();
+            let table = Table { finishes, rows }.encode(&book);
+            met[number_of_both(&bytes, &table, WORK_BYTES) as usize] += 1;
+        };
+        for (from, &row) in table.rows.iter().enumerate() {
+            let mut others = table.rows.clone();
+            others.remove(from);
+            for to in 0..others.len() {
+                let mut moved = others.clone();
+                moved.insert(to, row);
+                hold(moved);
+                let mut fewer = others.clone();
+                fewer.remove(to);
+                hold(fewer);
+            }
+            let jobs = &book.flows[row.flow as usize].jobs;
+            for fault in 0..6 {
+                let mut again = row;
+                match fault {
+                    0 => again.slot = 8_192,
+                    1 => again.flow = book.flows.len() as u8,
+                    2 => again.job = jobs.len() as u8,
+                    3 => again.take = 0,
+                    4 => again.take = jobs[row.job as usize].cap as u16 + 1,
+                    _ => {}
+                }
+                for to in 0..=table.rows.len() {
+                    let mut more = table.rows.clone();
+                    more.insert(to, again);
+                    hold(more);
+                }
+            }
+        }
+    }
+    println!("numbers met by rows out of place: {met:?}");
+    for number in [0, 15, 16, 17, 19, 20] {
+        assert!(met[number] > 0, "number {number} was never met");
+    }
+}
+
+/// The number that both checks answer; all else must be equal too.
+fn number_of_both(book: &[u8], table: &[u8], room: usize) -> u8 {
+    let mut work = [vec![5; room], vec![5; room]];
+    let one_pass = second_check::check(book, table, &mut work[0]);
+    let literal = second_check::check_by_definition(book, table, &mut work[1]);
+    assert_eq!(one_pass, literal);
+    assert!(work[0] == work[1]);
+    one_pass.number
 }
 
 /// On tiny books every valid schedule that ends each flow by its deadline is

@@ -5,12 +5,13 @@
 //! before left, as a dispatcher would lend it.
 
 use flowplan_tests::answer::{CheckAnswer, WORK_BYTES};
-use flowplan_tests::books::{encode_book, layered_book};
-use flowplan_tests::marked;
+use flowplan_tests::books::{self, encode_book, layered_book};
 use flowplan_tests::measure::in_turn;
-use flowplan_tests::reader::{Book, Flow, Job};
-use flowplan_tests::{fast_planner, linked, second_check};
+use flowplan_tests::reader::{read_book, Book, Flow, Job};
+use flowplan_tests::rng::Rng;
+use flowplan_tests::{fast_planner, linked, marked, second_check, tables};
 use std::hint::black_box;
+use std::time::Duration;
 
 /// Jobs in `layers` layers of `width`, each after all jobs of the layer before,
 /// `slots` slots to a layer.
@@ -34,6 +35,20 @@ fn waiting_book(flows: usize, layers: usize, width: usize, slots: u32) -> Book {
     Book {
         processors: (flows * width) as u32,
         flows: vec![flow; flows],
+    }
+}
+
+/// A drawn book of several flows, with jobs that wait for others, whose table
+/// has some hundred rows.
+fn usual_book(rng: &mut Rng) -> Book {
+    loop {
+        let book = books::usual_book(rng);
+        let mut jobs = book.flows.iter().flat_map(|flow| &flow.jobs);
+        let waits = jobs.any(|job| job.precedence != 0);
+        let rows = tables::planned_table(&book).map_or(0, |table| table.rows.len());
+        if book.flows.len() > 3 && waits && (100..=500).contains(&rows) {
+            return book;
+        }
     }
 }
 
@@ -63,30 +78,67 @@ fn measure(name: &str, book: &Book, rounds: usize, calls: u32) {
         },
     );
     assert!(works[0] == works[1]);
+    let (unit, per_second) = match medians.proved.max(medians.baseline) {
+        small if small < Duration::from_millis(1) => ("us", 1e6),
+        _ => ("ms", 1e3),
+    };
+    let shown = |time: Duration| {
+        let (time, rows) = (time.as_secs_f64(), rows as f64);
+        let million_rows = rows / time / 1e6;
+        format!(
+            "{:.3} {unit}, {million_rows:.1} million rows/s",
+            time * per_second
+        )
+    };
     println!(
-        "{name}: {rows} rows; proved {:.3} ms, {:.1} million rows/s; second {:.3} ms, {:.1} million rows/s; ratio {:.2}",
-        medians.proved.as_secs_f64() * 1e3,
-        rows as f64 / medians.proved.as_secs_f64() / 1e6,
-        medians.baseline.as_secs_f64() * 1e3,
-        rows as f64 / medians.baseline.as_secs_f64() / 1e6,
-        medians.ratio()
+        "{name}: {rows} rows; proved {}; second {}; ratio {:.2}",
+        shown(medians.proved),
+        shown(medians.baseline),
+        medians.ratio
     );
 }
 
 fn main() {
     println!("table check, proved beside second; ratio above 1: the proved one takes longer");
     println!("medians of calls in turn; the work area is not cleared between calls");
-    let book_a = flowplan_tests::reader::read_book(&marked::BOOK_A).expect("book A");
-    measure("book A", &book_a, 15, 2_000);
+    println!("small tables:");
+    let book_a = read_book(&marked::BOOK_A).expect("book A");
+    measure("  book A", &book_a, 31, 1_000);
+    let free = layered_book(8, 4, 12);
+    measure("  free jobs, 8 flows of 4", &free, 31, 500);
+    let free = layered_book(30, 3, 2);
+    measure("  free jobs, 30 flows of 3", &free, 31, 500);
+    let waiting = waiting_book(4, 4, 4, 6);
+    measure("  4 predecessors each, 4 flows of 16", &waiting, 31, 500);
+    let mut rng = Rng::new(11);
+    for _ in 0..3 {
+        measure("  usual book", &usual_book(&mut rng), 31, 500);
+    }
+    println!("large tables:");
     measure(
-        "free jobs, a million rows",
+        "  free jobs, a million rows",
         &layered_book(64, 16, 1_024),
         15,
         1,
     );
-    measure("4 predecessors each", &waiting_book(64, 16, 4, 256), 15, 1);
-    measure("16 predecessors each", &waiting_book(64, 4, 16, 256), 15, 1);
-    measure("32 predecessors each", &waiting_book(64, 2, 32, 256), 15, 1);
+    measure(
+        "  4 predecessors each",
+        &waiting_book(64, 16, 4, 256),
+        15,
+        1,
+    );
+    measure(
+        "  16 predecessors each",
+        &waiting_book(64, 4, 16, 256),
+        15,
+        1,
+    );
+    measure(
+        "  32 predecessors each",
+        &waiting_book(64, 2, 32, 256),
+        15,
+        1,
+    );
     println!("growth with rows, free jobs:");
     for slots in [16, 64, 256, 1_024, 4_096] {
         measure("  64 flows of 16 jobs", &layered_book(64, 16, slots), 7, 1);

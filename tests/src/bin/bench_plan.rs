@@ -41,7 +41,7 @@ fn measure(outputs: &mut Outputs, name: &str, book: &Book, rounds: usize, calls:
         expected.number,
         medians.proved.as_secs_f64() * 1e3,
         medians.baseline.as_secs_f64() * 1e3,
-        medians.ratio()
+        medians.ratio
     );
 }
 
