@@ -10,6 +10,7 @@ pub mod linked;
 pub mod linked_plan;
 pub mod marked;
 pub mod measure;
+pub mod painted;
 pub mod reader;
 pub mod rng;
 pub mod second_check;

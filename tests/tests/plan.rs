@@ -205,24 +205,6 @@ fn largest_table() {
     assert!(checked == work);
 }
 
-/// Both calls on a full book, in a thread whose whole stack is the 256 KiB that
-/// a call may take.
-#[test]
-fn small_stack() {
-    let book = encode_book(&books::layered_book(64, 64, 64));
-    let calls = move || {
-        let mut output = vec![0; 2_000_000];
-        let mut work = vec![0; WORK_BYTES];
-        let planned = linked_plan::plan(&book, &mut output, &mut work);
-        assert_eq!(planned.number, 0);
-        let table = &output[..planned.length as usize];
-        let checked = linked::check(&book, table, &mut work);
-        assert_eq!(checked, CheckAnswer::accepted(planned.late));
-    };
-    let thread = std::thread::Builder::new().stack_size(256 * 1024);
-    thread.spawn(calls).expect("a thread").join().expect("both calls");
-}
-
 /// A million short inputs: damaged small books and bytes that are hardly one.
 #[test]
 fn short_and_damaged_inputs() {

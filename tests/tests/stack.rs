@@ -1,0 +1,192 @@
+//! How much stack one call takes: on a full book, on book A, and on either
+//! damaged so that each of the numbers refuses it.
+
+use flowplan_tests::answer::WORK_BYTES;
+use flowplan_tests::books::{self, encode_book};
+use flowplan_tests::painted::stack_of;
+use flowplan_tests::reader::{read_book, Book};
+use flowplan_tests::rng::Rng;
+use flowplan_tests::tables::{self, Table};
+use flowplan_tests::{fast_planner, linked, linked_plan, marked, second_check};
+use std::hint::black_box;
+use std::ops::RangeInclusive;
+
+/// The bytes that a call may take.
+const CHECK_STACK: usize = 16 * 1024;
+const PLAN_STACK: usize = 20 * 1024;
+
+/// A book that can be planned, with its table.
+struct Case {
+    name: &'static str,
+    book: Book,
+    table: Table,
+}
+
+/// A full book, with jobs that wait for each other, and book A.
+fn cases(rng: &mut Rng) -> [Case; 2] {
+    let case = |name, book| {
+        let table = tables::planned_table(&book)?;
+        Some(Case { name, book, table })
+    };
+    let full = (0..100).find_map(|_| case("full book", books::full_book(rng)));
+    let book_a = case("book A", read_book(&marked::BOOK_A).expect("book A"));
+    [full.expect("feasible"), book_a.expect("feasible")]
+}
+
+/// One drawn input for each of the numbers that it may be refused by.
+fn one_of_each(
+    numbers: RangeInclusive<u8>,
+    mut draw: impl FnMut() -> Vec<u8>,
+    mut number_of: impl FnMut(&[u8]) -> u8,
+) -> Vec<Vec<u8>> {
+    let mut missing: Vec<u8> = numbers.collect();
+    let mut inputs = Vec::new();
+    for _ in 0..20_000 {
+        let input = draw();
+        let number = number_of(&input);
+        if missing.contains(&number) {
+            missing.retain(|&other| other != number);
+            inputs.push(input);
+        }
+        if missing.is_empty() {
+            return inputs;
+        }
+    }
+    panic!("numbers {missing:?} were never met");
+}
+
+/// Damaged copies of the book, refused by 1 to 10.
+fn damaged_books(rng: &mut Rng, case: &Case) -> Vec<Vec<u8>> {
+    let intact = encode_book(&case.book);
+    let draw = || {
+        let mut bytes = intact.clone();
+        books::damage_book(rng, &mut bytes);
+        bytes
+    };
+    let number_of = |bytes: &[u8]| read_book(bytes).map_or_else(|refusal| refusal.number, |_| 0);
+    one_of_each(1..=10, draw, number_of)
+}
+
+/// Damaged copies of the table, refused by 14 to 21.
+fn damaged_tables(rng: &mut Rng, case: &Case) -> Vec<Vec<u8>> {
+    let book = encode_book(&case.book);
+    let mut work = vec![0; WORK_BYTES];
+    let draw = || tables::damaged(rng, &case.book, &case.table);
+    let number_of = |table: &[u8]| second_check::check(&book, table, &mut work).number;
+    one_of_each(14..=21, draw, number_of)
+}
+
+/// The book with a flow that is infeasible, the last in service order.
+fn infeasible(case: &Case) -> Vec<u8> {
+    let mut book = case.book.clone();
+    let last = *book.service_order().last().expect("a flow");
+    let flow = &mut book.flows[last];
+    flow.jobs[0].size = 2 * flow.deadline + 1;
+    flow.jobs[0].cap = 1;
+    encode_book(&book)
+}
+
+/// A number that a call answered, and the stack that it took.
+type Seen = (u8, usize);
+
+/// One proved check, whose answer must be the second one's.
+fn check(book: &[u8], table: &[u8], work: usize) -> Seen {
+    let mut work = vec![0x5a; work];
+    let expected = second_check::check(book, table, &mut work);
+    let mut answer = None;
+    let stack = stack_of(&mut || answer = Some(linked::check(book, table, &mut work)));
+    assert_eq!(answer, Some(expected));
+    (expected.number, stack)
+}
+
+/// One proved plan, whose answer must be the fast planner's.
+fn plan(book: &[u8], output: usize, work: usize) -> Seen {
+    let mut output = vec![0x5a; output];
+    let mut work = vec![0x5a; work];
+    let expected = fast_planner::plan(book, &mut output, &mut work);
+    let mut answer = None;
+    let stack = stack_of(&mut || answer = Some(linked_plan::plan(book, &mut output, &mut work)));
+    assert_eq!(answer, Some(expected));
+    (expected.number, stack)
+}
+
+/// Prints what the calls on one book took and gives the most. Each number must
+/// have been answered once.
+fn most_of(call: &str, mut seen: Vec<Seen>, numbers: impl Iterator<Item = u8>) -> usize {
+    seen.sort_unstable();
+    assert!(seen.iter().map(|&(number, _)| number).eq(numbers));
+    let listed: Vec<String> = seen
+        .iter()
+        .map(|(n, stack)| format!("{n}: {stack}"))
+        .collect();
+    println!("{call}, bytes of stack by number: {}", listed.join(", "));
+    seen.iter().map(|&(_, stack)| stack).max().expect("calls")
+}
+
+#[test]
+fn check_in_little_stack() {
+    let mut rng = Rng::new(0x5eed_0004);
+    let mut most = 0;
+    for case in cases(&mut rng) {
+        let book = encode_book(&case.book);
+        let table = case.table.encode(&case.book);
+        let mut seen = vec![
+            check(&book, &table, WORK_BYTES),
+            check(&book, &table, WORK_BYTES - 1),
+        ];
+        for damaged in damaged_books(&mut rng, &case) {
+            seen.push(check(&damaged, &table, WORK_BYTES));
+        }
+        for damaged in damaged_tables(&mut rng, &case) {
+            seen.push(check(&book, &damaged, WORK_BYTES));
+        }
+        let call = format!("check of {}", case.name);
+        most = most.max(most_of(&call, seen, (0..=11).chain(14..=21)));
+    }
+    println!("check: at most {most} bytes of stack");
+    assert!(most <= CHECK_STACK, "{most} is above {CHECK_STACK}");
+}
+
+#[test]
+fn planner_in_little_stack() {
+    let mut rng = Rng::new(0x5eed_0005);
+    let mut most = 0;
+    for case in cases(&mut rng) {
+        let book = encode_book(&case.book);
+        let length = case.table.encode(&case.book).len();
+        let mut seen = vec![
+            plan(&book, length, WORK_BYTES),
+            plan(&book, length, WORK_BYTES - 1),
+            plan(&book, length - 1, WORK_BYTES),
+            plan(&infeasible(&case), length, WORK_BYTES),
+        ];
+        for damaged in damaged_books(&mut rng, &case) {
+            seen.push(plan(&damaged, length, WORK_BYTES));
+        }
+        let call = format!("plan of {}", case.name);
+        most = most.max(most_of(&call, seen, 0..=13));
+    }
+    println!("plan: at most {most} bytes of stack");
+    assert!(most <= PLAN_STACK, "{most} is above {PLAN_STACK}");
+}
+
+const KNOWN_STACK: usize = 64 * 1024;
+
+#[inline(never)]
+fn takes_known_stack() {
+    let mut room = [0x5a_u8; KNOWN_STACK];
+    black_box(&mut room);
+}
+
+/// The measuring itself: nothing is seen as nothing, and a known stack as at
+/// least that, each time alike.
+#[test]
+fn known_stack_is_seen() {
+    assert_eq!(stack_of(&mut || ()), 0);
+    let seen = stack_of(&mut takes_known_stack);
+    println!("{KNOWN_STACK} bytes of stack are seen as {seen}");
+    assert!((KNOWN_STACK..2 * KNOWN_STACK).contains(&seen));
+    for _ in 0..20 {
+        assert_eq!(stack_of(&mut takes_known_stack), seen);
+    }
+}
