@@ -6,21 +6,23 @@ use native.Mathlib.Numerals.{add-one}
 use native.Mathlib.Omega.{arith}
 use lib.ListN.{getD}
 use lib.Dec.{eqb}
-use borrow.Author.Tests.{eq-eqb, ne-eqb}
+use borrow.Author.Tests.{lt-ltb, le-ltb, eq-eqb, ne-eqb}
 use Rattle.rules.specs.declared.Verdict.{Verdict}
 use Rattle.rules.specs.declared.Verdict.the-variants.{Pass, Refused}
 use Rattle.rules.specs.Walks.{if_then_else_}
 use Rattle.rules.specs.Answers.{firstFault}
 use Rattle.rules.specs.Book.{Book, flowCount, jobCount, flowOf, jobOf, InRange}
-use Rattle.rules.specs.Rows.{Row, lateFlows}
+use Rattle.rules.specs.Rows.{Row, totalOf, lateFlows}
 use Rattle.rules.specs.Check.{totalFault, statedFinish, finishFault}
 use Rattle.rules.proofs.Faults.{not-pass, fault-stop, fault-next, fault-ext}
 use Rattle.rules.specs.Reading.{bookOf}
 use Rattle.rules.proofs.Passing.{pass-in-range}
 use Rattle.book.specs.declared.Index.{Index}
-use Rattle.book.specs.Promise.{Indexed, FlowStands}
-use Rattle.table_check.specs.Tally.{place}
-use Rattle.table_check.specs.Walk.{Summed, totalFaultBy, totalsFaultBy, finishFaultBy}
+use Rattle.book.specs.Promise.{Indexed}
+use Rattle.table_check.specs.declared.row.Current.{Current}
+use Rattle.table_check.specs.Tests.{offFault}
+use Rattle.table_check.specs.Tally.{CurrentFlow}
+use Rattle.table_check.specs.Walk.{flowTotals, Closed, totalFaultBy, offsFault, finishFaultBy}
 use Rattle.book.specs.Late.{lateCount}
 use Rattle.book.proofs.LateFlows.{late-counted}
 
@@ -39,43 +41,46 @@ module _ (g : ℕ → Verdict) where
   pub stopped : (k n m f j : ℕ) → k < n → firstFault g k ≡ Pass → g k ≡ Refused m f j → firstFault g n ≡ Refused m f j
   stopped k n m f j h e d = fault-stop g n k (Refused m f j) h (not-pass m f j) e d
 
--- ---- what an index says of its flows
-module _ {s : List ℕ} {x : Index} (indexed : Indexed s x) where
-  pub index-flows : x .flows ≤ 64
-  index-flows = omega (arith, indexed .flows, pass-in-range s (indexed .passes) .flows-most)
+pub index-flows : {s : List ℕ} {x : Index} → Indexed s x → x .flows ≤ 64
+index-flows {s} indexed = omega (arith, indexed .flows, pass-in-range s (indexed .passes) .flows-most)
 
-  pub index-stands : (f : ℕ) → f < x .flows → FlowStands s f (getD (x .starts) f 0)
-  index-stands f h =
-      let l : f < flowCount (bookOf s) = omega (arith, indexed .flows) in
-      record { passes = indexed .passes; flow-in = l; start-at = indexed .starts f l }
-
-  pub index-jobs : (f : ℕ) → f < x .flows → (getD (x .jobs) f 0 ≡ jobCount (flowOf (bookOf s) f)) × (jobCount (flowOf (bookOf s) f) ≤ 64)
-  index-jobs f h =
-      let l : f < flowCount (bookOf s) = omega (arith, indexed .flows) in
-      (indexed .jobs f l, pass-in-range s (indexed .passes) .each-flow f l .jobs-most)
+pub few-jobs : {s : List ℕ} {c : Current} → CurrentFlow s c → c .jobs ≤ 64
+few-jobs {s} {c} current =
+    omega (arith, current .jobs, pass-in-range s (current .stands .passes) .each-flow (c .flow) (current .stands .flow-in) .jobs-most)
 
 -- ---- one turn
-module _ (b : Book) (totals : List ℕ) (f i v : ℕ) (v-is : v ≡ jobOf (flowOf b f) i .size) where
-  pub total-right : getD totals (place f i) 0 ≡ v → totalFaultBy b totals f i ≡ Pass
+module _ (b : Book) (f : ℕ) (totals : List ℕ) (i job v : ℕ) (job-is : i ≡ job) (v-is : v ≡ jobOf (flowOf b f) i .size) where
+  size-is : v ≡ jobOf (flowOf b f) job .size
+  size-is = rw job-is at v-is
+
+  pub total-right : getD totals i 0 ≡ v → totalFaultBy b f totals job ≡ Pass
   unfolding totalFaultBy
-  total-right e = rw (eq-eqb (getD totals (place f i) 0) (jobOf (flowOf b f) i .size) (e ∙ v-is)) refl
+  total-right e = rw (eq-eqb (getD totals job 0) (jobOf (flowOf b f) job .size) (ap (λ (k : ℕ). getD totals k 0) (sym job-is) ∙ e ∙ size-is)) refl
 
-  pub total-wrong : (getD totals (place f i) 0 ≡ v → ⊥) → totalFaultBy b totals f i ≡ Refused 20 f i
+  pub total-wrong : (getD totals i 0 ≡ v → ⊥) → totalFaultBy b f totals job ≡ Refused 20 f job
   unfolding totalFaultBy
-  total-wrong n = rw (ne-eqb (getD totals (place f i) 0) (jobOf (flowOf b f) i .size) (λ e. n (e ∙ sym v-is))) refl
+  total-wrong n =
+      rw (ne-eqb (getD totals job 0) (jobOf (flowOf b f) job .size) (λ e. n (ap (λ (k : ℕ). getD totals k 0) job-is ∙ e ∙ sym size-is))) refl
 
-pub totals-stop : (b : Book) (totals : List ℕ) (f i : ℕ) → f < flowCount b → i < jobCount (flowOf b f) →
-    firstFault (λ g. firstFault (totalFaultBy b totals g) (jobCount (flowOf b g))) f ≡ Pass → firstFault (totalFaultBy b totals f) i ≡ Pass →
-    totalFaultBy b totals f i ≡ Refused 20 f i → Refused 20 f i ≡ totalsFaultBy b totals
-unfolding totalsFaultBy
-totals-stop b totals f i h l e d q =
-    sym (stopped (λ g. firstFault (totalFaultBy b totals g) (jobCount (flowOf b g))) f (flowCount b) 20 f i h e
-    (stopped (totalFaultBy b totals f) i (jobCount (flowOf b f)) 20 f i l d q))
+pub off-found : (f i : ℕ) → i < 64 → offFault f i ≡ Refused 20 f i
+unfolding offFault
+off-found f i h = rw (lt-ltb i 64 h) refl
 
-pub totals-pass : (b : Book) (totals : List ℕ) (f : ℕ) → f ≤ flowCount b → flowCount b ≤ f →
-    firstFault (λ g. firstFault (totalFaultBy b totals g) (jobCount (flowOf b g))) f ≡ Pass → Pass ≡ totalsFaultBy b totals
-unfolding totalsFaultBy
-totals-pass b totals f h l e = sym (all-walked (λ g. firstFault (totalFaultBy b totals g) (jobCount (flowOf b g))) f (flowCount b) h l e)
+pub off-none : (f i : ℕ) → 64 ≤ i → offFault f i ≡ Pass
+unfolding offFault
+off-none f i h = rw (le-ltb i 64 h) refl
+
+-- a flow is closed: by the first job that is off, or by none
+module _ (b : Book) (f : ℕ) (totals : List ℕ) (jobs : ℕ) (jobs-are : jobs ≡ jobCount (flowOf b f)) (few : jobs ≤ 64) where
+  pub closes-off : (job : ℕ) → job < jobs → firstFault (totalFaultBy b f totals) job ≡ Pass → totalFaultBy b f totals job ≡ Refused 20 f job →
+      offFault f job ≡ firstFault (totalFaultBy b f totals) (jobCount (flowOf b f))
+  closes-off job h e d =
+      off-found f job (omega arith) ∙ sym (stopped (totalFaultBy b f totals) job (jobCount (flowOf b f)) 20 f job (omega arith) e d)
+
+  pub closes-right : (job : ℕ) → job ≤ jobs → jobs ≤ job → firstFault (totalFaultBy b f totals) job ≡ Pass →
+      offFault f 64 ≡ firstFault (totalFaultBy b f totals) (jobCount (flowOf b f))
+  closes-right job h l e =
+      off-none f 64 (omega arith) ∙ sym (all-walked (totalFaultBy b f totals) job (jobCount (flowOf b f)) (omega arith) (omega arith) e)
 
 module _ (table finish : List ℕ) (f v : ℕ) (v-is : v ≡ statedFinish table f) where
   pub finish-right : v ≡ getD finish f 0 → finishFaultBy table finish f ≡ Pass
@@ -86,22 +91,28 @@ module _ (table finish : List ℕ) (f v : ℕ) (v-is : v ≡ statedFinish table 
   unfolding finishFaultBy
   finish-wrong n = rw (ne-eqb (statedFinish table f) (getD finish f 0) (λ e. n (v-is ∙ e))) refl
 
+-- ---- the totals of a flow give its verdict
+pub flow-totals : (b : Book) (f : ℕ) (soFar : List Row) (totals : List ℕ) → jobCount (flowOf b f) ≤ 64 →
+    ((i : ℕ) → i < 64 → getD totals i 0 ≡ totalOf soFar f i) →
+    firstFault (totalFaultBy b f totals) (jobCount (flowOf b f)) ≡ flowTotals b soFar f
+unfolding flowTotals totalFaultBy totalFault
+flow-totals b f soFar totals few total =
+    fault-ext (totalFaultBy b f totals) (totalFault b soFar f) (jobCount (flowOf b f))
+    (λ i l. ap (λ (n : ℕ). if eqb n (jobOf (flowOf b f) i .size) then Pass else Refused 20 f i) (total i (omega arith)))
+
 -- ---- the table's own
-module _ (b : Book) (range : InRange b) (rows : List Row) (before after totals finish : List ℕ) (summed : Summed rows before after totals finish) where
-  pub totals-same : totalsFaultBy b totals ≡ firstFault (λ f. firstFault (totalFault b rows f) (jobCount (flowOf b f))) (flowCount b)
-  unfolding totalsFaultBy totalFaultBy totalFault
-  totals-same =
-      fault-ext (λ f. firstFault (totalFaultBy b totals f) (jobCount (flowOf b f))) (λ f. firstFault (totalFault b rows f) (jobCount (flowOf b f))) (flowCount b)
-      (λ f h. fault-ext (totalFaultBy b totals f) (totalFault b rows f) (jobCount (flowOf b f))
-      (λ i l. ap (λ (n : ℕ). if eqb n (jobOf (flowOf b f) i .size) then Pass else Refused 20 f i)
-      (summed .total f i (omega (arith, range .flows-most)) (omega (arith, range .each-flow f h .jobs-most)))))
+module _ (b : Book) (range : InRange b) (rows : List Row) (off finish : List ℕ) (closed : Closed b rows off finish) where
+  pub offs-same : offsFault off (flowCount b) ≡ firstFault (λ f. firstFault (totalFault b rows f) (jobCount (flowOf b f))) (flowCount b)
+  unfolding offsFault flowTotals
+  offs-same =
+      fault-ext (λ f. offFault f (getD off f 0)) (λ f. firstFault (totalFault b rows f) (jobCount (flowOf b f))) (flowCount b) (λ f h. closed .off-of f h)
 
   pub finishes-same : (table : List ℕ) → firstFault (finishFaultBy table finish) (flowCount b) ≡ firstFault (finishFault table rows) (flowCount b)
   unfolding finishFaultBy finishFault
   finishes-same table =
       fault-ext (finishFaultBy table finish) (finishFault table rows) (flowCount b)
-      (λ f h. ap (λ (n : ℕ). if eqb (statedFinish table f) n then Pass else Refused 21 f 255) (summed .finish-of f (omega (arith, range .flows-most))))
+      (λ f h. ap (λ (n : ℕ). if eqb (statedFinish table f) n then Pass else Refused 21 f 255) (closed .finish-of f (omega (arith, range .flows-most))))
 
   pub late-same : (deadlines : List ℕ) → ((f : ℕ) → f < flowCount b → getD deadlines f 0 ≡ flowOf b f .deadline) →
       lateCount deadlines finish (flowCount b) ≡ lateFlows b rows
-  late-same deadlines d = late-counted b rows deadlines finish d (λ f h. summed .finish-of f (omega (arith, range .flows-most)))
+  late-same deadlines d = late-counted b rows deadlines finish d (λ f h. closed .finish-of f (omega (arith, range .flows-most)))

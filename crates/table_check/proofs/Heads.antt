@@ -15,7 +15,7 @@ use Rattle.rules.specs.Book.{Book, flowCount}
 use Rattle.rules.specs.Table.{tableHead, rowLength}
 use Rattle.rules.proofs.Passing.{test-passed, neither-true}
 use Rattle.rules.specs.Check.{tableHeadFault}
-use Rattle.table_check.specs.Tally.{headFault}
+use Rattle.table_check.specs.Tests.{headFault}
 
 pub head-of-book : (b : Book) (s : List ℕ) → headFault (b .processors) (flowCount b) s ≡ tableHeadFault b s
 unfolding headFault tableHeadFault
@@ -42,6 +42,7 @@ field-below s bytes (suc n) at = rw pow-suc (omega (arith, field-below s bytes n
 pub record HeadPasses (b : Book) (s : List ℕ) : Type 0 where
   pub head-inside : tableHead b ≤ length s
   pub length-stated : field 4 s 0 ≡ length s
+  pub rows-whole : (length s - tableHead b) % rowLength ≡ 0
 
 pub head-passes : (b : Book) (s : List ℕ) → tableHeadFault b s ≡ Pass → HeadPasses b s
 unfolding tableHeadFault
@@ -60,4 +61,5 @@ head-passes b s e =
     record {
       head-inside = ltb-false (length s) (tableHead b) (one .0);
       length-stated = eqb-true (field 4 s 0) (length s) (not-false _ (one .1));
+      rows-whole = eqb-true ((length s - tableHead b) % rowLength) 0 (not-false _ (five .1));
     }

@@ -10,33 +10,30 @@ use Rattle.rules.specs.declared.Verdict.{Verdict}
 use Rattle.rules.specs.declared.Verdict.the-variants.{Pass, Refused}
 use Rattle.rules.specs.Answers.{_andThen_, firstFault, checkAccepted, checkRefused}
 use Rattle.rules.specs.Limits.{slots, workBytes}
-use Rattle.rules.specs.Book.{Book, flowCount, jobCount, flowOf}
+use Rattle.rules.specs.Book.{Book, flowCount, jobCount, flowOf, InRange}
 use Rattle.rules.specs.Reading.{bookOf, bookFault, readBook}
 use Rattle.rules.specs.Rows.{workZero}
-use Rattle.rules.specs.Check.{tableRows, tableHeadFault, rowFault, totalFault, finishFault, tableFault, checkOutcome, checkReading, checkCall}
+use Rattle.rules.specs.Check.{tableRows, tableHeadFault, totalFault, finishFault, tableFault, checkOutcome, checkReading, checkCall}
 use Rattle.rules.proofs.Faults.{not-pass, fault-stands}
 use Rattle.rules.proofs.Passing.{pass-in-range}
 use Rattle.book.specs.declared.Index.{Index}
 use Rattle.book.specs.Promise.{Indexed}
-use Rattle.table_check.specs.declared.Walked.{Walked}
+use Rattle.table_check.specs.declared.walk.Walked.{Walked}
 use Rattle.table_check.specs.declared.Judged.{Judged}
-use Rattle.table_check.specs.Tally.{headFault}
-use Rattle.table_check.specs.Walk.{Ready, Summed, RowsWalked, totalsFaultBy, finishFaultBy, TableJudged}
+use Rattle.table_check.specs.Tests.{headFault}
+use Rattle.table_check.specs.Walk.{rowsFault, Ready, Closed, TableWalked, offsFault, finishFaultBy, TableJudged}
 use Rattle.book.specs.Late.{lateCount}
 use Rattle.table_check.proofs.Heads.{head-of-book, head-passes}
-use Rattle.table_check.proofs.Finals.{totals-same, finishes-same, late-same}
+use Rattle.table_check.proofs.Finals.{offs-same, finishes-same, late-same}
 
--- ---- four stages
+-- ---- stages
 stop-here : (v w : Verdict) (n f j : ℕ) → v ≡ Refused n f j → (v andThen w) ≡ v
 stop-here v w n f j e = fault-stands v w (λ p. not-pass n f j (sym e ∙ p))
 
 go-on : (v w : Verdict) → v ≡ Pass → (v andThen w) ≡ w
 go-on v w e = ap (λ (u : Verdict). u andThen w) e
 
--- the stages after 14
-unfoldable rowsFault : Book → List ℕ → Verdict
-rowsFault b table = firstFault (rowFault b (tableRows b table)) (length (tableRows b table))
-
+-- the stages after the rows
 unfoldable totalsFault : Book → List ℕ → Verdict
 totalsFault b table = firstFault (λ f. firstFault (totalFault b (tableRows b table) f) (jobCount (flowOf b f))) (flowCount b)
 
@@ -48,50 +45,33 @@ by-stages : (b : Book) (table : List ℕ) →
 unfolding tableFault rowsFault totalsFault finishesFault
 by-stages b table = refl
 
-module _ (b : Book) (table : List ℕ) {n f j : ℕ} {v : Verdict} (e : v ≡ Refused n f j) where
-  at-head : v ≡ tableHeadFault b table → v ≡ tableFault b table
-  at-head d =
-      let rest = rowsFault b table andThen totalsFault b table andThen finishesFault b table in
-      sym (by-stages b table ∙ ap (λ (u : Verdict). u andThen rest) (sym d) ∙ stop-here v rest n f j e)
+-- ---- 20 and 21 in the values of the code
+pub totals-stop : {t totals : Verdict} {n f j : ℕ} (v : Verdict) → t ≡ totals → t ≡ Refused n f j → t ≡ (totals andThen v)
+totals-stop {t} {totals} {n} {f} {j} v e d = sym (stop-here totals v n f j (sym e ∙ d) ∙ sym e)
 
-  at-rows : tableHeadFault b table ≡ Pass → v ≡ rowsFault b table → v ≡ tableFault b table
-  at-rows h d =
-      let rest = totalsFault b table andThen finishesFault b table in
-      sym (by-stages b table ∙ go-on (tableHeadFault b table) (rowsFault b table andThen rest) h
-      ∙ ap (λ (u : Verdict). u andThen rest) (sym d) ∙ stop-here v rest n f j e)
-
-  at-totals : tableHeadFault b table ≡ Pass → rowsFault b table ≡ Pass → v ≡ totalsFault b table → v ≡ tableFault b table
-  at-totals h r d =
-      let rest = finishesFault b table in
-      sym (by-stages b table ∙ go-on (tableHeadFault b table) (rowsFault b table andThen totalsFault b table andThen rest) h
-      ∙ go-on (rowsFault b table) (totalsFault b table andThen rest) r
-      ∙ ap (λ (u : Verdict). u andThen rest) (sym d) ∙ stop-here v rest n f j e)
-
-at-finishes : (b : Book) (table : List ℕ) → tableHeadFault b table ≡ Pass → rowsFault b table ≡ Pass → totalsFault b table ≡ Pass →
-    tableFault b table ≡ finishesFault b table
-at-finishes b table h r t =
-    by-stages b table ∙ go-on (tableHeadFault b table) (rowsFault b table andThen totalsFault b table andThen finishesFault b table) h
-    ∙ go-on (rowsFault b table) (totalsFault b table andThen finishesFault b table) r
-    ∙ go-on (totalsFault b table) (finishesFault b table) t
-
--- a fault found at a stage
-found : {b : Book} {table before after : List ℕ} {n f j : ℕ} {v : Verdict} → v ≡ Refused n f j → v ≡ tableFault b table →
-    workZero slots after ≡ workZero slots before → TableJudged b table before after (record { verdict = v; late = 0 })
-found {n = n} {f = f} {j = j} e d z = record {
-  verdict = d;
-  cleared = z;
-  area = λ p. not-pass n f j (sym e ∙ p);
-  late = λ p. not-pass n f j (sym e ∙ p);
-}
+pub totals-pass : {t totals v w : Verdict} → t ≡ totals → t ≡ Pass → w ≡ v → w ≡ (totals andThen v)
+totals-pass {t} {totals} {v} e d h = h ∙ sym (go-on totals v (sym e ∙ d))
 
 -- ---- the stages in the values of the code
 module _ {book : List ℕ} {x : Index} (indexed : Indexed book x) (table : List ℕ) {head : Verdict}
     (head-is : head ≡ headFault (x .processors) (x .flows) table) where
-  head-right : head ≡ tableHeadFault (bookOf book) table
-  head-right = head-is ∙ rw (indexed .processors, indexed .flows) (head-of-book (bookOf book) table)
+  abbrev b : Book
+  b = bookOf book
 
-  pub head-stops : {before : List ℕ} {n f j : ℕ} → head ≡ Refused n f j → TableJudged (bookOf book) table before before (record { verdict = head; late = 0 })
-  head-stops e = found e (at-head (bookOf book) table e head-right) refl
+  abbrev rest : Verdict
+  rest = rowsFault (bookOf book) table andThen totalsFault (bookOf book) table andThen finishesFault (bookOf book) table
+
+  head-right : head ≡ tableHeadFault (bookOf book) table
+  head-right = head-is ∙ rw (indexed .processors, indexed .flows) (head-of-book b table)
+
+  -- 14
+  pub head-stops : {work : List ℕ} {n f j : ℕ} → head ≡ Refused n f j → TableJudged (bookOf book) table work work (record { verdict = head; late = 0 })
+  head-stops {work} {n} {f} {j} e = record {
+    verdict = sym (by-stages b table ∙ ap (λ (u : Verdict). u andThen rest) (sym head-right) ∙ stop-here head rest n f j e);
+    cleared = refl;
+    area = λ p. not-pass n f j (sym e ∙ p);
+    late = λ p. not-pass n f j (sym e ∙ p);
+  }
 
   module _ (head-pass : head ≡ Pass) where
     headed : tableHeadFault (bookOf book) table ≡ Pass
@@ -101,49 +81,51 @@ module _ {book : List ℕ} {x : Index} (indexed : Indexed book x) (table : List 
     walk-ready h = record { indexed = indexed; headed = headed; room = h }
 
     pub finishes-inside : 8 + 2 * x .flows ≤ length table
-    finishes-inside = omega (arith, indexed .flows, head-passes (bookOf book) table headed .head-inside)
+    finishes-inside = omega (arith, indexed .flows, head-passes b table headed .head-inside)
 
-    module _ {before after : List ℕ} {w : Walked} (walked : RowsWalked (bookOf book) table before after w) where
-      rows-right : w .verdict ≡ rowsFault (bookOf book) table
-      unfolding rowsFault
-      rows-right = walked .verdict
+    module _ {before after : List ℕ} {w : Walked} (walked : TableWalked (bookOf book) table before after w) where
+      after-head : tableFault (bookOf book) table ≡ (w .verdict andThen totalsFault (bookOf book) table andThen finishesFault (bookOf book) table)
+      after-head =
+          by-stages b table ∙ go-on (tableHeadFault b table) rest headed
+          ∙ ap (λ (u : Verdict). u andThen totalsFault b table andThen finishesFault b table) (sym (walked .verdict))
 
+      -- 15 to 19
       pub rows-stop : {n f j : ℕ} → w .verdict ≡ Refused n f j → TableJudged (bookOf book) table before after (record { verdict = w .verdict; late = 0 })
-      rows-stop e = found e (at-rows (bookOf book) table e headed rows-right) (walked .cleared)
+      rows-stop {n} {f} {j} e = record {
+        verdict = sym (after-head ∙ stop-here (w .verdict) (totalsFault b table andThen finishesFault b table) n f j e);
+        cleared = walked .cleared;
+        area = λ p. not-pass n f j (sym e ∙ p);
+        late = λ p. not-pass n f j (sym e ∙ p);
+      }
 
-      module _ (rows-pass : w .verdict ≡ Pass) {totals : Verdict} (totals-is : totals ≡ totalsFaultBy (bookOf book) (w .totals)) where
-        summed : Summed (tableRows (bookOf book) table) before after (w .totals) (w .finish)
-        summed = walked .summed rows-pass
+      -- 20 and 21
+      module _ (rows-pass : w .verdict ≡ Pass) where
+        closed : Closed (bookOf book) (tableRows (bookOf book) table) (w .off) (w .finish)
+        closed = walked .closed rows-pass
 
-        totals-right : totals ≡ totalsFault (bookOf book) table
+        range : InRange (bookOf book)
+        range = pass-in-range book (indexed .passes)
+
+        totals-right : offsFault (w .off) (x .flows) ≡ totalsFault (bookOf book) table
         unfolding totalsFault
-        totals-right =
-            totals-is ∙ totals-same (bookOf book) (pass-in-range book (indexed .passes)) (tableRows (bookOf book) table) before after (w .totals) (w .finish) summed
+        totals-right = ap (offsFault (w .off)) (indexed .flows) ∙ offs-same b range (tableRows b table) (w .off) (w .finish) closed
 
-        pub totals-stop : {n f j : ℕ} → totals ≡ Refused n f j → TableJudged (bookOf book) table before after (record { verdict = totals; late = 0 })
-        totals-stop e = found e (at-totals (bookOf book) table e headed (sym rows-right ∙ rows-pass) totals-right) (walked .cleared)
+        finishes-right : firstFault (finishFaultBy table (w .finish)) (x .flows) ≡ finishesFault (bookOf book) table
+        unfolding finishesFault
+        finishes-right =
+            ap (firstFault (finishFaultBy table (w .finish))) (indexed .flows) ∙ finishes-same b range (tableRows b table) (w .off) (w .finish) closed table
 
-        module _ (totals-pass : totals ≡ Pass) {finishes : Verdict} (finishes-are : finishes ≡ firstFault (finishFaultBy table (w .finish)) (x .flows)) where
-          finishes-right : finishes ≡ tableFault (bookOf book) table
-          unfolding finishesFault
-          finishes-right =
-              finishes-are ∙ ap (firstFault (finishFaultBy table (w .finish))) (indexed .flows)
-              ∙ finishes-same (bookOf book) (pass-in-range book (indexed .passes)) (tableRows (bookOf book) table) before after (w .totals) (w .finish) summed table
-              ∙ sym (at-finishes (bookOf book) table headed (sym rows-right ∙ rows-pass) (sym totals-right ∙ totals-pass))
-
-          pub finishes-stop : {n f j : ℕ} → finishes ≡ Refused n f j → TableJudged (bookOf book) table before after (record { verdict = finishes; late = 0 })
-          finishes-stop e = found e finishes-right (walked .cleared)
-
-          pub judgement-ends : {late : ℕ} → late ≡ lateCount (x .deadlines) (w .finish) (x .flows) →
-              TableJudged (bookOf book) table before after (record { verdict = finishes; late = late })
-          judgement-ends e = record {
-            verdict = finishes-right;
-            cleared = walked .cleared;
-            area = λ p. summed .area;
-            late = λ p. e ∙ ap (lateCount (x .deadlines) (w .finish)) (indexed .flows)
-                ∙ late-same (bookOf book) (pass-in-range book (indexed .passes)) (tableRows (bookOf book) table) before after (w .totals) (w .finish) summed
-                (x .deadlines) (indexed .deadlines);
-          }
+        pub judgement-ends : {v : Verdict} {late : ℕ} →
+            v ≡ (offsFault (w .off) (x .flows) andThen firstFault (finishFaultBy table (w .finish)) (x .flows)) →
+            late ≡ lateCount (x .deadlines) (w .finish) (x .flows) →
+            TableJudged (bookOf book) table before after (record { verdict = v; late = late })
+        judgement-ends {v} v-is late-is = record {
+          verdict = v-is ∙ rw (totals-right, finishes-right) (sym (after-head ∙ go-on (w .verdict) (totalsFault b table andThen finishesFault b table) rows-pass));
+          cleared = walked .cleared;
+          area = λ p. walked .area rows-pass;
+          late = λ p. late-is ∙ ap (lateCount (x .deadlines) (w .finish)) (indexed .flows)
+              ∙ late-same b range (tableRows b table) (w .off) (w .finish) closed (x .deadlines) (indexed .deadlines);
+        }
 
 -- ---- a call
 module _ (book table area : List ℕ) where

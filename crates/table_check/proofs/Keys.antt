@@ -16,7 +16,7 @@ use Rattle.rules.specs.Service.{servedBefore}
 use Rattle.rules.specs.Rows.{Row}
 use Rattle.rules.specs.Check.{noRow, rowBefore, rises}
 use Rattle.rules.proofs.Division.{lt-or-ge}
-use Rattle.table_check.specs.Tally.{rowKey, leastKey}
+use Rattle.table_check.specs.Tests.{serviceKey, placeOf, places, rowKey, leastKey}
 
 -- ---- pairs
 module _ (m a x c y : ℕ) (h : x < m) (l : y < m) where
@@ -63,15 +63,12 @@ pub record KeyFits (r : Row) : Type 0 where
   pub slot-fits : r .slot < slots
   pub job-fits : r .job < 64
 
--- flows compare as their deadlines and places do
-abbrev serve : Book → ℕ → ℕ
-serve b f = flowOf b f .deadline * 64 + f
-
-served : (b : Book) (g f : ℕ) → g < 64 → f < 64 → ltb (serve b g) (serve b f) ≡ servedBefore b g f
+-- flows compare as their deadlines and numbers do
+served : (b : Book) (g f : ℕ) → g < 64 → f < 64 → ltb (serviceKey b g) (serviceKey b f) ≡ servedBefore b g f
 unfolding servedBefore
 served b g f h l = pair-lt 64 (flowOf b g .deadline) g (flowOf b f .deadline) f h l
 
-same-flow : (b : Book) (g f : ℕ) → g < 64 → f < 64 → eqb (serve b g) (serve b f) ≡ eqb g f
+same-flow : (b : Book) (g f : ℕ) → g < 64 → f < 64 → eqb (serviceKey b g) (serviceKey b f) ≡ eqb g f
 same-flow b g f h l = pair-eq 64 (flowOf b g .deadline) g (flowOf b f .deadline) f h l ∙ go (eqb g f) refl
   where
     go : (t : Bool) → eqb g f ≡ t → (eqb (flowOf b g .deadline) (flowOf b f .deadline) && eqb g f) ≡ eqb g f
@@ -82,24 +79,22 @@ same-flow b g f h l = pair-eq 64 (flowOf b g .deadline) g (flowOf b f .deadline)
         falls true = refl
         falls false = refl
 
-regroup : (s e a d c : Bool) → ((s || e && a) || (e && d) && c) ≡ (s || e && (a || d && c))
-regroup true e a d c = refl
-regroup false true a d c = refl
-regroup false false a d c = refl
+-- two flows have two numbers
+pub service-apart : (b : Book) (g f : ℕ) → g < 64 → f < 64 → (g ≡ f → ⊥) → serviceKey b g ≡ serviceKey b f → ⊥
+service-apart b g f h l n e = n (omega arith)
+
+pub place-below : (r : Row) → KeyFits r → placeOf r < places
+place-below r h = omega (arith, h .slot-fits, h .job-fits)
 
 pub before-key : (b : Book) (q r : Row) → KeyFits q → KeyFits r → rowBefore b q r ≡ ltb (rowKey b q) (rowKey b r)
 unfolding rowBefore rowKey
 before-key b q r h l =
-    let m = serve b (q .flow) in
-    let n = serve b (r .flow) in
-    rw (
-      pair-lt 64 (m * 8192 + q .slot) (q .job) (n * 8192 + r .slot) (r .job) (h .job-fits) (l .job-fits),
-      pair-lt 8192 m (q .slot) n (r .slot) (h .slot-fits) (l .slot-fits),
-      pair-eq 8192 m (q .slot) n (r .slot) (h .slot-fits) (l .slot-fits),
+    sym (rw (
+      pair-lt places (serviceKey b (q .flow)) (placeOf q) (serviceKey b (r .flow)) (placeOf r) (place-below q h) (place-below r l),
+      pair-lt 64 (q .slot) (q .job) (r .slot) (r .job) (h .job-fits) (l .job-fits),
       served b (q .flow) (r .flow) (h .flow-fits) (l .flow-fits),
       same-flow b (q .flow) (r .flow) (h .flow-fits) (l .flow-fits),
-    )
-    (sym (regroup (servedBefore b (q .flow) (r .flow)) (eqb (q .flow) (r .flow)) (ltb (q .slot) (r .slot)) (eqb (q .slot) (r .slot)) (ltb (q .job) (r .job))))
+    ) refl)
 
 -- of two rows of a flow, that with the greater key stands in no earlier slot
 pub key-slots : (b : Book) (q r : Row) → KeyFits q → KeyFits r → q .flow ≡ r .flow → rowKey b q < rowKey b r → q .slot ≤ r .slot

@@ -1,10 +1,13 @@
--- Laws of the walk over a table's rows.
+-- Laws of the check.
+pub mod Heads
+pub mod TableRows
+pub mod TestNumbers
 pub mod Keys
+pub mod SoFar
 pub mod Tallies
 pub mod RowFaults
-pub mod Walking
-pub mod Heads
+pub mod Started
 pub mod Turns
 pub mod Finals
+pub mod Flows
 pub mod Judging
-pub mod Started

@@ -7,21 +7,21 @@ use mathlib.Core.List.{List}
 use native.Mathlib.Omega.{arith}
 use lib.ListN.{getD, take}
 use lib.Dec.{ltb, leb, eqb}
-use borrow.Author.Tests.{le-leb, lt-leb, ltb-true, ltb-false, leb-false}
+use borrow.Author.Tests.{le-leb, lt-leb, ltb-true, ltb-false, leb-true, leb-false}
 use Rattle.rules.specs.declared.Verdict.{Verdict}
 use Rattle.rules.specs.declared.Verdict.the-variants.{Pass, Refused}
 use Rattle.rules.specs.Walks.{if_then_else_, anyTo}
 use Rattle.rules.specs.Limits.{slots}
 use Rattle.rules.specs.Answers.{firstFault}
 use Rattle.rules.specs.Book.{Book, flowCount, jobCount, flowOf, jobOf, hasBit, InRange}
-use Rattle.rules.specs.Rows.{Row, usedIn, doneBefore}
+use Rattle.rules.specs.Rows.{Row, usedIn, doneBefore, finishOf}
 use Rattle.rules.specs.Check.{noRow, rises, lacksPredecessor, rowFault}
 use Rattle.rules.proofs.Walks.{any-ext}
 use Rattle.rules.proofs.Faults.{fault-pass}
 use Rattle.rules.proofs.Passing.{test-passed, neither-true}
-use Rattle.table_check.specs.Tally.{rowKey, leastKey, place, earlyNumber, lateNumber, lacksAt, Tally}
+use Rattle.table_check.specs.Tests.{rowKey, leastKey, earlyNumber, lateNumber, lacksAt}
+use Rattle.table_check.specs.Tally.{FlowTally}
 use Rattle.table_check.proofs.Keys.{KeyFits, rises-key}
-use Rattle.table_check.proofs.Tallies.{Counts, finish-most}
 
 -- ---- the verdict by its five tests
 abbrev verdictBy : (out falls over crowded lacks : Bool) → ℕ → ℕ → Verdict
@@ -74,6 +74,7 @@ key-fits b r h e =
 
 -- what 15 and 16 leave of row k, which is r
 pub record EarlyPassed (b : Book) (rows : List Row) (k : ℕ) (r : Row) : Type 0 where
+  pub fits : KeyFits r
   pub inside : outOfBook b r ≡ false
   pub rising : rises b rows k ≡ true
   pub after-least : leastKey b rows k ≤ rowKey b r
@@ -106,15 +107,16 @@ module _ (b : Book) (rows : List Row) (k : ℕ) (r : Row) (at-k : getD rows k no
       rw (le-leb (flowCount b) (r .flow) h) (or-true (leb slots (r .slot)) (leb (jobCount (flowOf b (r .flow))) (r .job)) (eqb (r .processors) 0)) in
       tests ∙ rw out refl
 
-  -- 15 and 16
-  module _ (range : InRange b) (passed : firstFault (rowFault b rows) k ≡ Pass) (least key n : ℕ) (least-is : least ≡ leastKey b rows k)
-      (key-is : key ≡ rowKey b r) (known : r .flow < flowCount b) (n-is : n ≡ earlyNumber (jobCount (flowOf b (r .flow))) least key r) where
+  -- 15 and 16, by a key that tells whether the row rises
+  module _ (range : InRange b) (passed : firstFault (rowFault b rows) k ≡ Pass) (least key n : ℕ)
+      (order : KeyFits r → leb (leastKey b rows k) (rowKey b r) ≡ leb least key) (known : r .flow < flowCount b)
+      (n-is : n ≡ earlyNumber (jobCount (flowOf b (r .flow))) least key r) where
     n-by-tests : n ≡ (if outOfBook b r then 15 else if ltb key least then 16 else 0)
     unfolding earlyNumber
     n-by-tests = n-is ∙ ap (λ (t : Bool). if t then 15 else if ltb key least then 16 else 0) (sym (out-of-known b r known))
 
     rises-by-key : outOfBook b r ≡ false → rises b rows k ≡ leb least key
-    rises-by-key e = rises-at-key ∙ rw (at-k, least-is, key-is) refl
+    rises-by-key e = rises-at-key ∙ rw at-k (order (key-fits b r range e))
       where
         rises-at-key : rises b rows k ≡ leb (leastKey b rows k) (rowKey b (getD rows k noRow))
         rises-at-key =
@@ -133,16 +135,20 @@ module _ (b : Book) (rows : List Row) (k : ℕ) (r : Row) (at-k : getD rows k no
             tests ∙ rw (e, falls, n-by-tests, e, d) refl
         go false e false d = absurd (h (n-by-tests ∙ rw (e, d) refl))
 
-    least-le : least ≤ key → leastKey b rows k ≤ rowKey b r
-    least-le h = rw (least-is, key-is) at h
-
     pub early-passed : n ≡ 0 → EarlyPassed b rows k r
     early-passed h = go (outOfBook b r) refl (ltb key least) refl
       where
         go : (t : Bool) → outOfBook b r ≡ t → (u : Bool) → ltb key least ≡ u → EarlyPassed b rows k r
         go true e u d = absurd (let z : n ≡ 15 = n-by-tests ∙ rw e refl in omega arith)
         go false e true d = absurd (let z : n ≡ 16 = n-by-tests ∙ rw (e, d) refl in omega arith)
-        go false e false d = record { inside = e; rising = rises-by-key e ∙ le-leb least key (ltb-false key least d); after-least = least-le (ltb-false key least d) }
+        go false e false d =
+            let at-least : leb least key ≡ true = le-leb least key (ltb-false key least d) in
+            record {
+              fits = key-fits b r range e;
+              inside = e;
+              rising = rises-by-key e ∙ at-least;
+              after-least = leb-true (leastKey b rows k) (rowKey b r) (order (key-fits b r range e) ∙ at-least);
+            }
 
   -- 17 and 18
   module _ (early : EarlyPassed b rows k r) (used cap n : ℕ) (used-is : used ≡ usedIn (take k rows) (r .slot))
@@ -180,31 +186,14 @@ module _ (b : Book) (rows : List Row) (k : ℕ) (r : Row) (at-k : getD rows k no
     pub row-passes : lacksPredecessor b (take k rows) r ≡ false → rowFault b rows k ≡ Pass
     row-passes e = tests ∙ rw (early .inside, early .rising, late .cap-kept, late .room-kept, e) refl
 
--- a row that these tests leave can be counted
-pub passed-counts : (b : Book) (rows : List Row) (k : ℕ) (r : Row) (least : ℕ) → least ≡ leastKey b rows k → r .processors < 65536 →
-    EarlyPassed b rows k r → LatePassed b (take k rows) r → Counts b (take k rows) least r
-passed-counts b rows k r least e few early late =
-    let i = in-book-of b r (early .inside) in
-    record {
-      flow-in = i .1;
-      job-in = i .2;
-      slot-in = i .0;
-      after-least = rw e (early .after-least);
-      processors-few = few;
-      room = ltb-false (b .processors) (usedIn (take k rows) (r .slot) + r .processors) (late .room-kept);
-    }
-
 -- 19 as the walk tests it: by the slots from which jobs are complete
-pub lacks-by-ready : (b : Book) (area : List ℕ) (soFar : List Row) (least : ℕ) (totals ready finish work : List ℕ) (r : Row) →
-    InRange b → Tally b area soFar least totals ready finish work → Counts b soFar least r →
-    lacksPredecessor b soFar r
-    ≡ anyTo (λ m. lacksAt (jobOf (flowOf b (r .flow)) (r .job) .predecessors) m (r .slot) (getD ready (place (r .flow) m) 0)) (r .job)
+pub lacks-by-ready : (b : Book) (f : ℕ) (soFar : List Row) (totals ready : List ℕ) (r : Row) → FlowTally b f soFar totals ready → r .flow ≡ f →
+    r .job < jobCount (flowOf b f) → r .slot < slots → finishOf soFar f ≤ r .slot + 1 →
+    lacksPredecessor b soFar r ≡ anyTo (λ m. lacksAt (jobOf (flowOf b f) (r .job) .predecessors) m (r .slot) (getD ready m 0)) (r .job)
 unfolding lacksPredecessor lacksAt
-lacks-by-ready b area soFar least totals ready finish work r range tally counts =
-    let f = r .flow in
+lacks-by-ready b f soFar totals ready r tally own job-in slot-in latest =
     let p = jobOf (flowOf b f) (r .job) .predecessors in
-    any-ext (λ m. hasBit p m && ltb (doneBefore soFar f m (r .slot)) (jobOf (flowOf b f) m .size))
-    (λ m. hasBit p m && ltb (r .slot) (getD ready (place f m) 0)) (r .job)
-    (λ m h. ap (λ (t : Bool). hasBit p m && t)
-    (tally .complete f m (r .slot) (counts .flow-in) (omega (arith, counts .job-in))
-    (finish-most b range area soFar least totals ready finish work tally r counts) (counts .slot-in)))
+    rw own
+    (any-ext (λ m. hasBit p m && ltb (doneBefore soFar f m (r .slot)) (jobOf (flowOf b f) m .size))
+    (λ m. hasBit p m && ltb (r .slot) (getD ready m 0)) (r .job)
+    (λ m h. ap (λ (t : Bool). hasBit p m && t) (tally .complete m (r .slot) (omega arith) latest slot-in)))

@@ -1,378 +1,470 @@
--- One turn of the walk in the values of the code: what holds of the locals as a turn begins, what is known of its row once 15 to 18 have passed,
--- and what each way out of the turn gives. Assumes nothing.
-use mathlib.Core.Path.{_≡_, refl, sym, ap, _∙_}
-use Prim.Native.Nat.{ℕ, _+_, _*_, _-_, _/_, _≤_, _<_}
+-- One turn of the walk over a flow's rows: what holds as it begins, what is known of its row once 15 to 18 have passed, that a row that lacks no
+-- predecessor is counted by the next turn's beginning, and what each way out of the walk gives. Assumes nothing.
+use mathlib.Core.Path.{_≡_, refl, sym, ap, _∙_, subst}
+use Prim.Native.Nat.{ℕ, suc, _+_, _*_, _≤_, _<_}
 use mathlib.Core.Bool.{Bool, true, false}
-use mathlib.Core.List.{List}
+use mathlib.Core.Logic.{_⊎_, inl, inr}
+use mathlib.Core.List.{List, [], _∷_, _++_}
 use native.Mathlib.Numerals.{add-one}
 use native.Mathlib.Omega.{arith}
-use lib.Dec.{ltb}
-use Rattle.rules.specs.Walks.{if_then_else_}
-use borrow.Author.Tests.{ltb-true, ltb-false}
-use lib.ListN.{length, getD, take, set, length-set, length-take}
-use lib.Seq.{sets, take-all}
+use lib.ListN.{length, getD, take, drop, replicate, length-set}
+use lib.Seq.{sets, length-sets, take-suc}
+use lib.Dec.{ltb, leb, eqb}
+use borrow.Author.Tests.{ltb-true, ltb-false, le-leb, lt-leb, eqb-true, eqb-false}
 use Rattle.rules.specs.declared.Verdict.{Verdict}
 use Rattle.rules.specs.declared.Verdict.the-variants.{Pass, Refused}
-use Rattle.rules.specs.Walks.{anyTo}
+use Rattle.rules.specs.Walks.{if_then_else_, anyTo, joinFrom}
 use Rattle.rules.specs.Limits.{slots, workBytes}
-use Rattle.rules.specs.Fields.{field, bytesOf, AllBytes}
+use Rattle.rules.specs.Fields.{field, bytesOf}
 use Rattle.rules.specs.Answers.{firstFault}
-use Rattle.rules.specs.Book.{Job, flowCount, jobCount, flowOf, jobOf, InRange}
-use Rattle.rules.specs.Reading.{flowStart, bookOf, bookFault}
+use Rattle.rules.specs.Book.{Book, flowCount, jobCount, flowOf, jobOf, InRange}
+use Rattle.rules.specs.Reading.{bookOf}
 use Rattle.rules.specs.Rows as rules
 use Rattle.rules.specs.Rows.{usedIn, totalOf, finishOf, workUsed, workZero}
 use Rattle.rules.specs.Table.{tableHead, rowLength, rowAt}
-use Rattle.rules.specs.Check.{noRow, tableRows, lacksPredecessor, rowFault}
-use Rattle.rules.proofs.Faults.{fault-stop, not-pass}
+use Rattle.rules.specs.Check.{noRow, tableRows, tableHeadFault, lacksPredecessor, rowFault}
+use Rattle.rules.proofs.Division.{lt-or-ge}
+use Rattle.rules.proofs.Faults.{fault-stop, fault-next, not-pass}
 use Rattle.rules.proofs.Walks.{any-true}
 use Rattle.rules.proofs.Passing.{pass-in-range}
-use Rattle.rules.proofs.WorkArea.{used-length, used-pair, used-cleared, cleared-twice, cleared-length, used-over-cleared}
-use Rattle.book.specs.declared.Index.{Index}
-use Rattle.book.specs.declared.JobRecord.{JobRecord}
-use Rattle.book.specs.Promise.{jobFrom, FlowStands}
-use Rattle.table_check.specs.declared.Row.{Row}
-use Rattle.table_check.specs.Tally.{rowFrom, rowKey, keyOf, place, earlyNumber, lateNumber, lacksAt, asked, readyAfter}
-use Rattle.table_check.specs.Walk.{Ready, RowsWalked}
-use Rattle.table_check.proofs.Heads.{head-passes, field-below}
-use Rattle.table_check.proofs.Tallies.{Counts, finish-most}
+use Rattle.rules.proofs.WorkArea.{used-pair, used-row, used-rest, used-cleared}
+use Rattle.table_check.specs.declared.row.Row.{Row}
+use Rattle.table_check.specs.declared.row.Current.{Current}
+use Rattle.table_check.specs.declared.row.Tested.{Tested}
+use Rattle.table_check.specs.Tests.{rowFrom, serviceKey, placeOf, places, rowKey, leastKey, earlyNumber, lateNumber, testNumber, lacksAt, asked, readyAfter}
+use Rattle.table_check.specs.Tally.{CurrentFlow, RowTested, Countable, RowCounted, rowsTo, Reached, FlowTally}
+use Rattle.table_check.specs.Walk.{rowsFault, FlowBegins, WentOn, RowsWalked}
+use Rattle.table_check.proofs.TestNumbers.{first-stands, first-passes, first-none}
+use Rattle.table_check.proofs.TableRows.{row-at, table-length, rows-to}
+use Rattle.table_check.proofs.Keys.{KeyFits, place-below}
+use Rattle.table_check.proofs.SoFar.{SoFar, so-far, finish-here, finish-there}
+use Rattle.table_check.proofs.Tallies.{tally-none, tally-next, total-others}
 use Rattle.table_check.proofs.Started.{started-lacks-none}
-use Rattle.table_check.proofs.RowFaults.{EarlyPassed, LatePassed, in-book-of, flow-unknown, early-fault, early-passed, late-fault, late-passed, lacks-fault, lacks-by-ready}
-use Rattle.table_check.proofs.Walking.{Walking, row-at, rows-length, walking-none, counts, walking-next}
+use Rattle.table_check.proofs.RowFaults.{EarlyPassed, LatePassed, in-book-of, early-fault, early-passed, late-fault, late-passed, lacks-fault, row-passes, lacks-by-ready}
 
--- what the walk copies out of the index, and where the rows stand
-pub record Known (book table : List ℕ) (processors flows : ℕ) (starts deadlines jobs : List ℕ) (head rows : ℕ) : Type 0 where
-  pub passes : bookFault book ≡ Pass
-  pub processors-are : processors ≡ bookOf book .processors
-  pub flows-are : flows ≡ flowCount (bookOf book)
-  pub flows-few : flows ≤ 64
-  pub start-of : (f : ℕ) → f < flows → getD starts f 0 ≡ flowStart book f
-  pub deadline-of : (f : ℕ) → f < flows → getD deadlines f 0 ≡ flowOf (bookOf book) f .deadline
-  pub jobs-of : (f : ℕ) → f < flows → getD jobs f 0 ≡ jobCount (flowOf (bookOf book) f)
-  pub head-is : head ≡ tableHead (bookOf book)
-  pub rows-are : rows ≡ (length table - tableHead (bookOf book)) / rowLength
-  pub rows-inside : head + 6 * rows ≤ length table
-  pub rows-few : rows < 4294967296
-
--- what holds as a turn begins, over a work area that was `area` at first
-pub record Begun (book table area : List ℕ) (work totals ready finish : List ℕ) (bad : Verdict) (least row : ℕ) : Type 0 where
-  pub walking : Walking (bookOf book) (tableRows (bookOf book) table) area row least totals ready finish work
+-- what holds as a turn begins, after k rows; the walk over the rows of the flow began at `from`
+pub record Going (book table : List ℕ) (c : Current) (from : ℕ) (totals ready work : List ℕ) (bad : Verdict) (least finish at k : ℕ) : Type 0 where
+  pub current : CurrentFlow book c
+  pub headed : tableHeadFault (bookOf book) table ≡ Pass
+  pub short : length table < 4294967296
+  pub room : workBytes ≤ length work
   pub no-fault : bad ≡ Pass
-  pub totals-long : length totals ≡ 4096
-  pub ready-long : length ready ≡ 4096
-  pub finish-long : length finish ≡ 64
-  pub area-long : workBytes ≤ length area
+  pub first-more : rowsTo (bookOf book) from < length (tableRows (bookOf book) table)
+  pub first-own : getD (tableRows (bookOf book) table) (rowsTo (bookOf book) from) noRow .flow ≡ c .flow
+  pub since : rowsTo (bookOf book) from ≤ k
+  pub reached : Reached (bookOf book) table k at work
+  pub tally : FlowTally (bookOf book) (c .flow) (take k (tableRows (bookOf book) table)) totals ready
+  -- places compare as keys do
+  pub order : (p : ℕ) → leb (leastKey (bookOf book) (tableRows (bookOf book) table) k) (serviceKey (bookOf book) (c .flow) * places + p) ≡ leb least p
+  pub others-total : (g i : ℕ) → (g ≡ c .flow → ⊥) →
+      totalOf (take k (tableRows (bookOf book) table)) g i ≡ totalOf (take (rowsTo (bookOf book) from) (tableRows (bookOf book) table)) g i
+  pub others-finish : (g : ℕ) → (g ≡ c .flow → ⊥) →
+      finishOf (take k (tableRows (bookOf book) table)) g ≡ finishOf (take (rowsTo (bookOf book) from) (tableRows (bookOf book) table)) g
+  pub finish-of : finish ≡ finishOf (take k (tableRows (bookOf book) table)) (c .flow)
+  pub last-low : rowsTo (bookOf book) from < k → serviceKey (bookOf book) (c .flow) * places < leastKey (bookOf book) (tableRows (bookOf book) table) k
+  pub last-high : leastKey (bookOf book) (tableRows (bookOf book) table) k ≤ serviceKey (bookOf book) (c .flow) * places + places
 
--- what is known of the row of a turn once 15 to 18 have passed
-pub record Turn (book table : List ℕ) (row : ℕ) (r : Row) (f key i : ℕ) (job : JobRecord) (at used : ℕ) : Type 0 where
-  pub more : row < length (tableRows (bookOf book) table)
-  pub row-is : getD (tableRows (bookOf book) table) row noRow ≡ rowFrom r
-  pub flow-is : f ≡ r .flow
+-- what the walk has made of what it was lent: lengths are kept, and of the work area what lies past the slots
+pub record Lent (totals₀ ready₀ work₀ totals ready work : List ℕ) : Type 0 where
+  pub totals-kept : length totals ≡ length totals₀
+  pub ready-kept : length ready ≡ length ready₀
+  pub work-kept : length work ≡ length work₀
+  pub cleared : workZero slots work ≡ workZero slots work₀
+
+pub lent-first : (totals ready work : List ℕ) → Lent totals ready work totals ready work
+lent-first totals ready work = record { totals-kept = refl; ready-kept = refl; work-kept = refl; cleared = refl }
+
+-- what is known of row k, which is r, once 15 to 18 have passed
+pub record Turn (b : Book) (table : List ℕ) (f k : ℕ) (r : rules.Row) (t : Tested) : Type 0 where
+  pub more : k < length (tableRows b table)
+  pub row-is : getD (tableRows b table) k noRow ≡ r
+  pub own : r .flow ≡ f
+  pub early : EarlyPassed b (tableRows b table) k r
+  pub late : LatePassed b (take k (tableRows b table)) r
+  pub used-is : t .used ≡ usedIn (take k (tableRows b table)) (r .slot)
+  pub size-is : t .size ≡ jobOf (flowOf b f) (r .job) .size
+  pub predecessors-are : t .predecessors ≡ jobOf (flowOf b f) (r .job) .predecessors
+
+-- ---- the first turn
+pub going-first : {book table totals ready work : List ℕ} {c : Current} {from : ℕ} → FlowBegins book table work c from →
+    totals ≡ replicate 64 0 → ready ≡ replicate 64 65535 →
+    Going book table c from totals ready work Pass 0 0 from (rowsTo (bookOf book) from)
+going-first {book} {table} {c = c} {from = from} begins t-is r-is =
+    let range = pass-in-range book (begins .current .stands .passes) in
+    let k = rowsTo (bookOf book) from in
+    let known = so-far (bookOf book) range (tableRows (bookOf book) table) k (begins .reached .within) (begins .reached .passed) in
+    let none = known .fresh (c .flow) (begins .ahead) in
+    record {
+      current = begins .current;
+      headed = begins .headed;
+      short = begins .short;
+      room = begins .room;
+      no-fault = refl;
+      first-more = begins .more;
+      first-own = begins .own;
+      since = omega arith;
+      reached = begins .reached;
+      tally = rw (t-is, r-is) (tally-none (bookOf book) (c .flow) (take k (tableRows (bookOf book) table)) range (begins .current .stands .flow-in) none);
+      order = λ p.
+          le-leb (leastKey (bookOf book) (tableRows (bookOf book) table) k) (serviceKey (bookOf book) (c .flow) * places + p) (omega (arith, begins .ahead))
+          ∙ sym (le-leb 0 p (omega arith));
+      others-total = λ g i n. refl;
+      others-finish = λ g n. refl;
+      finish-of = sym none;
+      last-low = λ l. absurd (omega arith);
+      last-high = omega (arith, begins .ahead);
+    }
+
+-- the use of each slot does not depend on what the area was
+used-self : (n : ℕ) (rows : List rules.Row) (area s : List ℕ) → s ≡ workUsed n rows area → s ≡ workUsed n rows s
+unfolding workUsed
+used-self n rows area s e =
+    e ∙ ap (λ d. joinFrom (λ t. bytesOf 2 (usedIn rows t)) n 0 ++ d) (sym (used-rest n rows area) ∙ ap (drop (2 * n)) (sym e))
+
+-- two numbers compare as they do when both are moved on
+shifted : (s m p : ℕ) → leb (suc (s + m)) (s + p) ≡ leb (m + 1) p
+shifted s m p = go (lt-or-ge m p)
+  where
+    go : (m < p) ⊎ (p ≤ m) → leb (suc (s + m)) (s + p) ≡ leb (m + 1) p
+    go (inl l) = le-leb (suc (s + m)) (s + p) (omega arith) ∙ sym (le-leb (m + 1) p (omega arith))
+    go (inr l) = lt-leb (suc (s + m)) (s + p) (omega arith) ∙ sym (lt-leb (m + 1) p (omega arith))
+
+module _ {book table : List ℕ} {c : Current} {from : ℕ} {totals ready work : List ℕ} {bad : Verdict} {least finish at k : ℕ}
+    (going : Going book table c from totals ready work bad least finish at k) where
+  abbrev b : Book
+  b = bookOf book
+
+  abbrev rows : List rules.Row
+  rows = tableRows (bookOf book) table
+
+  range : InRange (bookOf book)
+  range = pass-in-range book (going .current .stands .passes)
+
+  known : SoFar (bookOf book) (tableRows (bookOf book) table) k
+  known = so-far b range rows k (going .reached .within) (going .reached .passed)
+
+  pub row-inside : at < length table → at + 6 ≤ length table
+  row-inside here = omega (arith, table-length b table (going .headed), going .reached .at-is)
+
+  pub more-rows : at < length table → k < length (tableRows (bookOf book) table)
+  more-rows here = omega (arith, table-length b table (going .headed), going .reached .at-is)
+
+  -- ---- the row that was read
+  module _ (here : at < length table) (r : Row) (read : rowFrom r ≡ rowAt table at) where
+    row-read : getD (tableRows (bookOf book) table) k noRow ≡ rowFrom r
+    row-read = row-at b table k (more-rows here) ∙ ap (rowAt table) (sym (going .reached .at-is)) ∙ sym read
+
+    module _ (own : r .flow ≡ c .flow) {t : Tested} (tested : RowTested (bookOf book) (c .flow) work least (rowFrom r) t) where
+      flow-in : r .flow < flowCount (bookOf book)
+      flow-in = omega (arith, own, going .current .stands .flow-in)
+
+      by-place : KeyFits (rowFrom r) → leb (leastKey (bookOf book) (tableRows (bookOf book) table) k) (rowKey (bookOf book) (rowFrom r)) ≡ leb least (placeOf (rowFrom r))
+      unfolding rowKey
+      by-place fit = rw own (going .order (placeOf (rowFrom r)))
+
+      abbrev first : ℕ
+      first = earlyNumber (jobCount (flowOf (bookOf book) (c .flow))) least (placeOf (rowFrom r)) (rowFrom r)
+
+      abbrev second : ℕ
+      second = lateNumber (jobOf (flowOf (bookOf book) (c .flow)) (r .job) .cap) (field 2 work (2 * r .slot)) (bookOf book .processors) (rowFrom r)
+
+      first-right : earlyNumber (jobCount (flowOf (bookOf book) (c .flow))) least (placeOf (rowFrom r)) (rowFrom r)
+          ≡ earlyNumber (jobCount (flowOf (bookOf book) (r .flow))) least (placeOf (rowFrom r)) (rowFrom r)
+      first-right = rw own refl
+
+      number-is : t .number ≡ testNumber (bookOf book) (c .flow) (field 2 work (2 * r .slot)) least (rowFrom r)
+      number-is = tested .number
+
+      -- 15 and 16 have passed
+      module _ (none : earlyNumber (jobCount (flowOf (bookOf book) (c .flow))) least (placeOf (rowFrom r)) (rowFrom r) ≡ 0) where
+        early-row : EarlyPassed (bookOf book) (tableRows (bookOf book) table) k (rowFrom r)
+        early-row = early-passed b rows k (rowFrom r) row-read range (going .reached .passed) least (placeOf (rowFrom r)) first by-place flow-in first-right none
+
+        used-right : field 2 work (2 * r .slot) ≡ usedIn (take k (tableRows (bookOf book) table)) (r .slot)
+        used-right =
+            rw (going .reached .use-of)
+            (used-pair slots (take k rows) work (r .slot) (early-row .fits .slot-fits) (omega (arith, known .used (r .slot), range .processors-most)))
+
+        cap-right : jobOf (flowOf (bookOf book) (c .flow)) (r .job) .cap ≡ jobOf (flowOf (bookOf book) (r .flow)) (r .job) .cap
+        cap-right = rw own refl
+
+      pub test-stops : (t .number ≡ 0 → ⊥) → rowFault (bookOf book) (tableRows (bookOf book) table) k ≡ Refused (t .number) (r .flow) (r .job)
+      unfolding testNumber
+      test-stops n = go (eqb first 0) refl
+        where
+          go : (u : Bool) → eqb first 0 ≡ u → rowFault (bookOf book) (tableRows (bookOf book) table) k ≡ Refused (t .number) (r .flow) (r .job)
+          go true e =
+              let none : first ≡ 0 = eqb-true first 0 e in
+              late-fault b rows k (rowFrom r) row-read (early-row none) (field 2 work (2 * r .slot)) (jobOf (flowOf (bookOf book) (c .flow)) (r .job) .cap)
+              (t .number) (used-right none) (cap-right none) (number-is ∙ first-passes first second none) n
+          go false e =
+              early-fault b rows k (rowFrom r) row-read range (going .reached .passed) least (placeOf (rowFrom r)) (t .number) by-place flow-in
+              (number-is ∙ first-stands first second (eqb-false first 0 e) ∙ first-right) n
+
+      pub turn-of : t .number ≡ 0 → Turn (bookOf book) table (c .flow) k (rowFrom r) t
+      unfolding testNumber
+      turn-of e =
+          let both = first-none first second (sym number-is ∙ e) in
+          record {
+            more = more-rows here;
+            row-is = row-read;
+            own = own;
+            early = early-row (both .0);
+            late = late-passed b rows k (rowFrom r) row-read (early-row (both .0)) (field 2 work (2 * r .slot))
+                (jobOf (flowOf (bookOf book) (c .flow)) (r .job) .cap) second (used-right (both .0)) (cap-right (both .0)) refl (both .1);
+            used-is = tested .used e ∙ used-right (both .0);
+            size-is = tested .size e;
+            predecessors-are = tested .predecessors e;
+          }
+
+  -- ---- 19, and the row counted
+  module _ {r : Row} {t : Tested} (turn : Turn (bookOf book) table (c .flow) k (rowFrom r) t) where
+    job-in : r .job < jobCount (flowOf (bookOf book) (c .flow))
+    job-in = rw (turn .own) at (in-book-of b (rowFrom r) (turn .early .inside) .2)
+
+    pub job-few : r .job < 64
+    job-few = turn .early .fits .job-fits
+
+    pub slot-in : r .slot < slots
+    slot-in = turn .early .fits .slot-fits
+
+    latest : finishOf (take k (tableRows (bookOf book) table)) (c .flow) ≤ r .slot + 1
+    latest = rw (turn .own) at (known .rising (rowFrom r) (turn .early .fits) (turn .early .after-least))
+
+    tests : lacksPredecessor (bookOf book) (take k (tableRows (bookOf book) table)) (rowFrom r)
+        ≡ anyTo (λ m. lacksAt (t .predecessors) m (r .slot) (getD ready m 0)) (r .job)
+    tests =
+        lacks-by-ready b (c .flow) (take k rows) totals ready (rowFrom r) (going .tally) (turn .own) job-in slot-in latest
+        ∙ rw (turn .predecessors-are) refl
+
+    pub lacks-stops : (m : ℕ) → m < r .job → lacksAt (t .predecessors) m (r .slot) (getD ready m 0) ≡ true →
+        rowFault (bookOf book) (tableRows (bookOf book) table) k ≡ Refused 19 (r .flow) (r .job)
+    lacks-stops m h e =
+        lacks-fault b rows k (rowFrom r) (turn .row-is) (turn .early) (turn .late)
+        (tests ∙ any-true (λ m. lacksAt (t .predecessors) m (r .slot) (getD ready m 0)) (r .job) m h e)
+
+    -- a job that has a total lacks none: its first row was asked
+    pub all-asked : (ask : ℕ) → ask ≡ asked (getD totals (r .job) 0) (r .job) →
+        anyTo (λ m. lacksAt (t .predecessors) m (r .slot) (getD ready m 0)) ask ≡ false →
+        lacksPredecessor (bookOf book) (take k (tableRows (bookOf book) table)) (rowFrom r) ≡ false
+    unfolding asked
+    all-asked ask e none = go (ltb 0 (getD totals (r .job) 0)) refl
+      where
+        go : (u : Bool) → ltb 0 (getD totals (r .job) 0) ≡ u →
+            lacksPredecessor (bookOf book) (take k (tableRows (bookOf book) table)) (rowFrom r) ≡ false
+        go true h =
+            started-lacks-none b rows k (going .reached .within) (going .reached .passed) (rowFrom r) (rw (turn .own) latest)
+            (rw (turn .own) (omega (arith, ltb-true 0 (getD totals (r .job) 0) h, going .tally .total (r .job) job-few)))
+        go false h =
+            let all : ask ≡ r .job = e ∙ rw h refl in
+            tests ∙ ap (anyTo (λ m. lacksAt (t .predecessors) m (r .slot) (getD ready m 0))) (sym all) ∙ none
+
+    pub countable : Countable totals ready work t (rowFrom r)
+    countable = record {
+      job-few = job-few;
+      slot-in = slot-in;
+      totals-long = going .tally .totals-long;
+      ready-long = going .tally .ready-long;
+      room = going .room;
+      use-fits = omega (arith, turn .used-is, ltb-false (b .processors) (usedIn (take k rows) (r .slot) + r .processors) (turn .late .room-kept), range .processors-most);
+      total-fits = omega (
+        arith,
+        going .tally .total (r .job) job-few,
+        known .few (c .flow) (r .job),
+        going .reached .within,
+        table-length b table (going .headed),
+        going .short,
+        ltb-false (b .processors) (usedIn (take k rows) (r .slot) + r .processors) (turn .late .room-kept),
+        range .processors-most,
+      );
+    }
+
+    -- the row passes, and it is counted
+    module _ (none : lacksPredecessor (bookOf book) (take k (tableRows (bookOf book) table)) (rowFrom r) ≡ false)
+        {totals′ ready′ work′ : List ℕ} (counted : RowCounted t (rowFrom r) totals ready work totals′ ready′ work′) where
+      abbrev soFar : List rules.Row
+      soFar = take k (tableRows (bookOf book) table)
+
+      one : take (suc k) (tableRows (bookOf book) table) ≡ take k (tableRows (bookOf book) table) ++ rowFrom r ∷ []
+      one = rw (take-suc rows k noRow (turn .more), turn .row-is) refl
+
+      work-right : work′ ≡ workUsed slots (take k (tableRows (bookOf book) table) ++ rowFrom r ∷ []) work
+      work-right =
+          counted .used ∙ rw (turn .used-is)
+          (ap (λ (s : List ℕ). sets s (2 * r .slot) (bytesOf 2 (usedIn soFar (r .slot) + r .processors))) (going .reached .use-of)
+          ∙ sym (used-row slots soFar (rowFrom r) work slot-in))
+
+      pub lent-next : {totals₀ ready₀ work₀ : List ℕ} → Lent totals₀ ready₀ work₀ totals ready work → Lent totals₀ ready₀ work₀ totals′ ready′ work′
+      lent-next lent = record {
+        totals-kept = ap length (counted .total) ∙ simp length-set (lent .totals-kept);
+        ready-kept = ap length (counted .complete) ∙ simp length-set (lent .ready-kept);
+        work-kept = ap length (counted .used) ∙ length-sets work (2 * r .slot) (bytesOf 2 (t .used + r .processors)) ∙ lent .work-kept;
+        cleared = ap (workZero slots) work-right ∙ used-cleared slots (soFar ++ rowFrom r ∷ []) work ∙ lent .cleared;
+      }
+
+      reached-next : Reached (bookOf book) table (suc k) (at + 6) work′
+      reached-next = record {
+        at-is = omega (arith, going .reached .at-is);
+        within = turn .more;
+        passed = fault-next (rowFault b rows) k (going .reached .passed) (row-passes b rows k (rowFrom r) (turn .row-is) (turn .early) (turn .late) none);
+        use-of = rw one (used-self slots (soFar ++ rowFrom r ∷ []) work work′ work-right);
+      }
+
+      tally-right : FlowTally (bookOf book) (c .flow) (take (suc k) (tableRows (bookOf book) table)) totals′ ready′
+      tally-right =
+          rw (one, counted .total, counted .complete)
+          (tally-next b (c .flow) soFar (rowFrom r) (turn .own) latest totals ready (going .tally) job-few job-in (t .size) (turn .size-is))
+
+      least-right : leastKey (bookOf book) (tableRows (bookOf book) table) (suc k) ≡ suc (serviceKey (bookOf book) (c .flow) * places + placeOf (rowFrom r))
+      unfolding leastKey rowKey
+      least-right = rw (turn .row-is, turn .own) refl
+
+      going-at : (v : Verdict) → v ≡ Pass →
+          Going book table c from totals′ ready′ work′ v (placeOf (rowFrom r) + 1) (r .slot + 1) (at + 6) (suc k)
+      going-at v v-is = record {
+        current = going .current;
+        headed = going .headed;
+        short = going .short;
+        room = omega (arith, going .room, ap length (counted .used), length-sets work (2 * r .slot) (bytesOf 2 (t .used + r .processors)));
+        no-fault = v-is;
+        first-more = going .first-more;
+        first-own = going .first-own;
+        since = omega (arith, going .since);
+        reached = reached-next;
+        tally = tally-right;
+        order = λ p. rw least-right (shifted (serviceKey b (c .flow) * places) (placeOf (rowFrom r)) p);
+        others-total = λ g i n. rw one (total-others soFar (rowFrom r) g i (λ e. n (sym e ∙ turn .own))) ∙ going .others-total g i n;
+        others-finish = λ g n. rw one (finish-there soFar (rowFrom r) g (λ e. n (sym e ∙ turn .own))) ∙ going .others-finish g n;
+        finish-of = rw one (sym (finish-here soFar (rowFrom r) (c .flow) (turn .own) latest));
+        last-low = λ l. omega (arith, least-right);
+        last-high = omega (arith, least-right, place-below (rowFrom r) (turn .early .fits));
+      }
+
+      -- the next turn
+      pub going-next : {v : Verdict} {place : ℕ} → v ≡ Pass → place ≡ placeOf (rowFrom r) →
+          Going book table c from totals′ ready′ work′ v (place + 1) (r .slot + 1) (at + 6) (rowsTo (bookOf book) (at + 6))
+      going-next {v} v-is e = rw (e, rows-to b (at + 6) (suc k) (reached-next .at-is)) (going-at v v-is)
+
+  -- ---- the ways out
+  module _ {totals₀ ready₀ entry : List ℕ} (lent : Lent totals₀ ready₀ entry totals ready work) where
+    -- a row's fault ends the walk
+    pub walk-stops : k < length (tableRows (bookOf book) table) → {n fl jb : ℕ} {v : Verdict} → v ≡ Refused n fl jb →
+        rowFault (bookOf book) (tableRows (bookOf book) table) k ≡ Refused n fl jb →
+        RowsWalked (bookOf book) table (c .flow) from entry work totals (record { verdict = v; next = at; finish = finish })
+    unfolding rowsFault
+    walk-stops more {n} {fl} {jb} v-is e = record {
+      totals-long = going .tally .totals-long;
+      cleared = lent .cleared;
+      stopped = λ p. v-is ∙ sym (fault-stop (rowFault b rows) (length rows) k (Refused n fl jb) more (not-pass n fl jb) (going .reached .passed) e);
+      went = λ p. not-pass n fl jb (sym v-is ∙ p);
+      total = λ p. not-pass n fl jb (sym v-is ∙ p);
+    }
+
+    -- the next row is another flow's, or there is none
+    walk-leaves : (k < length (tableRows (bookOf book) table) → getD (tableRows (bookOf book) table) k noRow .flow ≡ c .flow → ⊥) →
+        RowsWalked (bookOf book) table (c .flow) from entry work totals (record { verdict = bad; next = at; finish = finish })
+    walk-leaves another = record {
+      totals-long = going .tally .totals-long;
+      cleared = lent .cleared;
+      stopped = λ n. absurd (n (going .no-fault));
+      went = λ p. rw here went-on;
+      total = λ p i l. rw here (going .tally .total i l);
+    }
+      where
+        here : rowsTo (bookOf book) at ≡ k
+        here = rows-to b at k (going .reached .at-is)
+
+        some : rowsTo (bookOf book) from < k
+        some = go (lt-or-ge (rowsTo b from) k)
+          where
+            go : (rowsTo (bookOf book) from < k) ⊎ (k ≤ rowsTo (bookOf book) from) → rowsTo (bookOf book) from < k
+            go (inl l) = l
+            go (inr l) =
+                let same : k ≡ rowsTo b from = omega (arith, going .since) in
+                absurd (another (omega (arith, going .first-more)) (ap (λ j. getD rows j noRow .flow) same ∙ going .first-own))
+
+        went-on : WentOn (bookOf book) table (c .flow) (rowsTo (bookOf book) from) k at work finish
+        went-on = record {
+          some = some;
+          reached = going .reached;
+          others-total = going .others-total;
+          others-finish = going .others-finish;
+          finish-of = going .finish-of;
+          last-low = going .last-low some;
+          last-high = going .last-high;
+          another = another;
+        }
+
+    pub walk-ends : length table ≤ at → RowsWalked (bookOf book) table (c .flow) from entry work totals (record { verdict = bad; next = at; finish = finish })
+    walk-ends h = walk-leaves (λ l e. omega (arith, table-length b table (going .headed), going .reached .at-is))
+
+    pub walk-turns : (here : at < length table) (r : Row) → rowFrom r ≡ rowAt table at → (r .flow ≡ c .flow → ⊥) →
+        RowsWalked (bookOf book) table (c .flow) from entry work totals (record { verdict = bad; next = at; finish = finish })
+    walk-turns here r read n = walk-leaves (λ l e. n (sym (ap (λ (q : rules.Row). q .flow) (row-read here r read)) ∙ e))
+
+-- ---- the predecessors of the row, asked one after the other
+-- what holds as predecessor j is asked
+pub record Asking (book table : List ℕ) (c : Current) (from : ℕ) (totals ready work : List ℕ) (bad : Verdict) (least finish at : ℕ)
+    (r : Row) (t : Tested) (i ask j : ℕ) : Type 0 where
+  pub going : Going book table c from totals ready work bad least finish at (rowsTo (bookOf book) at)
+  pub turn : Turn (bookOf book) table (c .flow) (rowsTo (bookOf book) at) (rowFrom r) t
   pub job-is : i ≡ r .job
-  pub at-is : at ≡ 2 * r .slot
-  pub few : r .processors < 65536
-  pub key-is : key ≡ rowKey (bookOf book) (rowFrom r)
-  pub record-is : jobFrom job ≡ jobOf (flowOf (bookOf book) (r .flow)) (r .job)
-  pub used-is : used ≡ usedIn (take row (tableRows (bookOf book) table)) (r .slot)
-  pub early : EarlyPassed (bookOf book) (tableRows (bookOf book) table) row (rowFrom r)
-  pub late : LatePassed (bookOf book) (take row (tableRows (bookOf book) table)) (rowFrom r)
+  pub ask-is : ask ≡ asked (getD totals i 0) i
+  pub asked-to : j ≤ ask
+  pub none-so-far : anyTo (λ m. lacksAt (t .predecessors) m (r .slot) (getD ready m 0)) j ≡ false
 
--- ---- the tests of 19, one more
-pub none-tested : (q : ℕ → Bool) → anyTo q 0 ≡ false
-unfolding anyTo
-none-tested q = refl
-
-pub one-tested : (q : ℕ → Bool) (k : ℕ) → anyTo q k ≡ false → q k ≡ false → anyTo q (k + 1) ≡ false
-unfolding anyTo
-one-tested q k e d = rw (add-one, e, d) refl
-
-pub all-tested : (q : ℕ → Bool) (k n : ℕ) → k ≤ n → n ≤ k → anyTo q k ≡ false → anyTo q n ≡ false
-all-tested q k n h l e = let same : n ≡ k = omega arith in ap (anyTo q) same ∙ e
-
-pub asked-most : (n total i : ℕ) → n ≡ asked total i → n ≤ i
+asked-most : (n total i : ℕ) → n ≡ asked total i → n ≤ i
 unfolding asked
 asked-most n total i = go (ltb 0 total)
   where
-    go : (t : Bool) → n ≡ (if t then 0 else i) → n ≤ i
+    go : (u : Bool) → n ≡ (if u then 0 else i) → n ≤ i
     go true e = omega arith
     go false e = omega arith
 
--- ---- the walk begins
-pub ready-flows : {book table work : List ℕ} {x : Index} → Ready book table work x → x .flows ≤ 64
-ready-flows {book} ready = omega (arith, ready .indexed .flows, pass-in-range book (ready .indexed .passes) .flows-most)
+none-asked : (q : ℕ → Bool) → anyTo q 0 ≡ false
+unfolding anyTo
+none-asked q = refl
 
-pub ready-head : {book table work : List ℕ} {x : Index} → Ready book table work x → 8 + 2 * x .flows ≤ length table
-ready-head {book} {table} ready =
-    omega (arith, ready .indexed .flows, head-passes (bookOf book) table (ready .headed) .head-inside)
+one-asked : (q : ℕ → Bool) (j : ℕ) → anyTo q j ≡ false → q j ≡ false → anyTo q (j + 1) ≡ false
+unfolding anyTo
+one-asked q j e d = rw (add-one, e, d) refl
 
-pub known-of : (book table work : List ℕ) (x : Index) → Ready book table work x → AllBytes table →
-    Known book table (x .processors) (x .flows) (x .starts) (x .deadlines) (x .jobs) (8 + 2 * x .flows) ((length table - (8 + 2 * x .flows)) / 6)
-known-of book table work x ready bytes =
-    let ix = ready .indexed in
-    let passes = head-passes (bookOf book) table (ready .headed) in
-    let same : 8 + 2 * x .flows ≡ tableHead (bookOf book) = ap (λ (n : ℕ). 8 + 2 * n) (ix .flows) in
-    let inside : 8 + 2 * x .flows ≤ length table = rw same (passes .head-inside) in
-    let within : (f : ℕ) → f < x .flows → f < flowCount (bookOf book) = λ f h. rw (ix .flows) at h in
-    record {
-      passes = ix .passes;
-      processors-are = ix .processors;
-      flows-are = ix .flows;
-      flows-few = omega (arith, ix .flows, pass-in-range book (ix .passes) .flows-most);
-      start-of = λ f h. ix .starts f (within f h);
-      deadline-of = λ f h. ix .deadlines f (within f h);
-      jobs-of = λ f h. ix .jobs f (within f h);
-      head-is = same;
-      rows-are = rw same refl;
-      rows-inside = omega arith;
-      rows-few = omega (arith, passes .length-stated, field-below table bytes 4 0);
+module _ {book table : List ℕ} {c : Current} {from : ℕ} {totals ready work : List ℕ} {bad : Verdict} {least finish at : ℕ} {r : Row} {t : Tested}
+    {i ask : ℕ} where
+  pub asking-first : Going book table c from totals ready work bad least finish at (rowsTo (bookOf book) at) →
+      Turn (bookOf book) table (c .flow) (rowsTo (bookOf book) at) (rowFrom r) t → i ≡ r .job → ask ≡ asked (getD totals i 0) i →
+      Asking book table c from totals ready work bad least finish at r t i ask 0
+  asking-first going turn job-is ask-is = record {
+    going = going;
+    turn = turn;
+    job-is = job-is;
+    ask-is = ask-is;
+    asked-to = omega arith;
+    none-so-far = none-asked (λ m. lacksAt (t .predecessors) m (r .slot) (getD ready m 0));
+  }
+
+  module _ {j : ℕ} (asking : Asking book table c from totals ready work bad least finish at r t i ask j) where
+    pub asks-few : ask ≤ 64
+    asks-few = omega (arith, asked-most ask (getD totals i 0) i (asking .ask-is), asking .job-is, job-few (asking .going) (asking .turn))
+
+    pub asking-next : j < ask → {lacking : Bool} → lacking ≡ lacksAt (t .predecessors) j (r .slot) (getD ready j 0) → lacking ≡ false →
+        Asking book table c from totals ready work bad least finish at r t i ask (j + 1)
+    asking-next h is none = record {
+      going = asking .going;
+      turn = asking .turn;
+      job-is = asking .job-is;
+      ask-is = asking .ask-is;
+      asked-to = omega arith;
+      none-so-far = one-asked (λ m. lacksAt (t .predecessors) m (r .slot) (getD ready m 0)) j (asking .none-so-far) (sym is ∙ none);
     }
 
-pub begun-none : (book table entry area totals ready finish : List ℕ) → bookFault book ≡ Pass → workBytes ≤ length entry → area ≡ workZero slots entry →
-    length totals ≡ 4096 → length ready ≡ 4096 → length finish ≡ 64 →
-    ((j : ℕ) → j < 4096 → getD totals j 0 ≡ 0) → ((j : ℕ) → j < 4096 → getD ready j 0 ≡ 65535) → ((f : ℕ) → f < 64 → getD finish f 0 ≡ 0) →
-    Begun book table area area totals ready finish Pass 0 0
-begun-none book table entry area totals ready finish passes room from t-long r-long f-long t₀ r₀ f₀ = record {
-  walking = walking-none (bookOf book) (tableRows (bookOf book) table) area totals ready finish area (pass-in-range book passes) t₀ r₀ f₀
-      (from ∙ sym (cleared-twice slots entry) ∙ ap (workZero slots) (sym from));
-  no-fault = refl;
-  totals-long = t-long;
-  ready-long = r-long;
-  finish-long = f-long;
-  area-long = omega (arith, ap length from, cleared-length slots entry room);
-}
+    pub asking-stops : j < ask → {lacking : Bool} → lacking ≡ lacksAt (t .predecessors) j (r .slot) (getD ready j 0) → lacking ≡ true →
+        rowFault (bookOf book) (tableRows (bookOf book) table) (rowsTo (bookOf book) at) ≡ Refused 19 (r .flow) (r .job)
+    asking-stops h is some =
+        lacks-stops (asking .going) (asking .turn) j (omega (arith, asked-most ask (getD totals i 0) i (asking .ask-is), asking .job-is)) (sym is ∙ some)
 
-module _ {book table area : List ℕ} {processors flows : ℕ} {starts deadlines jobs : List ℕ} {head rows : ℕ}
-    {work totals ready finish : List ℕ} {bad : Verdict} {least row : ℕ}
-    (known : Known book table processors flows starts deadlines jobs head rows)
-    (begun : Begun book table area work totals ready finish bad least row) where
-  range : InRange (bookOf book)
-  range = pass-in-range book (known .passes)
-
-  -- the work area keeps its length
-  pub work-long : length work ≡ length area
-  work-long = ap length (begun .walking .tally .area-of) ∙ used-length slots (take row (tableRows (bookOf book) table)) area (begun .area-long)
-
-  -- ---- the row that was read
-  module _ (here : row < rows) (r : Row) (read : rowFrom r ≡ rowAt table (head + 6 * row)) {f : ℕ} (flow-is : f ≡ r .flow) where
-    more-rows : row < length (tableRows (bookOf book) table)
-    more-rows = rw (rows-length (bookOf book) table, ← known .rows-are) here
-
-    row-read : getD (tableRows (bookOf book) table) row noRow ≡ rowFrom r
-    row-read =
-        row-at (bookOf book) table row (rw (known .rows-are) at here)
-        ∙ ap (λ (n : ℕ). rowAt table (n + 6 * row)) (sym (known .head-is)) ∙ sym read
-
-    pub unknown-stops : flows ≤ f → rowFault (bookOf book) (tableRows (bookOf book) table) row ≡ Refused 15 (r .flow) (r .job)
-    unknown-stops h =
-        flow-unknown (bookOf book) (tableRows (bookOf book) table) row (rowFrom r) row-read (omega (arith, known .flows-are, flow-is))
-
-    -- ---- 15 and 16
-    module _ (in-book : f < flows) {key n : ℕ} (key-read : key ≡ keyOf (getD deadlines f 0) (rowFrom r))
-        (n-is : n ≡ earlyNumber (getD jobs f 0) least key (rowFrom r)) where
-      flow-inside : r .flow < flowCount (bookOf book)
-      flow-inside = omega (arith, known .flows-are, flow-is)
-
-      key-right : key ≡ rowKey (bookOf book) (rowFrom r)
-      unfolding rowKey
-      key-right = key-read ∙ ap (λ (d : ℕ). keyOf d (rowFrom r)) (known .deadline-of f in-book ∙ ap (λ (g : ℕ). flowOf (bookOf book) g .deadline) flow-is)
-
-      n-right : n ≡ earlyNumber (jobCount (flowOf (bookOf book) (r .flow))) least key (rowFrom r)
-      n-right = n-is ∙ ap (λ (m : ℕ). earlyNumber m least key (rowFrom r)) (known .jobs-of f in-book ∙ ap (λ (g : ℕ). jobCount (flowOf (bookOf book) g)) flow-is)
-
-      pub early-stops : (n ≡ 0 → ⊥) → rowFault (bookOf book) (tableRows (bookOf book) table) row ≡ Refused n (r .flow) (r .job)
-      early-stops =
-          early-fault (bookOf book) (tableRows (bookOf book) table) row (rowFrom r) row-read range (begun .walking .passed) least key n
-          (begun .walking .least-is) key-right flow-inside n-right
-
-      module _ (passed : n ≡ 0) {i : ℕ} (job-is : i ≡ r .job) where
-        early : EarlyPassed (bookOf book) (tableRows (bookOf book) table) row (rowFrom r)
-        early =
-            early-passed (bookOf book) (tableRows (bookOf book) table) row (rowFrom r) row-read range (begun .walking .passed) least key n
-            (begun .walking .least-is) key-right flow-inside n-right passed
-
-        pub slot-inside : r .slot < slots
-        slot-inside = in-book-of (bookOf book) (rowFrom r) (early .inside) .0
-
-        pub stands : FlowStands book f (getD starts f 0)
-        stands = record { passes = known .passes; flow-in = rw (← known .flows-are) in-book; start-at = known .start-of f in-book }
-
-        pub job-inside : i < jobCount (flowOf (bookOf book) f)
-        job-inside = rw (job-is, flow-is) (in-book-of (bookOf book) (rowFrom r) (early .inside) .2)
-
-        -- ---- 17 and 18
-        module _ {job : JobRecord} (job-read : jobFrom job ≡ jobOf (flowOf (bookOf book) f) i) {at used : ℕ} (at-is : at ≡ 2 * r .slot)
-            (used-read : used ≡ field 2 work at) where
-          job-right : jobFrom job ≡ jobOf (flowOf (bookOf book) (r .flow)) (r .job)
-          job-right = job-read ∙ rw (job-is, flow-is) refl
-
-          used-right : used ≡ usedIn (take row (tableRows (bookOf book) table)) (r .slot)
-          used-right =
-              let few : usedIn (take row (tableRows (bookOf book) table)) (r .slot) < 65536 =
-              omega (arith, begun .walking .tally .used (r .slot), range .processors-most) in
-              used-read ∙ rw (at-is, begun .walking .tally .area-of) (used-pair slots (take row (tableRows (bookOf book) table)) area (r .slot) slot-inside few)
-
-          pub late-asks : (job .cap ≤ processors) × (used ≤ processors) × (processors ≤ 4096)
-          late-asks =
-              let cap = range .each-flow f (stands .flow-in) .each-job i job-inside .cap-most in (
-                omega (arith, known .processors-are, ap (λ (j : Job). j .cap) job-read),
-                omega (arith, known .processors-are, used-right, begun .walking .tally .used (r .slot)),
-                omega (arith, known .processors-are, range .processors-most),
-              )
-
-          module _ {m : ℕ} (m-is : m ≡ lateNumber (job .cap) used processors (rowFrom r)) where
-            m-right : m ≡ lateNumber (job .cap) used (bookOf book .processors) (rowFrom r)
-            m-right = m-is ∙ ap (λ (p : ℕ). lateNumber (job .cap) used p (rowFrom r)) (known .processors-are)
-
-            pub late-stops : (m ≡ 0 → ⊥) → rowFault (bookOf book) (tableRows (bookOf book) table) row ≡ Refused m (r .flow) (r .job)
-            late-stops =
-                late-fault (bookOf book) (tableRows (bookOf book) table) row (rowFrom r) row-read early used (job .cap) m
-                used-right (ap (λ (j : Job). j .cap) job-right) m-right
-
-            late-here : m ≡ 0 → LatePassed (bookOf book) (take row (tableRows (bookOf book) table)) (rowFrom r)
-            late-here =
-                late-passed (bookOf book) (tableRows (bookOf book) table) row (rowFrom r) row-read early used (job .cap) m
-                used-right (ap (λ (j : Job). j .cap) job-right) m-right
-
-            pub turn-of : m ≡ 0 → Turn book table row r f key i job at used
-            turn-of e = record {
-              more = more-rows;
-              row-is = row-read;
-              flow-is = flow-is;
-              job-is = job-is;
-              at-is = at-is;
-              few = omega (arith, ltb-false (jobOf (flowOf (bookOf book) (r .flow)) (r .job) .cap) (r .processors) (late-here e .cap-kept), ap (λ (j : Job). j .cap) job-right, late-asks .0, late-asks .2);
-              key-is = key-right;
-              record-is = job-right;
-              used-is = used-right;
-              early = early;
-              late = late-here e;
-            }
-
-  -- ---- 19, and the row counted
-  module _ {r : Row} {f key i : ℕ} {job : JobRecord} {at used : ℕ} (turn : Turn book table row r f key i job at used) where
-    can-count : Counts (bookOf book) (take row (tableRows (bookOf book) table)) least (rowFrom r)
-    can-count =
-        counts (bookOf book) range (tableRows (bookOf book) table) area row least totals ready finish work (begun .walking) (rowFrom r)
-        (turn .more) (turn .row-is) (turn .few) (turn .early) (turn .late)
-
-    pub flow-few : f < 64
-    flow-few = omega (arith, turn .flow-is, can-count .flow-in, range .flows-most)
-
-    pub job-few : i < 64
-    job-few = omega (arith, turn .job-is, can-count .job-in, range .each-flow (r .flow) (can-count .flow-in) .jobs-most)
-
-    pub slot-few : r .slot < slots
-    slot-few = can-count .slot-in
-
-    pub at-inside : at + 2 ≤ length work
-    at-inside = omega (arith, turn .at-is, can-count .slot-in, work-long, begun .area-long)
-
-    pub use-fits : used + r .processors ≤ 4096
-    use-fits = omega (arith, turn .used-is, can-count .room, range .processors-most)
-
-    total-is : getD totals (place f i) 0 ≡ totalOf (take row (tableRows (bookOf book) table)) (r .flow) (r .job)
-    total-is = begun .walking .tally .total f i flow-few job-few ∙ rw (turn .flow-is, turn .job-is) refl
-
-    pub total-fits : getD totals (place f i) 0 + r .processors < 18446744073709551616
-    total-fits =
-        let rows′ = tableRows (bookOf book) table in
-        let length-few : length (take row rows′) ≤ row = rw length-take (omega arith) in
-        let row-few : row < 4294967296 = omega (arith, turn .more, rows-length (bookOf book) table, known .rows-are, known .rows-few) in
-        omega (arith, total-is, begun .walking .tally .few (r .flow) (r .job), turn .few)
-
-    -- the tests of 19 in the values of the code
-    tests : lacksPredecessor (bookOf book) (take row (tableRows (bookOf book) table)) (rowFrom r)
-        ≡ anyTo (λ m. lacksAt (job .predecessors) m (r .slot) (getD ready (place f m) 0)) i
-    tests =
-        lacks-by-ready (bookOf book) area (take row (tableRows (bookOf book) table)) least totals ready finish work (rowFrom r) range
-        (begun .walking .tally) can-count
-        ∙ rw (turn .flow-is, turn .job-is, ap (λ (j : Job). j .predecessors) (turn .record-is)) refl
-
-    pub lacks-stops : (k : ℕ) → k < i → lacksAt (job .predecessors) k (r .slot) (getD ready (place f k) 0) ≡ true →
-        rowFault (bookOf book) (tableRows (bookOf book) table) row ≡ Refused 19 (r .flow) (r .job)
-    lacks-stops k h e =
-        lacks-fault (bookOf book) (tableRows (bookOf book) table) row (rowFrom r) (turn .row-is) (turn .early) (turn .late)
-        (tests ∙ any-true (λ m. lacksAt (job .predecessors) m (r .slot) (getD ready (place f m) 0)) i k h e)
-
-    -- a job that has a total lacks none: its first row was asked
-    pub all-asked : (ask : ℕ) → ask ≡ asked (getD totals (place f i) 0) i →
-        anyTo (λ m. lacksAt (job .predecessors) m (r .slot) (getD ready (place f m) 0)) ask ≡ false →
-        anyTo (λ m. lacksAt (job .predecessors) m (r .slot) (getD ready (place f m) 0)) i ≡ false
-    unfolding asked
-    all-asked ask e none = go (ltb 0 (getD totals (place f i) 0)) refl
-      where
-        rows′ : List rules.Row
-        rows′ = tableRows (bookOf book) table
-
-        latest : finishOf (take row rows′) (r .flow) ≤ r .slot + 1
-        latest = finish-most (bookOf book) range area (take row rows′) least totals ready finish work (begun .walking .tally) (rowFrom r) can-count
-
-        go : (t : Bool) → ltb 0 (getD totals (place f i) 0) ≡ t → anyTo (λ m. lacksAt (job .predecessors) m (r .slot) (getD ready (place f m) 0)) i ≡ false
-        go true h =
-            sym tests ∙ started-lacks-none (bookOf book) rows′ row (begun .walking .within) (begun .walking .passed) (rowFrom r) latest
-            (omega (arith, ltb-true 0 (getD totals (place f i) 0) h, total-is))
-        go false h =
-            let all : ask ≡ i = e ∙ rw h refl in
-            ap (anyTo (λ m. lacksAt (job .predecessors) m (r .slot) (getD ready (place f m) 0))) (sym all) ∙ none
-
-    pub begun-next : anyTo (λ m. lacksAt (job .predecessors) m (r .slot) (getD ready (place f m) 0)) i ≡ false → (v : Verdict) (work′ : List ℕ) (total-v ready-v : ℕ) → v ≡ Pass →
-        work′ ≡ sets work at (bytesOf 2 (used + r .processors)) →
-        total-v ≡ getD totals (place f i) 0 + r .processors →
-        ready-v ≡ readyAfter (getD ready (place f i) 0) (getD totals (place f i) 0) total-v (job .size) (r .slot) →
-        Begun book table area work′ (set totals (place f i) total-v) (set ready (place f i) ready-v)
-        (set finish f (r .slot + 1)) v (key + 1) (row + 1)
-    begun-next none v work′ total-v ready-v v-is w-is t-is r-is =
-        let rows′ = tableRows (bookOf book) table in
-        let size-is : job .size ≡ jobOf (flowOf (bookOf book) (r .flow)) (r .job) .size = ap (λ (j : Job). j .size) (turn .record-is) in
-        let t-right : total-v ≡ totalOf (take row rows′) (r .flow) (r .job) + r .processors = t-is ∙ ap (λ (n : ℕ). n + r .processors) total-is in
-        let r-right : ready-v ≡ readyAfter (getD ready (place (r .flow) (r .job)) 0) (totalOf (take row rows′) (r .flow) (r .job))
-        (totalOf (take row rows′) (r .flow) (r .job) + r .processors) (jobOf (flowOf (bookOf book) (r .flow)) (r .job) .size) (r .slot) =
-        r-is ∙ rw (total-is, t-right, size-is, turn .flow-is, turn .job-is) refl in
-        record {
-          walking = rw (w-is, turn .flow-is, turn .job-is, turn .at-is)
-              (walking-next (bookOf book) range rows′ area row least totals ready finish work (begun .walking) (rowFrom r) (turn .more) (turn .row-is)
-              (turn .few) (turn .early) (turn .late) (tests ∙ none) key total-v ready-v used (begun .totals-long) (begun .ready-long) (begun .finish-long)
-              (turn .key-is) t-right r-right (turn .used-is));
-          no-fault = v-is;
-          totals-long = length-set totals (place f i) total-v ∙ begun .totals-long;
-          ready-long = length-set ready (place f i) ready-v ∙ begun .ready-long;
-          finish-long = length-set finish f (r .slot + 1) ∙ begun .finish-long;
-          area-long = begun .area-long;
-        }
-
-  -- ---- the ways out
-  module _ (entry : List ℕ) (from : area ≡ workZero slots entry) where
-    cleared-work : workZero slots work ≡ workZero slots entry
-    cleared-work =
-        ap (workZero slots) (begun .walking .tally .area-of) ∙ used-cleared slots (take row (tableRows (bookOf book) table)) area
-        ∙ ap (workZero slots) from ∙ cleared-twice slots entry
-
-    -- a row's fault ends the walk
-    pub walk-stops : row < rows → (n fl jb : ℕ) (v : Verdict) → v ≡ Refused n fl jb →
-        rowFault (bookOf book) (tableRows (bookOf book) table) row ≡ Refused n fl jb →
-        RowsWalked (bookOf book) table entry work (record { verdict = v; totals = totals; finish = finish })
-    walk-stops here n fl jb v v-is e =
-        let rows′ = tableRows (bookOf book) table in
-        let more : row < length rows′ = rw (rows-length (bookOf book) table, ← known .rows-are) here in
-        record {
-          verdict = v-is ∙ sym (fault-stop (rowFault (bookOf book) rows′) (length rows′) row (Refused n fl jb) more (not-pass n fl jb) (begun .walking .passed) e);
-          cleared = cleared-work;
-          summed = λ p. not-pass n fl jb (sym v-is ∙ p);
-        }
-
-    -- no row is left
-    pub walk-ends : rows ≤ row → RowsWalked (bookOf book) table entry work (record { verdict = bad; totals = totals; finish = finish })
-    walk-ends h =
-        let rows′ = tableRows (bookOf book) table in
-        let all : row ≡ length rows′ = omega (arith, begun .walking .within, rows-length (bookOf book) table, known .rows-are) in
-        let whole : take row rows′ ≡ rows′ = take-all row rows′ (omega arith) in
-        let tally = begun .walking .tally in
-        record {
-          verdict = begun .no-fault ∙ sym (begun .walking .passed) ∙ ap (firstFault (rowFault (bookOf book) rows′)) all;
-          cleared = cleared-work;
-          summed = λ p. record {
-            total = λ f i l m. tally .total f i l m ∙ ap (λ (l : List rules.Row). totalOf l f i) whole;
-            finish-of = λ f l. tally .finish-of f l ∙ ap (λ (l : List rules.Row). finishOf l f) whole;
-            area = tally .area-of ∙ ap (λ (l : List rules.Row). workUsed slots l area) whole
-                ∙ ap (workUsed slots rows′) from ∙ used-over-cleared slots rows′ entry;
-          };
-        }
+    pub asking-ends : ask ≤ j → lacksPredecessor (bookOf book) (take (rowsTo (bookOf book) at) (tableRows (bookOf book) table)) (rowFrom r) ≡ false
+    asking-ends h =
+        let all : j ≡ ask = omega (arith, asking .asked-to) in
+        all-asked (asking .going) (asking .turn) ask (asking .ask-is ∙ rw (asking .job-is) refl)
+        (ap (anyTo (λ m. lacksAt (t .predecessors) m (r .slot) (getD ready m 0))) (sym all) ∙ asking .none-so-far)

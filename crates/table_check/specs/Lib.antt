@@ -1,3 +1,4 @@
--- What the walk over a table's rows keeps and hands back, in the words of the rules.
+-- What the walk over a table's rows asks and hands back, in the words of the rules.
+pub mod Tests
 pub mod Tally
 pub mod Walk

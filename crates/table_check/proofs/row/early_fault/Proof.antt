@@ -1,8 +1,8 @@
--- `table_check::early_fault` meets its contract: each arm answers as its test says, those before it having failed. Assumes nothing.
+-- `table_check::row::early_fault` meets its contract: each arm answers as its test says, those before it having failed. Assumes nothing.
 use borrow.Author.Tests.{lt-ltb, le-ltb, le-leb, lt-leb, eq-eqb, ne-eqb}
-use Rattle.table_check.specs.Tally.{earlyNumber}
-use Rattle.table_check.proofs.early_fault.Statement.{statement}
-use Rattle.table_check.proofs.early_fault.Tie as tie
+use Rattle.table_check.specs.Tests.{earlyNumber}
+use Rattle.table_check.proofs.row.early_fault.Statement.{statement}
+use Rattle.table_check.proofs.row.early_fault.Tie as tie
 
 returns : tie.Need-returns
 unfolding earlyNumber

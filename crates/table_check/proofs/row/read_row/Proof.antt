@@ -1,9 +1,9 @@
--- `table_check::read_row` meets its contract: its fields are those that were read. Assumes nothing.
+-- `table_check::row::read_row` meets its contract: its fields are those that were read. Assumes nothing.
 use mathlib.Core.Path.{refl}
 use Rattle.rules.specs.Table.{rowAt}
 use borrow.Author.Needs.{needs}
-use Rattle.table_check.proofs.read_row.Statement.{statement}
-use Rattle.table_check.proofs.read_row.Tie as tie
+use Rattle.table_check.proofs.row.read_row.Statement.{statement}
+use Rattle.table_check.proofs.row.read_row.Tie as tie
 
 read16-requires : tie.Need-read16-requires
 read16-requires c κs = search needs

@@ -1,10 +1,10 @@
--- `table_check::lacks` meets its contract: the bit is the quotient's last one. Assumes nothing.
+-- `table_check::row::lacks` meets its contract: the bit is the quotient's last one. Assumes nothing.
 use borrow.Author.Needs.{needs}
 use borrow.Author.Tests.{eq-eqb, ne-eqb}
 use Rattle.rules.specs.Book.{hasBit}
-use Rattle.table_check.specs.Tally.{lacksAt}
-use Rattle.table_check.proofs.lacks.Statement.{statement}
-use Rattle.table_check.proofs.lacks.Tie as tie
+use Rattle.table_check.specs.Tests.{lacksAt}
+use Rattle.table_check.proofs.row.lacks.Statement.{statement}
+use Rattle.table_check.proofs.row.lacks.Tie as tie
 
 shr-if1 : tie.Need-shr-if1
 shr-if1 c = search needs

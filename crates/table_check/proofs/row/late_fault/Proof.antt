@@ -1,13 +1,16 @@
--- `table_check::late_fault` meets its contract. The sum stays in 16 bits because the cap is tested first. Assumes nothing.
+-- `table_check::row::late_fault` meets its contract: each arm answers as its test says. Assumes nothing.
 use borrow.Author.Needs.{needs}
 use borrow.Author.Tests.{lt-ltb, le-ltb}
-use Rattle.table_check.specs.Tally.{lateNumber}
-use Rattle.table_check.proofs.late_fault.Statement.{statement}
-use Rattle.table_check.proofs.late_fault.Tie as tie
+use Rattle.table_check.specs.Tests.{lateNumber}
+use Rattle.table_check.proofs.row.late_fault.Statement.{statement}
+use Rattle.table_check.proofs.row.late_fault.Tie as tie
 
 returns : tie.Need-returns
 unfolding lateNumber
 returns c = simp (lt-ltb _ _ (c .if1 .taken))
+
+cast-if2 : tie.Need-cast-if2
+cast-if2 c = search needs
 
 add-if2 : tie.Need-add-if2
 add-if2 c = search needs
@@ -21,4 +24,4 @@ unfolding lateNumber
 returns-3 c = simp (le-ltb _ _ (c .before .before .if1 .left), le-ltb _ _ (c .if2 .left))
 
 pub late-fault-spec : {M : Type 1} → statement M
-late-fault-spec = tie.close (tie.spec returns add-if2 returns-2 returns-3)
+late-fault-spec = tie.close (tie.spec returns cast-if2 add-if2 returns-2 returns-3)

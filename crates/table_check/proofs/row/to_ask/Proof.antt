@@ -1,7 +1,7 @@
 use borrow.Author.Tests.{lt-ltb, le-ltb}
-use Rattle.table_check.specs.Tally.{asked}
-use Rattle.table_check.proofs.to_ask.Statement.{statement}
-use Rattle.table_check.proofs.to_ask.Tie as tie
+use Rattle.table_check.specs.Tests.{asked}
+use Rattle.table_check.proofs.row.to_ask.Statement.{statement}
+use Rattle.table_check.proofs.row.to_ask.Tie as tie
 
 returns : tie.Need-returns
 unfolding asked

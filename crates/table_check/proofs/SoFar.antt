@@ -1,0 +1,128 @@
+-- What is known of rows that pass: no slot is used beyond P, totals stay small, and the order tells of a row that may come next that its flow
+-- has no row in a later slot, and of a flow all of whose rows may come next that it has none yet. One row more at a time. Assumes nothing.
+use mathlib.Core.Path.{_≡_, refl, sym, ap, _∙_, subst}
+use Prim.Native.Nat.{ℕ, zero, suc, _+_, _*_, _≤_, _<_}
+use mathlib.Core.Bool.{Bool, true, false}
+use mathlib.Core.List.{List, [], _∷_, _++_}
+use native.Mathlib.Omega.{arith}
+use lib.ListN.{length, getD, take}
+use lib.Seq.{take-suc}
+use lib.Dec.{eqb}
+use borrow.Author.Tests.{eq-eqb, ne-eqb, eqb-true, eqb-false, leb-true}
+use Rattle.rules.specs.declared.Verdict.the-variants.{Pass}
+use Rattle.rules.specs.Walks.{if_then_else_}
+use Rattle.rules.specs.Limits.{slots}
+use Rattle.rules.specs.Answers.{firstFault}
+use Rattle.rules.specs.Book.{Book, jobOf, flowOf, InRange}
+use Rattle.rules.specs.Rows.{Row, sumWhere, usedIn, isOf, totalOf, finishOf}
+use Rattle.rules.specs.Check.{noRow, rises, rowFault}
+use Rattle.rules.proofs.Faults.{both-pass, fault-pass}
+use Rattle.rules.proofs.RowsSoFar.{used-last, total-last, finish-last}
+use Rattle.rules.proofs.TablePasses.{RowPasses, row-passes}
+use Rattle.table_check.specs.Tests.{serviceKey, places, rowKey, leastKey}
+use Rattle.table_check.proofs.Keys.{KeyFits, place-below, rises-key, key-slots}
+
+-- ---- one row more, of any rows
+-- what a row adds to finish and totals, of its flow and of the others
+pub finish-here : (soFar : List Row) (r : Row) (f : ℕ) → r .flow ≡ f → finishOf soFar f ≤ r .slot + 1 → finishOf (soFar ++ r ∷ []) f ≡ r .slot + 1
+finish-here soFar r f e h = finish-last soFar r f ∙ rw (eq-eqb (r .flow) f e) (omega arith)
+
+pub finish-there : (soFar : List Row) (r : Row) (f : ℕ) → (r .flow ≡ f → ⊥) → finishOf (soFar ++ r ∷ []) f ≡ finishOf soFar f
+finish-there soFar r f n = finish-last soFar r f ∙ rw (ne-eqb (r .flow) f n) (omega arith)
+
+pub total-most : (soFar : List Row) (r : Row) (f i : ℕ) → totalOf (soFar ++ r ∷ []) f i ≤ totalOf soFar f i + r .processors
+total-most soFar r f i = go (isOf f i r) (total-last soFar r f i)
+  where
+    go : (t : Bool) → totalOf (soFar ++ r ∷ []) f i ≡ totalOf soFar f i + (if t then r .processors else 0) →
+        totalOf (soFar ++ r ∷ []) f i ≤ totalOf soFar f i + r .processors
+    go true e = omega arith
+    go false e = omega arith
+
+-- ---- rows that pass
+pub record SoFar (b : Book) (rows : List Row) (k : ℕ) : Type 0 where
+  pub used : (t : ℕ) → usedIn (take k rows) t ≤ b .processors
+  pub few : (f i : ℕ) → totalOf (take k rows) f i ≤ 4096 * k
+  -- a row that may come next stands in no earlier slot than the rows of its flow
+  pub rising : (r : Row) → KeyFits r → leastKey b rows k ≤ rowKey b r → finishOf (take k rows) (r .flow) ≤ r .slot + 1
+  -- a flow whose rows may all come next has none yet
+  pub fresh : (f : ℕ) → leastKey b rows k ≤ serviceKey b f * places → finishOf (take k rows) f ≡ 0
+
+module _ (b : Book) (range : InRange b) (rows : List Row) where
+  fits : (k : ℕ) → RowPasses b rows k → KeyFits (getD rows k noRow)
+  fits k p = record {
+    flow-fits = omega (arith, range .flows-most, p .flow-in);
+    slot-fits = p .slot-in;
+    job-fits = omega (arith, range .each-flow (getD rows k noRow .flow) (p .flow-in) .jobs-most, p .job-in);
+  }
+
+  -- the rows that pass rise by their keys
+  key-least : (k : ℕ) → firstFault (rowFault b rows) k ≡ Pass → RowPasses b rows k → leastKey b rows k ≤ rowKey b (getD rows k noRow)
+  key-least k e p =
+      leb-true (leastKey b rows k) (rowKey b (getD rows k noRow))
+      (sym (rises-key b rows k (λ j h. fits j (row-passes b rows j (fault-pass (rowFault b rows) k e j h))) (fits k p)) ∙ p .comes-after)
+
+  module _ (k : ℕ) (more : k < length rows) (p : RowPasses b rows k) (after : leastKey b rows k ≤ rowKey b (getD rows k noRow)) (was : SoFar b rows k) where
+    abbrev r : Row
+    r = getD rows k noRow
+
+    one : take (suc k) rows ≡ take k rows ++ r ∷ []
+    one = take-suc rows k noRow more
+
+    used-next : (t : ℕ) → usedIn (take (suc k) rows) t ≤ b .processors
+    used-next t = rw one (go (eqb (r .slot) t) refl)
+      where
+        go : (u : Bool) → eqb (r .slot) t ≡ u → usedIn (take k rows ++ r ∷ []) t ≤ b .processors
+        go true e = rw (used-last (take k rows) r t, e) (rw (← eqb-true (r .slot) t e) (p .processors-kept))
+        go false e = rw (used-last (take k rows) r t, e) (omega (arith, was .used t))
+
+    few-next : (f i : ℕ) → totalOf (take (suc k) rows) f i ≤ 4096 * suc k
+    few-next f i =
+        rw one
+        (omega (
+          arith,
+          total-most (take k rows) r f i,
+          was .few f i,
+          p .cap-kept,
+          range .each-flow (r .flow) (p .flow-in) .each-job (r .job) (p .job-in) .cap-most,
+          range .processors-most,
+        ))
+
+    last : finishOf (take k rows) (r .flow) ≤ r .slot + 1
+    last = was .rising r (fits k p) after
+
+    rising-next : (q : Row) → KeyFits q → suc (rowKey b r) ≤ rowKey b q → finishOf (take (suc k) rows) (q .flow) ≤ q .slot + 1
+    rising-next q fit l = rw one (go (eqb (r .flow) (q .flow)) refl)
+      where
+        go : (t : Bool) → eqb (r .flow) (q .flow) ≡ t → finishOf (take k rows ++ r ∷ []) (q .flow) ≤ q .slot + 1
+        go true e =
+            let same = eqb-true (r .flow) (q .flow) e in
+            rw (finish-here (take k rows) r (q .flow) same (subst (λ g. finishOf (take k rows) g ≤ r .slot + 1) same last))
+            (omega (arith, key-slots b r q (fits k p) fit same l))
+        go false e =
+            rw (finish-there (take k rows) r (q .flow) (eqb-false (r .flow) (q .flow) e)) (was .rising q fit (omega arith))
+
+    fresh-next : (f : ℕ) → suc (rowKey b r) ≤ serviceKey b f * places → finishOf (take (suc k) rows) f ≡ 0
+    unfolding rowKey
+    fresh-next f l =
+        rw one
+        (finish-there (take k rows) r f (λ e. omega (arith, ap (λ g. serviceKey b g * places) e)) ∙ was .fresh f (omega arith))
+
+  pub so-far : (k : ℕ) → k ≤ length rows → firstFault (rowFault b rows) k ≡ Pass → SoFar b rows k
+  unfolding firstFault leastKey usedIn totalOf finishOf sumWhere
+  so-far zero h e = record {
+    used = λ t. omega arith;
+    few = λ f i. omega arith;
+    rising = λ r fit l. omega arith;
+    fresh = λ f l. refl;
+  }
+  so-far (suc k) h e =
+      let both = both-pass (firstFault (rowFault b rows) k) (rowFault b rows k) e in
+      let p = row-passes b rows k (both .1) in
+      let was = so-far k (omega arith) (both .0) in
+      let after = key-least k (both .0) p in
+      record {
+        used = used-next k h p after was;
+        few = few-next k h p after was;
+        rising = rising-next k h p after was;
+        fresh = fresh-next k h p after was;
+      }

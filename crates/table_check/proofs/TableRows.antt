@@ -1,0 +1,36 @@
+-- The rows of a table that passes 14, by their place in its bytes. Assumes nothing.
+use mathlib.Core.Path.{_≡_, ap, _∙_}
+use Prim.Native.Nat.{ℕ, _+_, _*_, _-_, _/_, _<_}
+use mathlib.Core.List.{List}
+use native.Mathlib.Omega.{arith}
+use lib.ListN.{length, getD}
+use Rattle.rules.specs.declared.Verdict.the-variants.{Pass}
+use Rattle.rules.specs.Fields.{AllBytes}
+use Rattle.rules.specs.Book.{Book}
+use Rattle.rules.specs.Table.{tableHead, rowLength, rowAt}
+use Rattle.rules.specs.Check.{noRow, tableRows, tableHeadFault}
+use Rattle.rules.proofs.Walks.{list-length, list-at}
+use Rattle.table_check.specs.Tally.{rowsTo}
+use Rattle.table_check.proofs.Heads.{head-passes, field-below}
+
+rows-length : (b : Book) (s : List ℕ) → length (tableRows b s) ≡ (length s - tableHead b) / rowLength
+unfolding tableRows
+rows-length b s = list-length (λ k. rowAt s (tableHead b + rowLength * k)) ((length s - tableHead b) / rowLength) 0
+
+pub row-at : (b : Book) (s : List ℕ) (k : ℕ) → k < length (tableRows b s) → getD (tableRows b s) k noRow ≡ rowAt s (tableHead b + rowLength * k)
+unfolding tableRows
+row-at b s k h =
+    let e : 0 + k ≡ k = omega arith in
+    list-at (λ j. rowAt s (tableHead b + rowLength * j)) ((length s - tableHead b) / rowLength) 0 k noRow (omega (arith, rows-length b s))
+    ∙ ap (λ (j : ℕ). rowAt s (tableHead b + rowLength * j)) e
+
+-- the rows fill the table behind its head
+pub table-length : (b : Book) (s : List ℕ) → tableHeadFault b s ≡ Pass → length s ≡ tableHead b + rowLength * length (tableRows b s)
+table-length b s e = let p = head-passes b s e in omega (arith, rows-length b s, p .head-inside, p .rows-whole)
+
+pub table-short : (b : Book) (s : List ℕ) → tableHeadFault b s ≡ Pass → AllBytes s → length s < 4294967296
+table-short b s e bytes = omega (arith, head-passes b s e .length-stated, field-below s bytes 4 0)
+
+pub rows-to : (b : Book) (at k : ℕ) → at ≡ tableHead b + rowLength * k → rowsTo b at ≡ k
+unfolding rowsTo
+rows-to b at k e = omega arith

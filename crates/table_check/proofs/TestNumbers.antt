@@ -1,0 +1,80 @@
+-- Laws of the tests of a row as numbers: the first that is not 0 counts. Assumes nothing.
+use mathlib.Core.Path.{_≡_, refl, sym, ap, _∙_}
+use Prim.Native.Nat.{ℕ, _*_, _<_}
+use mathlib.Core.Bool.{Bool, true, false}
+use mathlib.Core.List.{List}
+use native.Mathlib.Omega.{arith}
+use lib.Dec.{leb, eqb}
+use borrow.Author.Tests.{eq-eqb, ne-eqb, eqb-true, eqb-false, leb-false}
+use Rattle.rules.specs.Walks.{if_then_else_}
+use Rattle.rules.specs.Limits.{slots}
+use Rattle.rules.specs.Fields.{field}
+use Rattle.rules.specs.Book.{Book, Job, jobCount, flowOf, jobOf}
+use Rattle.rules.specs.Rows.{Row}
+use Rattle.book.specs.declared.JobRecord.{JobRecord}
+use Rattle.book.specs.Promise.{jobFrom}
+use Rattle.table_check.specs.Tests.{placeOf, earlyNumber, lateNumber, firstNumber, testNumber}
+use Rattle.table_check.specs.Tally.{RowTested}
+
+pub first-stands : (m n : ℕ) → (m ≡ 0 → ⊥) → firstNumber m n ≡ m
+unfolding firstNumber
+first-stands m n h = rw (ne-eqb m 0 h) refl
+
+pub first-passes : (m n : ℕ) → m ≡ 0 → firstNumber m n ≡ n
+unfolding firstNumber
+first-passes m n e = rw (eq-eqb m 0 e) refl
+
+-- both are 0 where the first number is
+pub first-none : (m n : ℕ) → firstNumber m n ≡ 0 → (m ≡ 0) × (n ≡ 0)
+unfolding firstNumber
+first-none m n e = go (eqb m 0) refl
+  where
+    go : (t : Bool) → eqb m 0 ≡ t → (m ≡ 0) × (n ≡ 0)
+    go true d = let m-none : m ≡ 0 = eqb-true m 0 d in (m-none, rw d at e)
+    go false d = absurd (eqb-false m 0 d (rw d at e))
+
+-- a row that passes 15 stands in a slot and is one of the flow's jobs
+pub early-inside : (jobs least key : ℕ) (r : Row) → earlyNumber jobs least key r ≡ 0 → (r .slot < slots) × (r .job < jobs)
+unfolding earlyNumber
+early-inside jobs least key r e = go (leb slots (r .slot)) refl (leb jobs (r .job)) refl
+  where
+    go : (s : Bool) → leb slots (r .slot) ≡ s → (j : Bool) → leb jobs (r .job) ≡ j → (r .slot < slots) × (r .job < jobs)
+    go true d j k = absurd (let z : _≡_ {A = ℕ} 15 0 = rw d at e in omega arith)
+    go false d true k = absurd (let z : _≡_ {A = ℕ} 15 0 = rw (d, k) at e in omega arith)
+    go false d false k = (leb-false slots (r .slot) d, leb-false jobs (r .job) k)
+
+-- ---- what the tests of a row of flow f find
+module _ (b : Book) (f least jobs key early : ℕ) (r : Row) (jobs-are : jobs ≡ jobCount (flowOf b f)) (key-is : key ≡ placeOf r)
+    (early-is : early ≡ earlyNumber jobs least key r) where
+  early-right : early ≡ earlyNumber (jobCount (flowOf b f)) least (placeOf r) r
+  early-right = rw (← jobs-are, ← key-is) early-is
+
+  -- 15 or 16
+  pub tested-early : (work : List ℕ) → (early ≡ 0 → ⊥) → RowTested b f work least r (record { number = early; used = 0; size = 0; predecessors = 0 })
+  unfolding testNumber
+  tested-early work n = record {
+    number = early-right ∙ sym (first-stands _ _ (λ e. n (early-right ∙ e)));
+    used = λ e. absurd (n e);
+    size = λ e. absurd (n e);
+    predecessors = λ e. absurd (n e);
+  }
+
+  module _ (none : early ≡ 0) where
+    pub tested-inside : (r .slot < slots) × (r .job < jobCount (flowOf b f))
+    tested-inside = early-inside (jobCount (flowOf b f)) least (placeOf r) r (sym early-right ∙ none)
+
+    -- 17 and 18
+    pub tested-late : (work : List ℕ) (used late processors i at : ℕ) (job : JobRecord) → processors ≡ b .processors → i ≡ r .job → at ≡ r .slot →
+        jobFrom job ≡ jobOf (flowOf b f) i → used ≡ field 2 work (2 * at) → late ≡ lateNumber (job .cap) used processors r →
+        RowTested b f work least r (record { number = late; used = used; size = job .size; predecessors = job .predecessors })
+    unfolding testNumber
+    tested-late work used late processors i at job p-is i-is at-is job-is used-is late-is =
+        let record-is : jobFrom job ≡ jobOf (flowOf b f) (r .job) = rw i-is at job-is in
+        let used-right : used ≡ field 2 work (2 * r .slot) = rw at-is at used-is in
+        record {
+          number = late-is ∙ rw (p-is, used-right, ap (λ (j : Job). j .cap) record-is)
+              (sym (first-passes (earlyNumber (jobCount (flowOf b f)) least (placeOf r) r) _ (sym early-right ∙ none)));
+          used = λ e. used-right;
+          size = λ e. ap (λ (j : Job). j .size) record-is;
+          predecessors = λ e. ap (λ (j : Job). j .predecessors) record-is;
+        }

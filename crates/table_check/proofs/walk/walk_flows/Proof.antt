@@ -1,0 +1,169 @@
+-- `table_check::walk::walk_flows` meets its contract. The invariant: the rows so far pass, every flow is closed, and the next row is another flow's
+-- than the last one (`Between`). The measure is the bytes of the table that are left. Assumes nothing.
+use mathlib.Core.Path.{refl, _∙_}
+use Prim.Native.Nat.{_-_, _<_}
+use lib.ListN.{length}
+use borrow.Author.Needs.{needs}
+use native.Mathlib.Omega.{arith}
+use Rattle.rules.specs.Fields.{AllBytes}
+use Rattle.rules.specs.Book.{flowCount}
+use Rattle.rules.specs.Reading.{bookOf}
+use Rattle.table_check.specs.Tally.{rowsTo}
+use Rattle.table_check.proofs.Finals.{index-flows}
+use Rattle.table_check.proofs.Flows.{Between, between-first, flows-few, row-inside, table-ends, unknown-stops, early-stops, flow-begins, flow-stops, between-next, goes-on}
+use Rattle.table_check.proofs.walk.walk_flows.Statement.{statement}
+use Rattle.table_check.proofs.walk.walk_flows.Tie as tie
+
+abbrev Inv-loop : tie.InvT-loop
+Inv-loop book table work₀ x flows off₀ finish₀ least₀ at₀ work off finish least at =
+    Between book table x flows work₀ work off finish least at (rowsTo (bookOf book) at)
+
+abbrev μ-loop : tie.MeasureT-loop
+μ-loop book table work₀ x flows off₀ finish₀ least₀ at₀ work off finish least at = length table - at
+
+clear-requires : tie.Need-clear-requires Inv-loop μ-loop
+clear-requires c κs = c .before .before .before .before .pre .room
+
+mul-at : tie.Need-mul-at Inv-loop μ-loop
+mul-at c = omega (arith, index-flows (c .before .before .before .before .before .before .before .pre .indexed))
+
+add-at : tie.Need-add-at Inv-loop μ-loop
+add-at c = omega (arith, index-flows (c .before .before .before .before .before .before .before .pre .indexed))
+
+loop-holds : tie.Need-loop-holds Inv-loop μ-loop
+unfolding AllBytes
+loop-holds c = between-first (c .before .before .before .before .before .before .before .pre) (λ i. omega (arith, c .before .before .before .before .before .shared-slice-known2 .given i)) (c .before .before .clear .ensures)
+
+read-row-requires : tie.Need-read-row-requires Inv-loop μ-loop
+read-row-requires c κs = row-inside (c .before .loop .inv) (c .loop-test .taken)
+
+wide-requires : tie.Need-wide-requires Inv-loop μ-loop
+wide-requires c κs = tt
+
+refused-requires : tie.Need-refused-requires Inv-loop μ-loop
+refused-requires c κs = tt
+
+same-length : tie.Need-same-length Inv-loop μ-loop
+same-length c = c .before .before .before .before .before .loop .inv .work-kept ∙ c .before .before .before .before .before .before .before .before .clear .kept .0
+
+returns : tie.Need-returns Inv-loop μ-loop
+returns c =
+    unknown-stops (c .before .before .before .before .before .loop .inv) (c .before .before .before .before .loop-test .taken) (c .before .before .before .read-row .result) (c .before .before .before .read-row .ensures) (c .before .before .wide .ensures .0) _ (c .before .before .before .before .before .before .before .before .clear .ensures) (c .refused .ensures) (c .before .if1 .taken)
+
+element-copy-out-jobs : tie.Need-element-copy-out-jobs Inv-loop μ-loop
+element-copy-out-jobs c = omega (arith, flows-few (c .before .before .before .before .loop .inv), c .if1 .left)
+
+mul-service-key : tie.Need-mul-service-key Inv-loop μ-loop
+mul-service-key c = omega (arith, c .before .before .wide .ensures .1)
+
+element-copy-out-service-key : tie.Need-element-copy-out-service-key Inv-loop μ-loop
+element-copy-out-service-key c = omega (arith, flows-few (c .before .before .before .before .before .loop .inv), c .before .if1 .left)
+
+service-key-requires : tie.Need-service-key-requires Inv-loop μ-loop
+service-key-requires c κs = tt
+
+early-fault-requires : tie.Need-early-fault-requires Inv-loop μ-loop
+early-fault-requires c κs = tt
+
+refused-requires-2 : tie.Need-refused-requires-2 Inv-loop μ-loop
+refused-requires-2 c κs = tt
+
+same-length-2 : tie.Need-same-length-2 Inv-loop μ-loop
+same-length-2 c = c .before .before .before .before .before .before .before .before .before .before .loop .inv .work-kept ∙ c .before .before .before .before .before .before .before .before .before .before .before .before .before .clear .kept .0
+
+returns-2 : tie.Need-returns-2 Inv-loop μ-loop
+returns-2 c =
+    early-stops (c .before .before .before .before .before .before .before .before .before .before .loop .inv) (c .before .before .before .before .before .before .before .before .before .loop-test .taken) (c .before .before .before .before .before .before .before .before .read-row .result) (c .before .before .before .before .before .before .before .before .read-row .ensures) (c .before .before .before .before .before .before .before .wide .ensures .0) (c .before .before .before .before .before .before .if1 .left) refl (c .before .before .before .service-key .ensures .0) (c .before .before .early-fault .ensures)
+    _ (c .before .before .before .before .before .before .before .before .before .before .before .before .before .clear .ensures) (c .refused2 .ensures) (c .before .if2 .taken)
+
+mul-t23 : tie.Need-mul-t23 Inv-loop μ-loop
+mul-t23 c = omega (arith, c .before .before .before .before .before .before .wide .ensures .1)
+
+element-copy-out-t39 : tie.Need-element-copy-out-t39 Inv-loop μ-loop
+element-copy-out-t39 c = omega (arith, flows-few (c .before .before .before .before .before .before .before .before .before .loop .inv), c .before .before .before .before .before .if1 .left)
+
+walk-flow-requires : tie.Need-walk-flow-requires Inv-loop μ-loop
+walk-flow-requires c κs =
+    flow-begins (c .before .before .before .before .before .before .before .before .before .before .before .loop .inv) (c .before .before .before .before .before .before .before .before .before .before .loop-test .taken) (c .before .before .before .before .before .before .before .before .before .read-row .result) (c .before .before .before .before .before .before .before .before .before .read-row .ensures) (c .before .before .before .before .before .before .before .before .wide .ensures .0) (c .before .before .before .before .before .before .before .if1 .left) refl (c .before .before .before .before .service-key .ensures .0) (c .before .before .before .early-fault .ensures)
+    (c .before .before .if2 .left) refl refl refl
+
+enum-told : tie.Need-enum-told Inv-loop μ-loop
+enum-told c = search needs
+
+enum-told-2 : tie.Need-enum-told-2 Inv-loop μ-loop
+enum-told-2 c = search needs
+
+same-length-3 : tie.Need-same-length-3 Inv-loop μ-loop
+same-length-3 c = c .before .before .before .before .walk-flow .kept .1 .1 .0 ∙ c .before .before .before .before .before .before .before .before .before .before .before .before .before .before .before .before .loop .inv .work-kept ∙ c .before .before .before .before .before .before .before .before .before .before .before .before .before .before .before .before .before .before .before .clear .kept .0
+
+returns-3 : tie.Need-returns-3 Inv-loop μ-loop
+returns-3 c = flow-stops (c .before .before .before .before .before .before .before .before .before .before .before .before .before .before .before .before .loop .inv) (c .before .before .before .before .walk-flow .ensures) _ (c .before .before .before .before .before .before .before .before .before .before .before .before .before .before .before .before .before .before .before .clear .ensures) refl (c .enum-told2 .given .1)
+
+array-write-off : tie.Need-array-write-off Inv-loop μ-loop
+array-write-off c = omega (arith, flows-few (c .before .before .before .before .before .before .before .before .before .before .before .before .before .before .before .before .loop .inv), c .before .before .before .before .before .before .before .before .before .before .before .before .if1 .left, c .before .before .before .before .before .before .before .before .before .before .before .before .before .before .before .before .loop .inv .off-long)
+
+mul-finish : tie.Need-mul-finish Inv-loop μ-loop
+mul-finish c = omega (arith, c .before .before .before .before .before .before .before .before .before .before .before .before .before .wide .ensures .1)
+
+array-write-finish : tie.Need-array-write-finish Inv-loop μ-loop
+array-write-finish c = omega (arith, flows-few (c .before .before .before .before .before .before .before .before .before .before .before .before .before .before .before .before .loop .inv), c .before .before .before .before .before .before .before .before .before .before .before .before .if1 .left, c .before .before .before .before .before .before .before .before .before .before .before .before .before .before .before .before .loop .inv .finish-long)
+
+add-least : tie.Need-add-least Inv-loop μ-loop
+add-least c = omega (arith, c .before .before .before .before .before .before .before .before .before .service-key .ensures .1)
+
+loop-less : tie.Need-loop-less Inv-loop μ-loop
+loop-less c =
+    let l = c .before .before .before .before .before .before .before .before .before .before .before .before .before .before .before .before .loop .inv in
+    omega (arith, c .before .before .before .before .before .before .before .before .before .before .before .before .before .before .before .loop-test .taken, goes-on l (c .before .before .before .before .walk-flow .ensures) (c .enum-told .given .1) refl (omega (arith, c .before .before .before .before .before .before .before .before .before .before .before .before .if1 .left, l .flows-are)))
+
+loop-again : tie.Need-loop-again Inv-loop μ-loop
+loop-again c =
+    let l = c .before .before .before .before .before .before .before .before .before .before .before .before .before .before .before .before .loop .inv in
+    let inside : c .before .before .before .before .before .before .before .before .before .before .before .before .before .wide .result < flowCount (bookOf (c .before .before .before .before .before .before .before .before .before .before .before .before .before .before .before .before .before .before .before .before .before .before .before .before .args .book .now)) = omega (arith, c .before .before .before .before .before .before .before .before .before .before .before .before .if1 .left, l .flows-are) in
+    between-next l (c .before .before .before .before .walk-flow .ensures) (c .enum-told .given .1) refl inside
+    (omega (arith, c .before .before .before .before .before .before .before .before .before .service-key .ensures .0, l .indexed .deadlines (c .before .before .before .before .before .before .before .before .before .before .before .before .before .wide .result) inside, c .before .before .before .before .before .before .before .before .before .before .before .before .before .wide .ensures .0)) (c .before .before .before .before .walk-flow .kept .1 .1 .0)
+
+same-length-4 : tie.Need-same-length-4 Inv-loop μ-loop
+same-length-4 c = c .before .loop .inv .work-kept ∙ c .before .before .before .before .clear .kept .0
+
+returns-4 : tie.Need-returns-4 Inv-loop μ-loop
+returns-4 c = table-ends (c .before .loop .inv) _ (c .before .before .before .before .clear .ensures) (c .loop-test .left)
+
+pub walk-flows-spec : {M : Type 1} → statement M
+walk-flows-spec =
+    tie.close
+    (tie.spec
+    Inv-loop
+    μ-loop
+    clear-requires
+    mul-at
+    add-at
+    loop-holds
+    read-row-requires
+    wide-requires
+    refused-requires
+    same-length
+    returns
+    element-copy-out-jobs
+    mul-service-key
+    element-copy-out-service-key
+    service-key-requires
+    early-fault-requires
+    refused-requires-2
+    same-length-2
+    returns-2
+    mul-t23
+    element-copy-out-t39
+    walk-flow-requires
+    enum-told
+    enum-told-2
+    same-length-3
+    returns-3
+    array-write-off
+    mul-finish
+    array-write-finish
+    add-least
+    loop-less
+    loop-again
+    same-length-4
+    returns-4)

@@ -1,0 +1,215 @@
+-- `table_check::walk::walk_rows` meets its contract. The invariant of the loop over rows: the rows so far pass, those since `from` are the flow's, and
+-- totals, completeness and work area are theirs (`Going`); of the loop over predecessors: none so far is lacking (`Asking`). The measures are the bytes
+-- of the table that are left, and the predecessors. Assumes nothing.
+use Prim.Native.Nat.{_-_}
+use lib.ListN.{length}
+use Rattle.rules.specs.Reading.{bookOf}
+use Rattle.table_check.specs.Tally.{rowsTo}
+use Rattle.table_check.proofs.Turns.{Going, Lent, Asking, going-first, lent-first, row-inside, test-stops, turn-of, job-few, slot-in, countable, lent-next, going-next, walk-stops, more-rows, walk-ends, walk-turns, asking-first, asks-few, asking-next, asking-stops, asking-ends}
+use mathlib.Core.Path.{_∙_, sym}
+use borrow.Author.Needs.{needs}
+use native.Mathlib.Omega.{arith}
+use Rattle.table_check.proofs.walk.walk_rows.Statement.{statement}
+use Rattle.table_check.proofs.walk.walk_rows.Tie as tie
+
+abbrev Inv-loop : tie.InvT-loop
+Inv-loop book table totals ready work c from bad₀ least finish at r t i ask k₀ bad k =
+    Asking book table c from totals ready work bad least finish at r t i ask k
+
+abbrev μ-loop : tie.MeasureT-loop
+μ-loop book table totals ready work c from bad₀ least finish at r t i ask k₀ bad k = ask - k
+
+abbrev Inv-rows : tie.InvT-rows
+Inv-rows book table totals₀ ready₀ work₀ c from bad₀ least₀ finish₀ at₀ totals ready work bad least finish at =
+    Going book table c from totals ready work bad least finish at (rowsTo (bookOf book) at) × Lent totals₀ ready₀ work₀ totals ready work
+
+abbrev μ-rows : tie.MeasureT-rows
+μ-rows book table totals₀ ready₀ work₀ c from bad₀ least₀ finish₀ at₀ totals ready work bad least finish at = length table - at
+
+rows-holds : tie.Need-rows-holds Inv-loop μ-loop Inv-rows μ-rows
+rows-holds c = let p = c .before .before .before .before .before .pre in (going-first (p .0) (p .1) (p .2), lent-first _ _ _)
+
+read-row-requires : tie.Need-read-row-requires Inv-loop μ-loop Inv-rows μ-rows
+read-row-requires c κs = row-inside (c .before .rows .inv .0) (c .rows-test .taken)
+
+wide-requires : tie.Need-wide-requires Inv-loop μ-loop Inv-rows μ-rows
+wide-requires c κs = tt
+
+test-row-requires : tie.Need-test-row-requires Inv-loop μ-loop Inv-rows μ-rows
+test-row-requires c κs = let g = c .before .before .before .before .before .before .rows .inv .0 in (g .current, g .room)
+
+refused-requires : tie.Need-refused-requires Inv-loop μ-loop Inv-rows μ-rows
+refused-requires c κs = tt
+
+wide-requires-2 : tie.Need-wide-requires-2 Inv-loop μ-loop Inv-rows μ-rows
+wide-requires-2 c κs = tt
+
+mul-to-ask : tie.Need-mul-to-ask Inv-loop μ-loop Inv-rows μ-rows
+mul-to-ask c = omega (arith, c .wide2 .ensures .1)
+
+slice-read-to-ask : tie.Need-slice-read-to-ask Inv-loop μ-loop Inv-rows μ-rows
+slice-read-to-ask c =
+    let g = c .before .before .before .before .before .before .before .before .before .before .before .rows .inv .0 in
+    let turn = turn-of g (c .before .before .before .before .before .before .before .before .before .before .rows-test .taken) (c .before .before .before .before .before .before .before .before .before .read-row .result) (c .before .before .before .before .before .before .before .before .before .read-row .ensures) (sym (c .before .before .before .before .before .before .before .before .wide .ensures .0) ∙ c .before .before .before .before .before .before .if1 .left) (c .before .before .before .before .test-row .ensures) (c .before .before .if2 .left) in
+    omega (arith, g .tally .totals-long, job-few g turn, c .before .wide2 .ensures .0)
+
+to-ask-requires : tie.Need-to-ask-requires Inv-loop μ-loop Inv-rows μ-rows
+to-ask-requires c κs = tt
+
+loop-holds : tie.Need-loop-holds Inv-loop μ-loop Inv-rows μ-rows
+loop-holds c =
+    let g = c .before .before .before .before .before .before .before .before .before .before .before .before .rows .inv .0 in
+    let turn = turn-of g (c .before .before .before .before .before .before .before .before .before .before .before .rows-test .taken) (c .before .before .before .before .before .before .before .before .before .before .read-row .result) (c .before .before .before .before .before .before .before .before .before .before .read-row .ensures) (sym (c .before .before .before .before .before .before .before .before .before .wide .ensures .0) ∙ c .before .before .before .before .before .before .before .if1 .left) (c .before .before .before .before .before .test-row .ensures) (c .before .before .before .if2 .left) in
+    asking-first g turn (c .before .before .wide2 .ensures .0) (c .to-ask .ensures)
+
+mul-lacks : tie.Need-mul-lacks Inv-loop μ-loop Inv-rows μ-rows
+mul-lacks c = omega (arith, asks-few (c .before .loop .inv), c .loop-test .taken)
+
+slice-read-lacks : tie.Need-slice-read-lacks Inv-loop μ-loop Inv-rows μ-rows
+slice-read-lacks c = omega (arith, asks-few (c .before .before .loop .inv), c .before .loop-test .taken, c .before .before .loop .inv .going .tally .ready-long)
+
+lacks-requires : tie.Need-lacks-requires Inv-loop μ-loop Inv-rows μ-rows
+lacks-requires c κs = omega (arith, asks-few (c .before .before .loop .inv), c .before .loop-test .taken)
+
+refused-requires-2 : tie.Need-refused-requires-2 Inv-loop μ-loop Inv-rows μ-rows
+refused-requires-2 c κs = tt
+
+add-k : tie.Need-add-k Inv-loop μ-loop Inv-rows μ-rows
+add-k c = omega (arith, asks-few (c .before .before .before .before .loop .inv), c .before .before .before .loop-test .taken)
+
+loop-less : tie.Need-loop-less Inv-loop μ-loop Inv-rows μ-rows
+loop-less c = omega (arith, c .before .before .before .loop-test .taken)
+
+loop-again : tie.Need-loop-again Inv-loop μ-loop Inv-rows μ-rows
+loop-again c = asking-next (c .before .before .before .before .loop .inv) (c .before .before .before .loop-test .taken) (c .before .lacks .ensures) (c .if3 .left)
+
+count-row-requires : tie.Need-count-row-requires Inv-loop μ-loop Inv-rows μ-rows
+count-row-requires c κs = let a = c .before .before .before .before .loop .inv in countable (a .going) (a .turn)
+
+add-finish : tie.Need-add-finish Inv-loop μ-loop Inv-rows μ-rows
+add-finish c = let a = c .before .before .before .before .before .before .before .before .before .before .before .before .loop .inv in omega (arith, slot-in (a .going) (a .turn))
+
+place-of-requires : tie.Need-place-of-requires Inv-loop μ-loop Inv-rows μ-rows
+place-of-requires c κs = tt
+
+add-least : tie.Need-add-least Inv-loop μ-loop Inv-rows μ-rows
+add-least c = omega (arith, c .place-of .ensures .1)
+
+add-at : tie.Need-add-at Inv-loop μ-loop Inv-rows μ-rows
+add-at c = omega (arith, row-inside (c .before .before .before .before .before .before .before .before .before .before .before .before .before .loop .inv .going) (c .before .before .before .before .before .before .before .before .before .before .before .before .before .before .before .before .before .before .before .before .before .before .before .before .before .rows-test .taken))
+
+rows-less : tie.Need-rows-less Inv-loop μ-loop Inv-rows μ-rows
+rows-less c = omega (arith, c .before .before .before .before .before .before .before .before .before .before .before .before .before .before .before .before .before .before .before .before .before .before .before .before .before .rows-test .taken)
+
+rows-again : tie.Need-rows-again Inv-loop μ-loop Inv-rows μ-rows
+rows-again c =
+    let a = c .before .before .before .before .before .before .before .before .before .before .before .before .before .loop .inv in
+    let none = asking-ends a (c .before .before .before .before .before .before .before .before .before .before .before .before .loop-test .left) in
+    let counted = c .before .before .before .before .before .before .before .before .count-row .ensures in (
+      going-next (a .going) (a .turn) none counted (a .going .no-fault) (c .place-of .ensures .0),
+      lent-next (a .going) (a .turn) none counted (c .before .before .before .before .before .before .before .before .before .before .before .before .before .before .before .before .before .before .before .before .before .before .before .before .before .before .rows .inv .1),
+    )
+
+same-length : tie.Need-same-length Inv-loop μ-loop Inv-rows μ-rows
+same-length c = c .before .rows .inv .1 .totals-kept
+
+same-length-2 : tie.Need-same-length-2 Inv-loop μ-loop Inv-rows μ-rows
+same-length-2 c = c .before .rows .inv .1 .ready-kept
+
+same-length-3 : tie.Need-same-length-3 Inv-loop μ-loop Inv-rows μ-rows
+same-length-3 c = c .before .rows .inv .1 .work-kept
+
+returns : tie.Need-returns Inv-loop μ-loop Inv-rows μ-rows
+returns c = walk-ends (c .before .rows .inv .0) (c .before .rows .inv .1) (c .rows-test .left)
+
+same-length-4 : tie.Need-same-length-4 Inv-loop μ-loop Inv-rows μ-rows
+same-length-4 c = c .before .before .before .before .before .rows .inv .1 .totals-kept
+
+same-length-5 : tie.Need-same-length-5 Inv-loop μ-loop Inv-rows μ-rows
+same-length-5 c = c .before .before .before .before .before .rows .inv .1 .ready-kept
+
+same-length-6 : tie.Need-same-length-6 Inv-loop μ-loop Inv-rows μ-rows
+same-length-6 c = c .before .before .before .before .before .rows .inv .1 .work-kept
+
+returns-2 : tie.Need-returns-2 Inv-loop μ-loop Inv-rows μ-rows
+returns-2 c = walk-turns (c .before .before .before .before .before .rows .inv .0) (c .before .before .before .before .before .rows .inv .1) (c .before .before .before .before .rows-test .taken) (c .before .before .before .read-row .result) (c .before .before .before .read-row .ensures) (λ e. c .if1 .taken (c .before .before .wide .ensures .0 ∙ e))
+
+same-length-7 : tie.Need-same-length-7 Inv-loop μ-loop Inv-rows μ-rows
+same-length-7 c = c .before .before .before .before .before .before .before .before .before .before .rows .inv .1 .totals-kept
+
+same-length-8 : tie.Need-same-length-8 Inv-loop μ-loop Inv-rows μ-rows
+same-length-8 c = c .before .before .before .before .before .before .before .before .before .before .rows .inv .1 .ready-kept
+
+same-length-9 : tie.Need-same-length-9 Inv-loop μ-loop Inv-rows μ-rows
+same-length-9 c = c .before .before .before .before .before .before .before .before .before .before .rows .inv .1 .work-kept
+
+returns-3 : tie.Need-returns-3 Inv-loop μ-loop Inv-rows μ-rows
+returns-3 c =
+    let g = c .before .before .before .before .before .before .before .before .before .before .rows .inv .0 in
+    let r = c .before .before .before .before .before .before .before .before .read-row in
+    let here = c .before .before .before .before .before .before .before .before .before .rows-test .taken in
+    walk-stops g (c .before .before .before .before .before .before .before .before .before .before .rows .inv .1) (more-rows g here) (c .refused .ensures)
+    (test-stops g here (r .result) (r .ensures) (sym (c .before .before .before .before .before .before .before .wide .ensures .0) ∙ c .before .before .before .before .before .if1 .left) (c .before .before .before .test-row .ensures) (c .before .if2 .taken))
+
+same-length-10 : tie.Need-same-length-10 Inv-loop μ-loop Inv-rows μ-rows
+same-length-10 c = c .before .before .before .before .before .before .before .before .before .before .before .before .before .before .before .before .before .before .rows .inv .1 .totals-kept
+
+same-length-11 : tie.Need-same-length-11 Inv-loop μ-loop Inv-rows μ-rows
+same-length-11 c = c .before .before .before .before .before .before .before .before .before .before .before .before .before .before .before .before .before .before .rows .inv .1 .ready-kept
+
+same-length-12 : tie.Need-same-length-12 Inv-loop μ-loop Inv-rows μ-rows
+same-length-12 c = c .before .before .before .before .before .before .before .before .before .before .before .before .before .before .before .before .before .before .rows .inv .1 .work-kept
+
+returns-4 : tie.Need-returns-4 Inv-loop μ-loop Inv-rows μ-rows
+returns-4 c =
+    let a = c .before .before .before .before .before .loop .inv in
+    walk-stops (a .going) (c .before .before .before .before .before .before .before .before .before .before .before .before .before .before .before .before .before .before .rows .inv .1) (a .turn .more) (c .refused2 .ensures) (asking-stops a (c .before .before .before .before .loop-test .taken) (c .before .before .lacks .ensures) (c .before .if3 .taken))
+
+pub walk-rows-spec : {M : Type 1} → statement M
+walk-rows-spec =
+    tie.close
+    (tie.spec
+    Inv-loop
+    μ-loop
+    Inv-rows
+    μ-rows
+    rows-holds
+    read-row-requires
+    wide-requires
+    test-row-requires
+    refused-requires
+    wide-requires-2
+    mul-to-ask
+    slice-read-to-ask
+    to-ask-requires
+    loop-holds
+    mul-lacks
+    slice-read-lacks
+    lacks-requires
+    refused-requires-2
+    add-k
+    loop-less
+    loop-again
+    count-row-requires
+    add-finish
+    place-of-requires
+    add-least
+    add-at
+    rows-less
+    rows-again
+    same-length
+    same-length-2
+    same-length-3
+    returns
+    same-length-4
+    same-length-5
+    same-length-6
+    returns-2
+    same-length-7
+    same-length-8
+    same-length-9
+    returns-3
+    same-length-10
+    same-length-11
+    same-length-12
+    returns-4)

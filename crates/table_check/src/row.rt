@@ -1,0 +1,172 @@
+// One row of a table: read, tested by 15 to 18, asked for its predecessors, counted.
+ghost use mathlib.Core.Path.{_≡_};
+ghost use Prim.Native.Nat.{_+_, _<_, _≤_};
+ghost use lib.ListN.{length, getD, set};
+ghost use Rattle.rules.specs.declared.Verdict.the-variants.{Refused};
+ghost use Rattle.rules.specs.Limits.{slots, workBytes};
+ghost use Rattle.rules.specs.Reading.{bookOf};
+ghost use Rattle.rules.specs.Table.{rowAt};
+ghost use Rattle.table_check.specs.Tests.{rowFrom, placeOf, earlyNumber, lateNumber, lacksAt, asked, readyAfter};
+ghost use Rattle.table_check.specs.Tally.{CurrentFlow, RowTested, Countable, RowCounted};
+use book::bytes;
+use rules::Verdict;
+
+// A row of a table.
+pub struct Row {
+    pub slot: u16,
+    pub flow: u8,
+    pub job: u8,
+    pub processors: u16,
+}
+
+// The flow whose rows are walked: its number, where it starts in the book, its count of jobs, and P.
+pub struct Current {
+    pub flow: usize,
+    pub start: usize,
+    pub jobs: u8,
+    pub processors: u16,
+}
+
+// What the tests find: a refusal number, or 0 and what counting the row needs: the use of its slot, and size and predecessors of its job.
+pub struct Tested {
+    pub number: u8,
+    pub used: u16,
+    pub size: u32,
+    pub predecessors: u64,
+}
+
+// The row that stands at `at`.
+pub fn read_row(table: &[u8], at: usize) -> Row
+    requires { ⌜ at + 6 ≤ length (now table) ⌝ }
+    ensures { λ r. ⌜ rowFrom r ≡ rowAt (now (table .entry)) at ⌝ }
+{
+    Row {
+        slot: bytes::read16(table, at),
+        flow: table[at + 2],
+        job: table[at + 3],
+        processors: bytes::read16(table, at + 4),
+    }
+}
+
+// A refusal at a row's place.
+pub fn refused(number: u8, r: Row) -> Verdict
+    ensures { λ v. ⌜ v ≡ Refused number (r .flow) (r .job) ⌝ }
+{
+    Verdict::Refused {
+        number,
+        flow: r.flow,
+        job: r.job,
+    }
+}
+
+// The number by which the rows of a flow stand in their order.
+pub fn place_of(r: Row) -> u32
+    ensures { λ p. ⌜ (p ≡ placeOf (rowFrom r)) × (p < 4194560) ⌝ }
+{
+    r.slot as u32 * 64 + r.job as u32
+}
+
+// 15 and 16 of a row whose flow is in the book; 0 where it passes.
+pub fn early_fault(jobs: u8, least: u32, key: u32, r: Row) -> u8
+    ensures { λ n. ⌜ n ≡ earlyNumber jobs least key (rowFrom r) ⌝ }
+{
+    if 8192 <= r.slot {
+        return 15;
+    }
+    if jobs <= r.job {
+        return 15;
+    }
+    if r.processors == 0 {
+        return 15;
+    }
+    if key < least {
+        return 16;
+    }
+    0
+}
+
+// 17 and 18; 0 where the row passes.
+pub fn late_fault(cap: u16, used: u16, processors: u16, r: Row) -> u8
+    ensures { λ n. ⌜ n ≡ lateNumber cap used processors (rowFrom r) ⌝ }
+{
+    if cap < r.processors {
+        return 17;
+    }
+    if (processors as u32) < used as u32 + r.processors as u32 {
+        return 18;
+    }
+    0
+}
+
+// 15 to 18 of a row of the current flow, whose place is to be at least `least`.
+pub fn test_row(book: &[u8], work: &[u8], c: Current, least: u32, r: Row) -> Tested
+    requires { ⌜ CurrentFlow (now book) c × (workBytes ≤ length (now work)) ⌝ }
+    ensures { λ t. ⌜ RowTested (bookOf (now (book .entry))) (c .flow) (now (work .entry)) least (rowFrom r) t ⌝ }
+{
+    let early = early_fault(c.jobs, least, place_of(r), r);
+    if early != 0 {
+        return Tested {
+            number: early,
+            used: 0,
+            size: 0,
+            predecessors: 0,
+        };
+    }
+    let job = book::job_of(book, c.start, c.flow, bytes::wide(r.job));
+    let used = bytes::read16(work, 2 * bytes::wide16(r.slot));
+    Tested {
+        number: late_fault(job.cap, used, c.processors, r),
+        used,
+        size: job.size,
+        predecessors: job.predecessors,
+    }
+}
+
+// Whether job k is a predecessor that is complete only from a later slot on.
+pub fn lacks(predecessors: u64, k: usize, slot: u16, ready: u16) -> bool
+    requires { ⌜ k < 64 ⌝ }
+    ensures { λ t. ⌜ t ≡ lacksAt predecessors k slot ready ⌝ }
+{
+    if (predecessors >> k) % 2 == 1 {
+        return slot < ready;
+    }
+    false
+}
+
+// How many predecessors are asked at a row of job i: all that may be at its first row, and none once it has a total, since they were asked then.
+pub fn to_ask(total: u64, i: usize) -> usize
+    ensures { λ n. ⌜ n ≡ asked total i ⌝ }
+{
+    if 0 < total {
+        return 0;
+    }
+    i
+}
+
+// The slot from which job i is complete, once its total goes from `before` to `after` by a row in `slot`.
+pub fn complete(ready: &mut [u16], i: usize, before: u64, after: u64, size: u32, slot: u16)
+    requires { ⌜ (i < length (now ready)) × (slot < slots) ⌝ }
+    ensures { λ _. ⌜ now (ready .exit) ≡ set (now (ready .entry)) i (readyAfter (getD (now (ready .entry)) i 0) before after size slot) ⌝ }
+{
+    let whole = size as u64;
+    if after < whole {
+        return;
+    }
+    if whole <= before {
+        return;
+    }
+    ready[i] = slot + 1;
+}
+
+// A row that passed is counted: in its slot's use, in its job's total, and where that completes the job.
+pub fn count_row(totals: &mut [u64], ready: &mut [u16], work: &mut [u8], t: Tested, r: Row)
+    requires { ⌜ Countable (now totals) (now ready) (now work) t (rowFrom r) ⌝ }
+    ensures { λ _. ⌜ RowCounted t (rowFrom r) (now (totals .entry)) (now (ready .entry)) (now (work .entry)) (now (totals .exit)) (now (ready .exit)) (now (work .exit)) ⌝ }
+{
+    bytes::write16(work, 2 * bytes::wide16(r.slot), t.used + r.processors);
+    let i = bytes::wide(r.job);
+    let before = totals[i];
+    let after = before + r.processors as u64;
+    totals[i] = after;
+    complete(ready, i, before, after, t.size, r.slot);
+}
