@@ -1,5 +1,4 @@
 -- Laws that the proofs of several functions cite.
-pub mod Bits
 pub mod Filled
 pub mod Durations
 pub mod Starts

@@ -8,6 +8,7 @@ pub mod AcceptsExactly
 pub mod AcceptsPlans
 -- laws that the proofs here and in the crates above cite
 pub mod Division
+pub mod Bits
 pub mod Sums
 pub mod Walks
 pub mod Faults

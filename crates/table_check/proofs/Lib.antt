@@ -1,6 +1,7 @@
 -- Laws of the check.
 pub mod Heads
 pub mod TableRows
+pub mod Jobs
 pub mod TestNumbers
 pub mod Keys
 pub mod SoFar

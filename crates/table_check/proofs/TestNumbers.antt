@@ -1,20 +1,19 @@
 -- Laws of the tests of a row as numbers: the first that is not 0 counts. Assumes nothing.
-use mathlib.Core.Path.{_≡_, refl, sym, ap, _∙_}
+use mathlib.Core.Path.{_≡_, refl, sym, _∙_}
 use Prim.Native.Nat.{ℕ, _*_, _<_}
 use mathlib.Core.Bool.{Bool, true, false}
 use mathlib.Core.List.{List}
 use native.Mathlib.Omega.{arith}
+use lib.ListN.{getD}
 use lib.Dec.{leb, eqb}
 use borrow.Author.Tests.{eq-eqb, ne-eqb, eqb-true, eqb-false, leb-false}
 use Rattle.rules.specs.Walks.{if_then_else_}
 use Rattle.rules.specs.Limits.{slots}
 use Rattle.rules.specs.Fields.{field}
-use Rattle.rules.specs.Book.{Book, Job, jobCount, flowOf, jobOf}
+use Rattle.rules.specs.Book.{Book, jobCount, flowOf, jobOf}
 use Rattle.rules.specs.Rows.{Row}
-use Rattle.book.specs.declared.JobRecord.{JobRecord}
-use Rattle.book.specs.Promise.{jobFrom}
 use Rattle.table_check.specs.Tests.{placeOf, earlyNumber, lateNumber, firstNumber, testNumber}
-use Rattle.table_check.specs.Tally.{RowTested}
+use Rattle.table_check.specs.Tally.{JobsHeld, RowTested}
 
 pub first-stands : (m n : ℕ) → (m ≡ 0 → ⊥) → firstNumber m n ≡ m
 unfolding firstNumber
@@ -50,13 +49,12 @@ module _ (b : Book) (f least jobs key early : ℕ) (r : Row) (jobs-are : jobs �
   early-right = rw (← jobs-are, ← key-is) early-is
 
   -- 15 or 16
-  pub tested-early : (work : List ℕ) → (early ≡ 0 → ⊥) → RowTested b f work least r (record { number = early; used = 0; size = 0; predecessors = 0 })
+  pub tested-early : (work : List ℕ) → (early ≡ 0 → ⊥) → RowTested b f work least r (record { number = early; used = 0; size = 0 })
   unfolding testNumber
   tested-early work n = record {
     number = early-right ∙ sym (first-stands _ _ (λ e. n (early-right ∙ e)));
     used = λ e. absurd (n e);
     size = λ e. absurd (n e);
-    predecessors = λ e. absurd (n e);
   }
 
   module _ (none : early ≡ 0) where
@@ -64,17 +62,16 @@ module _ (b : Book) (f least jobs key early : ℕ) (r : Row) (jobs-are : jobs �
     tested-inside = early-inside (jobCount (flowOf b f)) least (placeOf r) r (sym early-right ∙ none)
 
     -- 17 and 18
-    pub tested-late : (work : List ℕ) (used late processors i at : ℕ) (job : JobRecord) → processors ≡ b .processors → i ≡ r .job → at ≡ r .slot →
-        jobFrom job ≡ jobOf (flowOf b f) i → used ≡ field 2 work (2 * at) → late ≡ lateNumber (job .cap) used processors r →
-        RowTested b f work least r (record { number = late; used = used; size = job .size; predecessors = job .predecessors })
+    pub tested-late : (work sizes caps : List ℕ) (used late processors i at : ℕ) → JobsHeld b f jobs sizes caps → processors ≡ b .processors → i ≡ r .job →
+        at ≡ r .slot → used ≡ field 2 work (2 * at) → late ≡ lateNumber (getD caps i 0) used processors r →
+        RowTested b f work least r (record { number = late; used = used; size = getD sizes i 0 })
     unfolding testNumber
-    tested-late work used late processors i at job p-is i-is at-is job-is used-is late-is =
-        let record-is : jobFrom job ≡ jobOf (flowOf b f) (r .job) = rw i-is at job-is in
+    tested-late work sizes caps used late processors i at held p-is i-is at-is used-is late-is =
         let used-right : used ≡ field 2 work (2 * r .slot) = rw at-is at used-is in
+        let inside : r .job < jobs = rw jobs-are (tested-inside .1) in
         record {
-          number = late-is ∙ rw (p-is, used-right, ap (λ (j : Job). j .cap) record-is)
+          number = late-is ∙ rw (i-is, held .cap-of (r .job) inside, p-is, used-right)
               (sym (first-passes (earlyNumber (jobCount (flowOf b f)) least (placeOf r) r) _ (sym early-right ∙ none)));
           used = λ e. used-right;
-          size = λ e. ap (λ (j : Job). j .size) record-is;
-          predecessors = λ e. ap (λ (j : Job). j .predecessors) record-is;
+          size = λ e. rw i-is (held .size-of (r .job) inside);
         }

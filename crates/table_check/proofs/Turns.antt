@@ -1,11 +1,11 @@
 -- One turn of the walk over a flow's rows: what holds as it begins, what is known of its row once 15 to 18 have passed, that a row that lacks no
 -- predecessor is counted by the next turn's beginning, and what each way out of the walk gives. Assumes nothing.
 use mathlib.Core.Path.{_≡_, refl, sym, ap, _∙_, subst}
-use Prim.Native.Nat.{ℕ, suc, _+_, _*_, _≤_, _<_}
-use mathlib.Core.Bool.{Bool, true, false}
+use Prim.Native.Nat.{ℕ, suc, _+_, _*_, _/_, _^_, _≤_, _<_}
+use mathlib.Core.Bool.{Bool, true, false, _&&_, false≢true}
 use mathlib.Core.Logic.{_⊎_, inl, inr}
 use mathlib.Core.List.{List, [], _∷_, _++_}
-use native.Mathlib.Numerals.{add-one}
+use native.Mathlib.Nat.{div-one}
 use native.Mathlib.Omega.{arith}
 use lib.ListN.{length, getD, take, drop, replicate, length-set}
 use lib.Seq.{sets, length-sets, take-suc}
@@ -17,7 +17,7 @@ use Rattle.rules.specs.Walks.{if_then_else_, anyTo, joinFrom}
 use Rattle.rules.specs.Limits.{slots, workBytes}
 use Rattle.rules.specs.Fields.{field, bytesOf}
 use Rattle.rules.specs.Answers.{firstFault}
-use Rattle.rules.specs.Book.{Book, flowCount, jobCount, flowOf, jobOf, InRange}
+use Rattle.rules.specs.Book.{Book, flowCount, jobCount, flowOf, jobOf, hasBit, InRange}
 use Rattle.rules.specs.Reading.{bookOf}
 use Rattle.rules.specs.Rows as rules
 use Rattle.rules.specs.Rows.{usedIn, totalOf, finishOf, workUsed, workZero}
@@ -25,14 +25,15 @@ use Rattle.rules.specs.Table.{tableHead, rowLength, rowAt}
 use Rattle.rules.specs.Check.{noRow, tableRows, tableHeadFault, lacksPredecessor, rowFault}
 use Rattle.rules.proofs.Division.{lt-or-ge}
 use Rattle.rules.proofs.Faults.{fault-stop, fault-next, not-pass}
-use Rattle.rules.proofs.Walks.{any-true}
+use Rattle.rules.proofs.Walks.{last-or, any-true, any-false}
+use Rattle.rules.proofs.Bits.{bit-of-left, left-next, no-bit-left, left-below}
 use Rattle.rules.proofs.Passing.{pass-in-range}
 use Rattle.rules.proofs.WorkArea.{used-pair, used-row, used-rest, used-cleared}
 use Rattle.table_check.specs.declared.row.Row.{Row}
 use Rattle.table_check.specs.declared.row.Current.{Current}
 use Rattle.table_check.specs.declared.row.Tested.{Tested}
 use Rattle.table_check.specs.Tests.{rowFrom, serviceKey, placeOf, places, rowKey, leastKey, earlyNumber, lateNumber, testNumber, lacksAt, asked, readyAfter}
-use Rattle.table_check.specs.Tally.{CurrentFlow, RowTested, Countable, RowCounted, rowsTo, Reached, FlowTally}
+use Rattle.table_check.specs.Tally.{CurrentFlow, JobsHeld, RowTested, Countable, RowCounted, rowsTo, Reached, FlowTally}
 use Rattle.table_check.specs.Walk.{rowsFault, FlowBegins, WentOn, RowsWalked}
 use Rattle.table_check.proofs.TestNumbers.{first-stands, first-passes, first-none}
 use Rattle.table_check.proofs.TableRows.{row-at, table-length, rows-to}
@@ -43,8 +44,9 @@ use Rattle.table_check.proofs.Started.{started-lacks-none}
 use Rattle.table_check.proofs.RowFaults.{EarlyPassed, LatePassed, in-book-of, early-fault, early-passed, late-fault, late-passed, lacks-fault, row-passes, lacks-by-ready}
 
 -- what holds as a turn begins, after k rows; the walk over the rows of the flow began at `from`
-pub record Going (book table : List ℕ) (c : Current) (from : ℕ) (totals ready work : List ℕ) (bad : Verdict) (least finish at k : ℕ) : Type 0 where
+pub record Going (book table sizes caps : List ℕ) (c : Current) (from : ℕ) (totals ready work : List ℕ) (bad : Verdict) (least finish at k : ℕ) : Type 0 where
   pub current : CurrentFlow book c
+  pub held : JobsHeld (bookOf book) (c .flow) (c .jobs) sizes caps
   pub headed : tableHeadFault (bookOf book) table ≡ Pass
   pub short : length table < 4294967296
   pub room : workBytes ≤ length work
@@ -83,19 +85,20 @@ pub record Turn (b : Book) (table : List ℕ) (f k : ℕ) (r : rules.Row) (t : T
   pub late : LatePassed b (take k (tableRows b table)) r
   pub used-is : t .used ≡ usedIn (take k (tableRows b table)) (r .slot)
   pub size-is : t .size ≡ jobOf (flowOf b f) (r .job) .size
-  pub predecessors-are : t .predecessors ≡ jobOf (flowOf b f) (r .job) .predecessors
 
 -- ---- the first turn
-pub going-first : {book table totals ready work : List ℕ} {c : Current} {from : ℕ} → FlowBegins book table work c from →
+pub going-first : {book table sizes caps totals ready work : List ℕ} {c : Current} {from : ℕ} → FlowBegins book table work c from →
+    JobsHeld (bookOf book) (c .flow) (c .jobs) sizes caps →
     totals ≡ replicate 64 0 → ready ≡ replicate 64 65535 →
-    Going book table c from totals ready work Pass 0 0 from (rowsTo (bookOf book) from)
-going-first {book} {table} {c = c} {from = from} begins t-is r-is =
+    Going book table sizes caps c from totals ready work Pass 0 0 from (rowsTo (bookOf book) from)
+going-first {book} {table} {c = c} {from = from} begins held t-is r-is =
     let range = pass-in-range book (begins .current .stands .passes) in
     let k = rowsTo (bookOf book) from in
     let known = so-far (bookOf book) range (tableRows (bookOf book) table) k (begins .reached .within) (begins .reached .passed) in
     let none = known .fresh (c .flow) (begins .ahead) in
     record {
       current = begins .current;
+      held = held;
       headed = begins .headed;
       short = begins .short;
       room = begins .room;
@@ -121,6 +124,14 @@ unfolding workUsed
 used-self n rows area s e =
     e ∙ ap (λ d. joinFrom (λ t. bytesOf 2 (usedIn rows t)) n 0 ++ d) (sym (used-rest n rows area) ∙ ap (drop (2 * n)) (sym e))
 
+-- a bit that is not set lacks nothing
+unset-lacks : (p m slot ready : ℕ) → hasBit p m ≡ false → lacksAt p m slot ready ≡ false
+unfolding lacksAt
+unset-lacks p m slot ready e = rw e refl
+
+no-bit : (p : ℕ) → p ≡ 0 → (m : ℕ) → hasBit p m ≡ false
+no-bit p e m = no-bit-left p p 0 (sym (div-one p)) e m (omega arith)
+
 -- two numbers compare as they do when both are moved on
 shifted : (s m p : ℕ) → leb (suc (s + m)) (s + p) ≡ leb (m + 1) p
 shifted s m p = go (lt-or-ge m p)
@@ -129,8 +140,8 @@ shifted s m p = go (lt-or-ge m p)
     go (inl l) = le-leb (suc (s + m)) (s + p) (omega arith) ∙ sym (le-leb (m + 1) p (omega arith))
     go (inr l) = lt-leb (suc (s + m)) (s + p) (omega arith) ∙ sym (lt-leb (m + 1) p (omega arith))
 
-module _ {book table : List ℕ} {c : Current} {from : ℕ} {totals ready work : List ℕ} {bad : Verdict} {least finish at k : ℕ}
-    (going : Going book table c from totals ready work bad least finish at k) where
+module _ {book table sizes caps : List ℕ} {c : Current} {from : ℕ} {totals ready work : List ℕ} {bad : Verdict} {least finish at k : ℕ}
+    (going : Going book table sizes caps c from totals ready work bad least finish at k) where
   abbrev b : Book
   b = bookOf book
 
@@ -214,12 +225,11 @@ module _ {book table : List ℕ} {c : Current} {from : ℕ} {totals ready work :
                 (jobOf (flowOf (bookOf book) (c .flow)) (r .job) .cap) second (used-right (both .0)) (cap-right (both .0)) refl (both .1);
             used-is = tested .used e ∙ used-right (both .0);
             size-is = tested .size e;
-            predecessors-are = tested .predecessors e;
           }
 
   -- ---- 19, and the row counted
   module _ {r : Row} {t : Tested} (turn : Turn (bookOf book) table (c .flow) k (rowFrom r) t) where
-    job-in : r .job < jobCount (flowOf (bookOf book) (c .flow))
+    pub job-in : r .job < jobCount (flowOf (bookOf book) (c .flow))
     job-in = rw (turn .own) at (in-book-of b (rowFrom r) (turn .early .inside) .2)
 
     pub job-few : r .job < 64
@@ -231,33 +241,58 @@ module _ {book table : List ℕ} {c : Current} {from : ℕ} {totals ready work :
     latest : finishOf (take k (tableRows (bookOf book) table)) (c .flow) ≤ r .slot + 1
     latest = rw (turn .own) at (known .rising (rowFrom r) (turn .early .fits) (turn .early .after-least))
 
+    abbrev predecessors : ℕ
+    predecessors = jobOf (flowOf (bookOf book) (c .flow)) (r .job) .predecessors
+
     tests : lacksPredecessor (bookOf book) (take k (tableRows (bookOf book) table)) (rowFrom r)
-        ≡ anyTo (λ m. lacksAt (t .predecessors) m (r .slot) (getD ready m 0)) (r .job)
-    tests =
-        lacks-by-ready b (c .flow) (take k rows) totals ready (rowFrom r) (going .tally) (turn .own) job-in slot-in latest
-        ∙ rw (turn .predecessors-are) refl
+        ≡ anyTo (λ m. lacksAt (jobOf (flowOf (bookOf book) (c .flow)) (r .job) .predecessors) m (r .slot) (getD ready m 0)) (r .job)
+    tests = lacks-by-ready b (c .flow) (take k rows) totals ready (rowFrom r) (going .tally) (turn .own) job-in slot-in latest
 
-    pub lacks-stops : (m : ℕ) → m < r .job → lacksAt (t .predecessors) m (r .slot) (getD ready m 0) ≡ true →
-        rowFault (bookOf book) (tableRows (bookOf book) table) k ≡ Refused 19 (r .flow) (r .job)
-    lacks-stops m h e =
-        lacks-fault b rows k (rowFrom r) (turn .row-is) (turn .early) (turn .late)
-        (tests ∙ any-true (λ m. lacksAt (t .predecessors) m (r .slot) (getD ready m 0)) (r .job) m h e)
+    predecessors-few : jobOf (flowOf (bookOf book) (c .flow)) (r .job) .predecessors < 2 ^ r .job
+    predecessors-few = range .each-flow (c .flow) (going .current .stands .flow-in) .each-job (r .job) job-in .predecessors-below
 
-    -- a job that has a total lacks none: its first row was asked
-    pub all-asked : (ask : ℕ) → ask ≡ asked (getD totals (r .job) 0) (r .job) →
-        anyTo (λ m. lacksAt (t .predecessors) m (r .slot) (getD ready m 0)) ask ≡ false →
-        lacksPredecessor (bookOf book) (take k (tableRows (bookOf book) table)) (rowFrom r) ≡ false
-    unfolding asked
-    all-asked ask e none = go (ltb 0 (getD totals (r .job) 0)) refl
-      where
-        go : (u : Bool) → ltb 0 (getD totals (r .job) 0) ≡ u →
-            lacksPredecessor (bookOf book) (take k (tableRows (bookOf book) table)) (rowFrom r) ≡ false
-        go true h =
-            started-lacks-none b rows k (going .reached .within) (going .reached .passed) (rowFrom r) (rw (turn .own) latest)
-            (rw (turn .own) (omega (arith, ltb-true 0 (getD totals (r .job) 0) h, going .tally .total (r .job) job-few)))
-        go false h =
-            let all : ask ≡ r .job = e ∙ rw h refl in
-            tests ∙ ap (anyTo (λ m. lacksAt (t .predecessors) m (r .slot) (getD ready m 0))) (sym all) ∙ none
+    -- the bits that are asked: those of the predecessors, or none where the job has a total
+    module _ (bits : ℕ) (bits-are : bits ≡ asked (getD totals (r .job) 0) (jobOf (flowOf (bookOf book) (c .flow)) (r .job) .predecessors)) where
+      first-or-none : ((bits ≡ 0) × (0 < getD totals (r .job) 0)) ⊎ (bits ≡ jobOf (flowOf (bookOf book) (c .flow)) (r .job) .predecessors)
+      unfolding asked
+      first-or-none = go (ltb 0 (getD totals (r .job) 0)) refl
+        where
+          go : (u : Bool) → ltb 0 (getD totals (r .job) 0) ≡ u →
+              ((bits ≡ 0) × (0 < getD totals (r .job) 0)) ⊎ (bits ≡ jobOf (flowOf (bookOf book) (c .flow)) (r .job) .predecessors)
+          go true e = inl (bits-are ∙ rw e refl, ltb-true 0 (getD totals (r .job) 0) e)
+          go false e = inr (bits-are ∙ rw e refl)
+
+      pub bits-few : bits < 2 ^ r .job
+      bits-few = go first-or-none
+        where
+          go : ((bits ≡ 0) × (0 < getD totals (r .job) 0)) ⊎ (bits ≡ jobOf (flowOf (bookOf book) (c .flow)) (r .job) .predecessors) → bits < 2 ^ r .job
+          go (inl none) = omega (arith, none .0, predecessors-few)
+          go (inr all) = omega (arith, all, predecessors-few)
+
+      -- a bit that is lacking
+      pub lacks-stops : (m : ℕ) → m < r .job → lacksAt bits m (r .slot) (getD ready m 0) ≡ true →
+          rowFault (bookOf book) (tableRows (bookOf book) table) k ≡ Refused 19 (r .flow) (r .job)
+      lacks-stops m h e = go first-or-none
+        where
+          go : ((bits ≡ 0) × (0 < getD totals (r .job) 0)) ⊎ (bits ≡ jobOf (flowOf (bookOf book) (c .flow)) (r .job) .predecessors) →
+              rowFault (bookOf book) (tableRows (bookOf book) table) k ≡ Refused 19 (r .flow) (r .job)
+          go (inl none) = absurd (false≢true (sym (unset-lacks bits m (r .slot) (getD ready m 0) (no-bit bits (none .0) m)) ∙ e))
+          go (inr all) =
+              lacks-fault b rows k (rowFrom r) (turn .row-is) (turn .early) (turn .late)
+              (tests ∙ any-true (λ m. lacksAt predecessors m (r .slot) (getD ready m 0)) (r .job) m h (ap (λ (p : ℕ). lacksAt p m (r .slot) (getD ready m 0)) (sym all) ∙ e))
+
+      -- none is lacking: at the job's first row all were asked, and later none lacks since its first row was asked
+      pub none-lacks : ((m : ℕ) → m < r .job → lacksAt bits m (r .slot) (getD ready m 0) ≡ false) →
+          lacksPredecessor (bookOf book) (take k (tableRows (bookOf book) table)) (rowFrom r) ≡ false
+      none-lacks none = go first-or-none
+        where
+          go : ((bits ≡ 0) × (0 < getD totals (r .job) 0)) ⊎ (bits ≡ jobOf (flowOf (bookOf book) (c .flow)) (r .job) .predecessors) →
+              lacksPredecessor (bookOf book) (take k (tableRows (bookOf book) table)) (rowFrom r) ≡ false
+          go (inl some) =
+              started-lacks-none b rows k (going .reached .within) (going .reached .passed) (rowFrom r) (rw (turn .own) latest)
+              (rw (turn .own) (omega (arith, some .1, going .tally .total (r .job) job-few)))
+          go (inr all) =
+              tests ∙ any-false (λ m. lacksAt predecessors m (r .slot) (getD ready m 0)) (r .job) (λ m h. ap (λ (p : ℕ). lacksAt p m (r .slot) (getD ready m 0)) (sym all) ∙ none m h)
 
     pub countable : Countable totals ready work t (rowFrom r)
     countable = record {
@@ -320,9 +355,10 @@ module _ {book table : List ℕ} {c : Current} {from : ℕ} {totals ready work :
       least-right = rw (turn .row-is, turn .own) refl
 
       going-at : (v : Verdict) → v ≡ Pass →
-          Going book table c from totals′ ready′ work′ v (placeOf (rowFrom r) + 1) (r .slot + 1) (at + 6) (suc k)
+          Going book table sizes caps c from totals′ ready′ work′ v (placeOf (rowFrom r) + 1) (r .slot + 1) (at + 6) (suc k)
       going-at v v-is = record {
         current = going .current;
+        held = going .held;
         headed = going .headed;
         short = going .short;
         room = omega (arith, going .room, ap length (counted .used), length-sets work (2 * r .slot) (bytesOf 2 (t .used + r .processors)));
@@ -342,7 +378,7 @@ module _ {book table : List ℕ} {c : Current} {from : ℕ} {totals ready work :
 
       -- the next turn
       pub going-next : {v : Verdict} {place : ℕ} → v ≡ Pass → place ≡ placeOf (rowFrom r) →
-          Going book table c from totals′ ready′ work′ v (place + 1) (r .slot + 1) (at + 6) (rowsTo (bookOf book) (at + 6))
+          Going book table sizes caps c from totals′ ready′ work′ v (place + 1) (r .slot + 1) (at + 6) (rowsTo (bookOf book) (at + 6))
       going-next {v} v-is e = rw (e, rows-to b (at + 6) (suc k) (reached-next .at-is)) (going-at v v-is)
 
   -- ---- the ways out
@@ -403,68 +439,70 @@ module _ {book table : List ℕ} {c : Current} {from : ℕ} {totals ready work :
     walk-turns here r read n = walk-leaves (λ l e. n (sym (ap (λ (q : rules.Row). q .flow) (row-read here r read)) ∙ e))
 
 -- ---- the predecessors of the row, asked one after the other
--- what holds as predecessor j is asked
-pub record Asking (book table : List ℕ) (c : Current) (from : ℕ) (totals ready work : List ℕ) (bad : Verdict) (least finish at : ℕ)
-    (r : Row) (t : Tested) (i ask j : ℕ) : Type 0 where
-  pub going : Going book table c from totals ready work bad least finish at (rowsTo (bookOf book) at)
+-- what holds after j halvings of the bits that are asked
+pub record Asking (book table sizes caps : List ℕ) (c : Current) (from : ℕ) (totals ready work : List ℕ) (bad : Verdict) (least finish at : ℕ)
+    (r : Row) (t : Tested) (i bits j : ℕ) : Type 0 where
+  pub going : Going book table sizes caps c from totals ready work bad least finish at (rowsTo (bookOf book) at)
   pub turn : Turn (bookOf book) table (c .flow) (rowsTo (bookOf book) at) (rowFrom r) t
   pub job-is : i ≡ r .job
-  pub ask-is : ask ≡ asked (getD totals i 0) i
-  pub asked-to : j ≤ ask
-  pub none-so-far : anyTo (λ m. lacksAt (t .predecessors) m (r .slot) (getD ready m 0)) j ≡ false
+  pub all : ℕ
+  pub all-are : all ≡ asked (getD totals (r .job) 0) (jobOf (flowOf (bookOf book) (c .flow)) (r .job) .predecessors)
+  pub left : bits ≡ all / 2 ^ j
+  pub none-so-far : (m : ℕ) → m < j → lacksAt all m (r .slot) (getD ready m 0) ≡ false
 
-asked-most : (n total i : ℕ) → n ≡ asked total i → n ≤ i
-unfolding asked
-asked-most n total i = go (ltb 0 total)
-  where
-    go : (u : Bool) → n ≡ (if u then 0 else i) → n ≤ i
-    go true e = omega arith
-    go false e = omega arith
+-- the lowest bit of what is left after j halvings is bit j
+lowest-lacks : (p bits j slot ready : ℕ) → bits ≡ p / 2 ^ j → lacksAt bits 0 slot ready ≡ lacksAt p j slot ready
+unfolding lacksAt
+lowest-lacks p bits j slot ready e = ap (λ (u : Bool). u && ltb slot ready) (bit-of-left p bits j e)
 
-none-asked : (q : ℕ → Bool) → anyTo q 0 ≡ false
-unfolding anyTo
-none-asked q = refl
-
-one-asked : (q : ℕ → Bool) (j : ℕ) → anyTo q j ≡ false → q j ≡ false → anyTo q (j + 1) ≡ false
-unfolding anyTo
-one-asked q j e d = rw (add-one, e, d) refl
-
-module _ {book table : List ℕ} {c : Current} {from : ℕ} {totals ready work : List ℕ} {bad : Verdict} {least finish at : ℕ} {r : Row} {t : Tested}
-    {i ask : ℕ} where
-  pub asking-first : Going book table c from totals ready work bad least finish at (rowsTo (bookOf book) at) →
-      Turn (bookOf book) table (c .flow) (rowsTo (bookOf book) at) (rowFrom r) t → i ≡ r .job → ask ≡ asked (getD totals i 0) i →
-      Asking book table c from totals ready work bad least finish at r t i ask 0
-  asking-first going turn job-is ask-is = record {
+module _ {book table sizes caps : List ℕ} {c : Current} {from : ℕ} {totals ready work : List ℕ} {bad : Verdict} {least finish at : ℕ} {r : Row} {t : Tested}
+    {i bits : ℕ} where
+  pub asking-first : Going book table sizes caps c from totals ready work bad least finish at (rowsTo (bookOf book) at) →
+      Turn (bookOf book) table (c .flow) (rowsTo (bookOf book) at) (rowFrom r) t → i ≡ r .job →
+      bits ≡ asked (getD totals i 0) (jobOf (flowOf (bookOf book) (c .flow)) i .predecessors) →
+      Asking book table sizes caps c from totals ready work bad least finish at r t i bits 0
+  asking-first going turn job-is bits-are = record {
     going = going;
     turn = turn;
     job-is = job-is;
-    ask-is = ask-is;
-    asked-to = omega arith;
-    none-so-far = none-asked (λ m. lacksAt (t .predecessors) m (r .slot) (getD ready m 0));
+    all = bits;
+    all-are = rw job-is at bits-are;
+    left = sym (div-one bits);
+    none-so-far = λ m h. absurd (omega arith);
   }
 
-  module _ {j : ℕ} (asking : Asking book table c from totals ready work bad least finish at r t i ask j) where
-    pub asks-few : ask ≤ 64
-    asks-few = omega (arith, asked-most ask (getD totals i 0) i (asking .ask-is), asking .job-is, job-few (asking .going) (asking .turn))
+  module _ {j : ℕ} (asking : Asking book table sizes caps c from totals ready work bad least finish at r t i bits j) where
+    below-job : (bits ≡ 0 → ⊥) → j < r .job
+    below-job some = left-below (asking .all) bits j (asking .left) (r .job) (bits-few (asking .going) (asking .turn) (asking .all) (asking .all-are)) some
 
-    pub asking-next : j < ask → {lacking : Bool} → lacking ≡ lacksAt (t .predecessors) j (r .slot) (getD ready j 0) → lacking ≡ false →
-        Asking book table c from totals ready work bad least finish at r t i ask (j + 1)
-    asking-next h is none = record {
-      going = asking .going;
-      turn = asking .turn;
-      job-is = asking .job-is;
-      ask-is = asking .ask-is;
-      asked-to = omega arith;
-      none-so-far = one-asked (λ m. lacksAt (t .predecessors) m (r .slot) (getD ready m 0)) j (asking .none-so-far) (sym is ∙ none);
-    }
+    pub asks-few : (bits ≡ 0 → ⊥) → j < 64
+    asks-few some = omega (arith, below-job some, job-few (asking .going) (asking .turn))
 
-    pub asking-stops : j < ask → {lacking : Bool} → lacking ≡ lacksAt (t .predecessors) j (r .slot) (getD ready j 0) → lacking ≡ true →
-        rowFault (bookOf book) (tableRows (bookOf book) table) (rowsTo (bookOf book) at) ≡ Refused 19 (r .flow) (r .job)
-    asking-stops h is some =
-        lacks-stops (asking .going) (asking .turn) j (omega (arith, asked-most ask (getD totals i 0) i (asking .ask-is), asking .job-is)) (sym is ∙ some)
+    module _ {lacking : Bool} (is : lacking ≡ lacksAt bits 0 (r .slot) (getD ready j 0)) where
+      here : lacking ≡ lacksAt (asking .all) j (r .slot) (getD ready j 0)
+      here = is ∙ lowest-lacks (asking .all) bits j (r .slot) (getD ready j 0) (asking .left)
 
-    pub asking-ends : ask ≤ j → lacksPredecessor (bookOf book) (take (rowsTo (bookOf book) at) (tableRows (bookOf book) table)) (rowFrom r) ≡ false
-    asking-ends h =
-        let all : j ≡ ask = omega (arith, asking .asked-to) in
-        all-asked (asking .going) (asking .turn) ask (asking .ask-is ∙ rw (asking .job-is) refl)
-        (ap (anyTo (λ m. lacksAt (t .predecessors) m (r .slot) (getD ready m 0))) (sym all) ∙ asking .none-so-far)
+      pub asking-next : lacking ≡ false → Asking book table sizes caps c from totals ready work bad least finish at r t i (bits / 2) (j + 1)
+      asking-next none = record {
+        going = asking .going;
+        turn = asking .turn;
+        job-is = asking .job-is;
+        all = asking .all;
+        all-are = asking .all-are;
+        left = left-next (asking .all) bits j (asking .left);
+        none-so-far = λ m h. last-or m j (omega arith) (λ e. ap (λ (q : ℕ). lacksAt (asking .all) q (r .slot) (getD ready q 0)) e ∙ sym here ∙ none) (λ l. asking .none-so-far m l);
+      }
+
+      pub asking-stops : (bits ≡ 0 → ⊥) → lacking ≡ true →
+          rowFault (bookOf book) (tableRows (bookOf book) table) (rowsTo (bookOf book) at) ≡ Refused 19 (r .flow) (r .job)
+      asking-stops some lacks =
+          lacks-stops (asking .going) (asking .turn) (asking .all) (asking .all-are) j (below-job some) (sym here ∙ lacks)
+
+    pub asking-ends : bits ≡ 0 → lacksPredecessor (bookOf book) (take (rowsTo (bookOf book) at) (tableRows (bookOf book) table)) (rowFrom r) ≡ false
+    asking-ends none =
+        none-lacks (asking .going) (asking .turn) (asking .all) (asking .all-are)
+        (λ m h. go m (lt-or-ge m j))
+      where
+        go : (m : ℕ) → (m < j) ⊎ (j ≤ m) → lacksAt (asking .all) m (r .slot) (getD ready m 0) ≡ false
+        go m (inl l) = asking .none-so-far m l
+        go m (inr l) = unset-lacks (asking .all) m (r .slot) (getD ready m 0) (no-bit-left (asking .all) bits j (asking .left) none m l)

@@ -27,13 +27,19 @@ pub record CurrentFlow (book : List ℕ) (c : Current) : Type 0 where
   pub jobs : c .jobs ≡ jobCount (flowOf (bookOf book) (c .flow))
   pub processors : c .processors ≡ bookOf book .processors
 
+-- size and cap of each of the first n jobs of flow f, read out
+pub record JobsHeld (b : Book) (f n : ℕ) (sizes caps : List ℕ) : Type 0 where
+  pub sizes-long : length sizes ≡ 64
+  pub caps-long : length caps ≡ 64
+  pub size-of : (i : ℕ) → i < n → getD sizes i 0 ≡ jobOf (flowOf b f) i .size
+  pub cap-of : (i : ℕ) → i < n → getD caps i 0 ≡ jobOf (flowOf b f) i .cap
+
 -- ---- one row
 -- 15 to 18 of a row of flow f, and what counting it needs
 pub record RowTested (b : Book) (f : ℕ) (work : List ℕ) (least : ℕ) (r : rules.Row) (t : Tested) : Type 0 where
   pub number : t .number ≡ testNumber b f (field 2 work (2 * r .slot)) least r
   pub used : t .number ≡ 0 → t .used ≡ field 2 work (2 * r .slot)
   pub size : t .number ≡ 0 → t .size ≡ jobOf (flowOf b f) (r .job) .size
-  pub predecessors : t .number ≡ 0 → t .predecessors ≡ jobOf (flowOf b f) (r .job) .predecessors
 
 -- there is room to count the row
 pub record Countable (totals ready work : List ℕ) (t : Tested) (r : rules.Row) : Type 0 where

@@ -81,9 +81,9 @@ testNumber b f used least r =
 unfoldable pub lacksAt : ℕ → ℕ → ℕ → ℕ → Bool
 lacksAt predecessors k slot ready = hasBit predecessors k && ltb slot ready
 
--- how many predecessors are asked at a row of job i, which has this total so far
+-- the predecessors that are asked at a row of a job that has this total so far, a bit each
 unfoldable pub asked : ℕ → ℕ → ℕ
-asked total i = if ltb 0 total then 0 else i
+asked total predecessors = if ltb 0 total then 0 else predecessors
 
 -- the slot from which a job is complete, once its total goes from `before` to `after` by a row in `slot`: the next one where that completes it
 unfoldable pub readyAfter : ℕ → ℕ → ℕ → ℕ → ℕ → ℕ

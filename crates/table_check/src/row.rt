@@ -4,10 +4,11 @@ ghost use Prim.Native.Nat.{_+_, _<_, _≤_};
 ghost use lib.ListN.{length, getD, set};
 ghost use Rattle.rules.specs.declared.Verdict.the-variants.{Refused};
 ghost use Rattle.rules.specs.Limits.{slots, workBytes};
+ghost use Rattle.rules.specs.Book.{jobCount, flowOf, jobOf};
 ghost use Rattle.rules.specs.Reading.{bookOf};
 ghost use Rattle.rules.specs.Table.{rowAt};
 ghost use Rattle.table_check.specs.Tests.{rowFrom, placeOf, earlyNumber, lateNumber, lacksAt, asked, readyAfter};
-ghost use Rattle.table_check.specs.Tally.{CurrentFlow, RowTested, Countable, RowCounted};
+ghost use Rattle.table_check.specs.Tally.{CurrentFlow, JobsHeld, RowTested, Countable, RowCounted};
 use book::bytes;
 use rules::Verdict;
 
@@ -27,12 +28,26 @@ pub struct Current {
     pub processors: u16,
 }
 
-// What the tests find: a refusal number, or 0 and what counting the row needs: the use of its slot, and size and predecessors of its job.
+// What the tests find: a refusal number, or 0 and what counting the row needs: the use of its slot, and the size of its job.
 pub struct Tested {
     pub number: u8,
     pub used: u16,
     pub size: u32,
-    pub predecessors: u64,
+}
+
+// Size and cap of each job of the current flow, read out.
+pub fn load_jobs(book: &[u8], c: Current, sizes: &mut [u32], caps: &mut [u16])
+    requires { ⌜ CurrentFlow (now book) c × (length (now sizes) ≡ 64) × (length (now caps) ≡ 64) ⌝ }
+    ensures { λ _. ⌜ JobsHeld (bookOf (now (book .entry))) (c .flow) (c .jobs) (now (sizes .exit)) (now (caps .exit)) ⌝ }
+{
+    let jobs = bytes::wide(c.jobs);
+    let mut i: usize = 0;
+    while i < jobs {
+        let job = book::job_of(book, c.start, c.flow, i);
+        sizes[i] = job.size;
+        caps[i] = job.cap;
+        i = i + 1;
+    }
 }
 
 // The row that stands at `at`.
@@ -99,8 +114,16 @@ pub fn late_fault(cap: u16, used: u16, processors: u16, r: Row) -> u8
 }
 
 // 15 to 18 of a row of the current flow, whose place is to be at least `least`.
-pub fn test_row(book: &[u8], work: &[u8], c: Current, least: u32, r: Row) -> Tested
-    requires { ⌜ CurrentFlow (now book) c × (workBytes ≤ length (now work)) ⌝ }
+pub fn test_row(
+    book: &[u8],
+    sizes: &[u32],
+    caps: &[u16],
+    work: &[u8],
+    c: Current,
+    least: u32,
+    r: Row,
+) -> Tested
+    requires { ⌜ CurrentFlow (now book) c × JobsHeld (bookOf (now book)) (c .flow) (c .jobs) (now sizes) (now caps) × (workBytes ≤ length (now work)) ⌝ }
     ensures { λ t. ⌜ RowTested (bookOf (now (book .entry))) (c .flow) (now (work .entry)) least (rowFrom r) t ⌝ }
 {
     let early = early_fault(c.jobs, least, place_of(r), r);
@@ -109,38 +132,37 @@ pub fn test_row(book: &[u8], work: &[u8], c: Current, least: u32, r: Row) -> Tes
             number: early,
             used: 0,
             size: 0,
-            predecessors: 0,
         };
     }
-    let job = book::job_of(book, c.start, c.flow, bytes::wide(r.job));
+    let i = bytes::wide(r.job);
     let used = bytes::read16(work, 2 * bytes::wide16(r.slot));
     Tested {
-        number: late_fault(job.cap, used, c.processors, r),
+        number: late_fault(caps[i], used, c.processors, r),
         used,
-        size: job.size,
-        predecessors: job.predecessors,
+        size: sizes[i],
     }
 }
 
-// Whether job k is a predecessor that is complete only from a later slot on.
-pub fn lacks(predecessors: u64, k: usize, slot: u16, ready: u16) -> bool
-    requires { ⌜ k < 64 ⌝ }
-    ensures { λ t. ⌜ t ≡ lacksAt predecessors k slot ready ⌝ }
-{
-    if (predecessors >> k) % 2 == 1 {
-        return slot < ready;
-    }
-    false
-}
-
-// How many predecessors are asked at a row of job i: all that may be at its first row, and none once it has a total, since they were asked then.
-pub fn to_ask(total: u64, i: usize) -> usize
-    ensures { λ n. ⌜ n ≡ asked total i ⌝ }
+// The predecessors that are asked at a row of job i, a bit each: all at its first row, and none once it has a total, since they were asked then.
+pub fn to_ask(book: &[u8], c: Current, total: u64, i: usize) -> u64
+    requires { ⌜ CurrentFlow (now book) c × (i < jobCount (flowOf (bookOf (now book)) (c .flow))) ⌝ }
+    ensures { λ p. ⌜ p ≡ asked total (jobOf (flowOf (bookOf (now (book .entry))) (c .flow)) i .predecessors) ⌝ }
 {
     if 0 < total {
         return 0;
     }
-    i
+    let job = book::job_of(book, c.start, c.flow, i);
+    job.predecessors
+}
+
+// Whether the lowest bit names a predecessor that is complete only from a later slot on.
+pub fn lacks(bits: u64, slot: u16, ready: u16) -> bool
+    ensures { λ t. ⌜ t ≡ lacksAt bits 0 slot ready ⌝ }
+{
+    if bits % 2 == 1 {
+        return slot < ready;
+    }
+    false
 }
 
 // The slot from which job i is complete, once its total goes from `before` to `after` by a row in `slot`.

@@ -7,7 +7,7 @@ ghost use Rattle.rules.specs.Answers.{firstFault};
 ghost use Rattle.rules.specs.Book.{jobCount, flowOf};
 ghost use Rattle.rules.specs.Reading.{bookOf};
 ghost use Rattle.table_check.specs.Tests.{offFault};
-ghost use Rattle.table_check.specs.Tally.{CurrentFlow};
+ghost use Rattle.table_check.specs.Tally.{CurrentFlow, JobsHeld};
 ghost use Rattle.table_check.specs.Walk.{FlowBegins, RowsWalked, totalFaultBy, FlowWalked, Ready, TableWalked};
 use super::row;
 use super::row::Current;
@@ -41,13 +41,15 @@ pub struct Walked {
 pub fn walk_rows(
     book: &[u8],
     table: &[u8],
+    sizes: &[u32],
+    caps: &[u16],
     totals: &mut [u64],
     ready: &mut [u16],
     work: &mut [u8],
     c: Current,
     from: usize,
 ) -> Stop
-    requires { ⌜ FlowBegins (now book) (now table) (now work) c from × (now totals ≡ replicate 64 0) × (now ready ≡ replicate 64 65535) ⌝ }
+    requires { ⌜ FlowBegins (now book) (now table) (now work) c from × JobsHeld (bookOf (now book)) (c .flow) (c .jobs) (now sizes) (now caps) × (now totals ≡ replicate 64 0) × (now ready ≡ replicate 64 65535) ⌝ }
     ensures { λ w. ⌜ RowsWalked (bookOf (now (book .entry))) (now (table .entry)) (c .flow) from (now (work .entry)) (now (work .exit)) (now (totals .exit)) w ⌝ }
 {
     let mut bad = Verdict::Pass;
@@ -59,19 +61,20 @@ pub fn walk_rows(
         if bytes::wide(r.flow) != c.flow {
             break 'rows;
         }
-        let t = row::test_row(book, work, c, least, r);
+        let t = row::test_row(book, sizes, caps, work, c, least, r);
         if t.number != 0 {
             bad = row::refused(t.number, r);
             break 'rows;
         }
         let i = bytes::wide(r.job);
-        let ask = row::to_ask(totals[i], i);
+        let mut bits = row::to_ask(book, c, totals[i], i);
         let mut k: usize = 0;
-        while k < ask {
-            if row::lacks(t.predecessors, k, r.slot, ready[k]) {
+        while bits != 0 {
+            if row::lacks(bits, r.slot, ready[k]) {
                 bad = row::refused(19, r);
                 break 'rows;
             }
+            bits = bits / 2;
             k = k + 1;
         }
         row::count_row(totals, ready, work, t, r);
@@ -87,14 +90,14 @@ pub fn walk_rows(
 }
 
 // A flow is closed: the first job whose total differs from its size, 64 where there is none.
-pub fn first_off(book: &[u8], totals: &[u64], c: Current) -> u8
-    requires { ⌜ CurrentFlow (now book) c × (length (now totals) ≡ 64) ⌝ }
+pub fn first_off(book: &[u8], sizes: &[u32], caps: &[u16], totals: &[u64], c: Current) -> u8
+    requires { ⌜ CurrentFlow (now book) c × JobsHeld (bookOf (now book)) (c .flow) (c .jobs) (now sizes) (now caps) × (length (now totals) ≡ 64) ⌝ }
     ensures { λ i. ⌜ offFault (c .flow) i ≡ firstFault (totalFaultBy (bookOf (now (book .entry))) (c .flow) (now (totals .entry))) (jobCount (flowOf (bookOf (now (book .entry))) (c .flow))) ⌝ }
 {
     let mut job: u8 = 0;
     while job < c.jobs {
         let i = bytes::wide(job);
-        if totals[i] != book::size_of(book, c.start, c.flow, i) as u64 {
+        if totals[i] != sizes[i] as u64 {
             return job;
         }
         job = job + 1;
@@ -107,15 +110,18 @@ pub fn walk_flow(book: &[u8], table: &[u8], work: &mut [u8], c: Current, from: u
     requires { ⌜ FlowBegins (now book) (now table) (now work) c from ⌝ }
     ensures { λ w. ⌜ FlowWalked (bookOf (now (book .entry))) (now (table .entry)) (c .flow) from (now (work .entry)) (now (work .exit)) w ⌝ }
 {
+    let mut sizes = [0u32; 64];
+    let mut caps = [0u16; 64];
+    row::load_jobs(book, c, &mut sizes, &mut caps);
     let mut totals = [0u64; 64];
     let mut ready = [65535u16; 64];
-    let w = walk_rows(book, table, &mut totals, &mut ready, work, c, from);
+    let w = walk_rows(book, table, &sizes, &caps, &mut totals, &mut ready, work, c, from);
     let verdict = w.verdict;
     FlowStop {
         verdict,
         next: w.next,
         finish: w.finish,
-        off: first_off(book, &totals, c),
+        off: first_off(book, &sizes, &caps, &totals, c),
     }
 }
 

@@ -1,7 +1,7 @@
 -- `chain::later` meets its contract: the rest by 2 is the bit that the specification reads. Assumes nothing.
 use native.Mathlib.Omega.{arith}
 use borrow.Author.Tests.{eq-eqb, ne-eqb}
-use Rattle.chain.proofs.Bits.{lowest-bit}
+use Rattle.rules.proofs.Bits.{lowest-bit}
 use Rattle.chain.proofs.later.Statement.{statement}
 use Rattle.chain.proofs.later.Tie as tie
 

@@ -7,7 +7,7 @@ use Prim.Native.Nat.{_≤_, _-_, _/_, _^_}
 use native.Mathlib.Nat.{div-one}
 use native.Mathlib.Omega.{arith}
 use Rattle.chain.specs.Jobs.{startAmong}
-use Rattle.chain.proofs.Bits.{bit-of-left, left-next, no-bit-left}
+use Rattle.rules.proofs.Bits.{bit-of-left, left-next, no-bit-left}
 use Rattle.chain.proofs.Starts.{start-none, start-next, start-rest}
 use Rattle.chain.proofs.start_of.Statement.{statement}
 use Rattle.chain.proofs.start_of.Tie as tie

@@ -1,51 +1,61 @@
 -- `table_check::row::test_row` meets its contract: where 15 or 16 is met it is the number; otherwise the row's slot and job are in range, and what
--- was read is that of the book and of the work area. Assumes nothing.
+-- was read is that of the flow and of the work area. Assumes nothing.
 use native.Mathlib.Omega.{arith}
 use borrow.Author.Needs.{needs}
+use Rattle.table_check.proofs.Finals.{few-jobs}
 use Rattle.table_check.proofs.TestNumbers.{tested-early, tested-inside, tested-late}
 use Rattle.table_check.proofs.row.test_row.Statement.{statement}
 use Rattle.table_check.proofs.row.test_row.Tie as tie
 
 place-of-requires : tie.Need-place-of-requires
-place-of-requires c κs = search needs
+place-of-requires c κs = tt
 
 early-fault-requires : tie.Need-early-fault-requires
-early-fault-requires c κs = search needs
+early-fault-requires c κs = tt
 
 returns : tie.Need-returns
-returns c =
-    let p = c .before .before .before .before .before .pre .0 in
-    tested-early _ _ _ _ _ _ _ (p .jobs) (c .before .before .place-of .ensures .0) (c .before .early-fault .ensures) _ (c .if1 .taken)
+returns c = tested-early _ _ _ _ _ _ _ (c .before .before .before .before .before .before .before .pre .0 .jobs) (c .before .before .place-of .ensures .0) (c .before .early-fault .ensures) _ (c .if1 .taken)
 
 wide-requires : tie.Need-wide-requires
-wide-requires c κs = search needs
-
-job-of-requires : tie.Need-job-of-requires
-job-of-requires c κs =
-    let p = c .before .before .before .before .before .before .pre .0 in
-    let inside = tested-inside _ _ _ _ _ _ _ (p .jobs) (c .before .before .before .place-of .ensures .0) (c .before .before .early-fault .ensures) (c .before .if1 .left) in
-    (p .stands, omega (arith, inside .1, c .wide .ensures .0))
+wide-requires c κs = tt
 
 wide16-requires : tie.Need-wide16-requires
-wide16-requires c κs = search needs
+wide16-requires c κs = tt
 
 mul-read16 : tie.Need-mul-read16
-mul-read16 c = search needs
+mul-read16 c = omega (arith, c .wide16 .ensures .1)
 
 read16-requires : tie.Need-read16-requires
 read16-requires c κs =
-    let p = c .before .before .before .before .before .before .before .before .pre in
-    let inside = tested-inside _ _ _ _ _ _ _ (p .0 .jobs) (c .before .before .before .before .before .place-of .ensures .0) (c .before .before .before .before .early-fault .ensures) (c .before .before .before .if1 .left) in
-    omega (arith, inside .0, c .wide16 .ensures .0, p .1)
+    let inside = tested-inside _ _ _ _ _ _ _ (c .before .before .before .before .before .before .before .before .before .pre .0 .jobs) (c .before .before .before .before .place-of .ensures .0) (c .before .before .before .early-fault .ensures) (c .before .before .if1 .left) in
+    omega (arith, inside .0, c .wide16 .ensures .0, c .before .before .before .before .before .before .before .before .before .pre .2)
+
+mul-late-fault : tie.Need-mul-late-fault
+mul-late-fault c = omega (arith, c .before .before .wide .ensures .1)
+
+shared-slice-read-late-fault : tie.Need-shared-slice-read-late-fault
+shared-slice-read-late-fault c =
+    let p = c .before .before .before .before .before .before .before .before .before .before .before .pre in
+    let inside = tested-inside _ _ _ _ _ _ _ (p .0 .jobs) (c .before .before .before .before .before .before .place-of .ensures .0) (c .before .before .before .before .before .early-fault .ensures) (c .before .before .before .before .if1 .left) in
+    omega (arith, inside .1, c .before .before .before .wide .ensures .0, few-jobs (p .0), p .0 .jobs, p .1 .caps-long)
 
 late-fault-requires : tie.Need-late-fault-requires
-late-fault-requires c κs = search needs
+late-fault-requires c κs = tt
+
+mul-t14 : tie.Need-mul-t14
+mul-t14 c = omega (arith, c .before .before .before .before .wide .ensures .1)
+
+shared-slice-read-t11 : tie.Need-shared-slice-read-t11
+shared-slice-read-t11 c =
+    let p = c .before .before .before .before .before .before .before .before .before .before .before .before .before .pre in
+    let inside = tested-inside _ _ _ _ _ _ _ (p .0 .jobs) (c .before .before .before .before .before .before .before .before .place-of .ensures .0) (c .before .before .before .before .before .before .before .early-fault .ensures) (c .before .before .before .before .before .before .if1 .left) in
+    omega (arith, inside .1, c .before .before .before .before .before .wide .ensures .0, few-jobs (p .0), p .0 .jobs, p .1 .sizes-long)
 
 returns-2 : tie.Need-returns-2
 returns-2 c =
-    let p = c .before .before .before .before .before .before .before .before .before .before .pre .0 in
-    tested-late _ _ _ _ _ _ _ (p .jobs) (c .before .before .before .before .before .before .before .place-of .ensures .0) (c .before .before .before .before .before .before .early-fault .ensures) (c .before .before .before .before .before .if1 .left)
-    _ _ _ _ _ _ _ (p .processors) (c .before .before .before .before .wide .ensures .0) (c .before .before .wide16 .ensures .0) (c .before .before .before .job-of .ensures) (c .before .read16 .ensures) (c .late-fault .ensures)
+    let p = c .before .before .before .before .before .before .before .before .before .before .before .before .before .pre in
+    tested-late _ _ _ _ _ _ _ (p .0 .jobs) (c .before .before .before .before .before .before .before .before .place-of .ensures .0) (c .before .before .before .before .before .before .before .early-fault .ensures) (c .before .before .before .before .before .before .if1 .left)
+    _ _ _ _ _ _ _ _ (p .1) (p .0 .processors) (c .before .before .before .before .before .wide .ensures .0) (c .before .before .before .before .wide16 .ensures .0) (c .before .before .before .read16 .ensures) (c .before .late-fault .ensures)
 
 pub test-row-spec : {M : Type 1} → statement M
 test-row-spec =
@@ -55,9 +65,12 @@ test-row-spec =
     early-fault-requires
     returns
     wide-requires
-    job-of-requires
     wide16-requires
     mul-read16
     read16-requires
+    mul-late-fault
+    shared-slice-read-late-fault
     late-fault-requires
+    mul-t14
+    shared-slice-read-t11
     returns-2)

@@ -1,11 +1,11 @@
 -- `table_check::walk::walk_rows` meets its contract. The invariant of the loop over rows: the rows so far pass, those since `from` are the flow's, and
 -- totals, completeness and work area are theirs (`Going`); of the loop over predecessors: none so far is lacking (`Asking`). The measures are the bytes
--- of the table that are left, and the predecessors. Assumes nothing.
+-- of the table that are left, and the bits that are left. Assumes nothing.
 use Prim.Native.Nat.{_-_}
 use lib.ListN.{length}
 use Rattle.rules.specs.Reading.{bookOf}
 use Rattle.table_check.specs.Tally.{rowsTo}
-use Rattle.table_check.proofs.Turns.{Going, Lent, Asking, going-first, lent-first, row-inside, test-stops, turn-of, job-few, slot-in, countable, lent-next, going-next, walk-stops, more-rows, walk-ends, walk-turns, asking-first, asks-few, asking-next, asking-stops, asking-ends}
+use Rattle.table_check.proofs.Turns.{Going, Lent, Asking, going-first, lent-first, row-inside, test-stops, turn-of, job-in, job-few, slot-in, countable, lent-next, going-next, walk-stops, more-rows, walk-ends, walk-turns, asking-first, asks-few, asking-next, asking-stops, asking-ends}
 use mathlib.Core.Path.{_∙_, sym}
 use borrow.Author.Needs.{needs}
 use native.Mathlib.Omega.{arith}
@@ -13,21 +13,21 @@ use Rattle.table_check.proofs.walk.walk_rows.Statement.{statement}
 use Rattle.table_check.proofs.walk.walk_rows.Tie as tie
 
 abbrev Inv-loop : tie.InvT-loop
-Inv-loop book table totals ready work c from bad₀ least finish at r t i ask k₀ bad k =
-    Asking book table c from totals ready work bad least finish at r t i ask k
+Inv-loop book table sizes caps totals ready work c from bad₀ least finish at r t i bits₀ k₀ bad bits k =
+    Asking book table sizes caps c from totals ready work bad least finish at r t i bits k
 
 abbrev μ-loop : tie.MeasureT-loop
-μ-loop book table totals ready work c from bad₀ least finish at r t i ask k₀ bad k = ask - k
+μ-loop book table sizes caps totals ready work c from bad₀ least finish at r t i bits₀ k₀ bad bits k = bits
 
 abbrev Inv-rows : tie.InvT-rows
-Inv-rows book table totals₀ ready₀ work₀ c from bad₀ least₀ finish₀ at₀ totals ready work bad least finish at =
-    Going book table c from totals ready work bad least finish at (rowsTo (bookOf book) at) × Lent totals₀ ready₀ work₀ totals ready work
+Inv-rows book table sizes caps totals₀ ready₀ work₀ c from bad₀ least₀ finish₀ at₀ totals ready work bad least finish at =
+    Going book table sizes caps c from totals ready work bad least finish at (rowsTo (bookOf book) at) × Lent totals₀ ready₀ work₀ totals ready work
 
 abbrev μ-rows : tie.MeasureT-rows
-μ-rows book table totals₀ ready₀ work₀ c from bad₀ least₀ finish₀ at₀ totals ready work bad least finish at = length table - at
+μ-rows book table sizes caps totals₀ ready₀ work₀ c from bad₀ least₀ finish₀ at₀ totals ready work bad least finish at = length table - at
 
 rows-holds : tie.Need-rows-holds Inv-loop μ-loop Inv-rows μ-rows
-rows-holds c = let p = c .before .before .before .before .before .pre in (going-first (p .0) (p .1) (p .2), lent-first _ _ _)
+rows-holds c = let p = c .before .before .before .before .before .before .before .pre in (going-first (p .0) (p .1) (p .2) (p .3), lent-first _ _ _)
 
 read-row-requires : tie.Need-read-row-requires Inv-loop μ-loop Inv-rows μ-rows
 read-row-requires c κs = row-inside (c .before .rows .inv .0) (c .rows-test .taken)
@@ -36,7 +36,7 @@ wide-requires : tie.Need-wide-requires Inv-loop μ-loop Inv-rows μ-rows
 wide-requires c κs = tt
 
 test-row-requires : tie.Need-test-row-requires Inv-loop μ-loop Inv-rows μ-rows
-test-row-requires c κs = let g = c .before .before .before .before .before .before .rows .inv .0 in (g .current, g .room)
+test-row-requires c κs = let g = c .before .before .before .before .before .before .rows .inv .0 in (g .current, g .held, g .room)
 
 refused-requires : tie.Need-refused-requires Inv-loop μ-loop Inv-rows μ-rows
 refused-requires c κs = tt
@@ -54,7 +54,10 @@ slice-read-to-ask c =
     omega (arith, g .tally .totals-long, job-few g turn, c .before .wide2 .ensures .0)
 
 to-ask-requires : tie.Need-to-ask-requires Inv-loop μ-loop Inv-rows μ-rows
-to-ask-requires c κs = tt
+to-ask-requires c κs =
+    let g = c .before .before .before .before .before .before .before .before .before .before .before .rows .inv .0 in
+    let turn = turn-of g (c .before .before .before .before .before .before .before .before .before .before .rows-test .taken) (c .before .before .before .before .before .before .before .before .before .read-row .result) (c .before .before .before .before .before .before .before .before .before .read-row .ensures) (sym (c .before .before .before .before .before .before .before .before .wide .ensures .0) ∙ c .before .before .before .before .before .before .if1 .left) (c .before .before .before .before .test-row .ensures) (c .before .before .if2 .left) in
+    (g .current, omega (arith, job-in g turn, c .before .wide2 .ensures .0))
 
 loop-holds : tie.Need-loop-holds Inv-loop μ-loop Inv-rows μ-rows
 loop-holds c =
@@ -63,25 +66,25 @@ loop-holds c =
     asking-first g turn (c .before .before .wide2 .ensures .0) (c .to-ask .ensures)
 
 mul-lacks : tie.Need-mul-lacks Inv-loop μ-loop Inv-rows μ-rows
-mul-lacks c = omega (arith, asks-few (c .before .loop .inv), c .loop-test .taken)
+mul-lacks c = omega (arith, asks-few (c .before .loop .inv) (c .loop-test .taken))
 
 slice-read-lacks : tie.Need-slice-read-lacks Inv-loop μ-loop Inv-rows μ-rows
-slice-read-lacks c = omega (arith, asks-few (c .before .before .loop .inv), c .before .loop-test .taken, c .before .before .loop .inv .going .tally .ready-long)
+slice-read-lacks c = omega (arith, asks-few (c .before .before .loop .inv) (c .before .loop-test .taken), c .before .before .loop .inv .going .tally .ready-long)
 
 lacks-requires : tie.Need-lacks-requires Inv-loop μ-loop Inv-rows μ-rows
-lacks-requires c κs = omega (arith, asks-few (c .before .before .loop .inv), c .before .loop-test .taken)
+lacks-requires c κs = tt
 
 refused-requires-2 : tie.Need-refused-requires-2 Inv-loop μ-loop Inv-rows μ-rows
 refused-requires-2 c κs = tt
 
 add-k : tie.Need-add-k Inv-loop μ-loop Inv-rows μ-rows
-add-k c = omega (arith, asks-few (c .before .before .before .before .loop .inv), c .before .before .before .loop-test .taken)
+add-k c = omega (arith, asks-few (c .before .before .before .before .loop .inv) (c .before .before .before .loop-test .taken))
 
 loop-less : tie.Need-loop-less Inv-loop μ-loop Inv-rows μ-rows
 loop-less c = omega (arith, c .before .before .before .loop-test .taken)
 
 loop-again : tie.Need-loop-again Inv-loop μ-loop Inv-rows μ-rows
-loop-again c = asking-next (c .before .before .before .before .loop .inv) (c .before .before .before .loop-test .taken) (c .before .lacks .ensures) (c .if3 .left)
+loop-again c = asking-next (c .before .before .before .before .loop .inv) (c .before .lacks .ensures) (c .if3 .left)
 
 count-row-requires : tie.Need-count-row-requires Inv-loop μ-loop Inv-rows μ-rows
 count-row-requires c κs = let a = c .before .before .before .before .loop .inv in countable (a .going) (a .turn)
@@ -163,7 +166,7 @@ same-length-12 c = c .before .before .before .before .before .before .before .be
 returns-4 : tie.Need-returns-4 Inv-loop μ-loop Inv-rows μ-rows
 returns-4 c =
     let a = c .before .before .before .before .before .loop .inv in
-    walk-stops (a .going) (c .before .before .before .before .before .before .before .before .before .before .before .before .before .before .before .before .before .before .rows .inv .1) (a .turn .more) (c .refused2 .ensures) (asking-stops a (c .before .before .before .before .loop-test .taken) (c .before .before .lacks .ensures) (c .before .if3 .taken))
+    walk-stops (a .going) (c .before .before .before .before .before .before .before .before .before .before .before .before .before .before .before .before .before .before .rows .inv .1) (a .turn .more) (c .refused2 .ensures) (asking-stops a (c .before .before .lacks .ensures) (c .before .before .before .before .loop-test .taken) (c .before .if3 .taken))
 
 pub walk-rows-spec : {M : Type 1} → statement M
 walk-rows-spec =

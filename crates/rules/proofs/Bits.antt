@@ -2,12 +2,14 @@
 -- Assumes nothing.
 use mathlib.Core.Path.{_≡_, ap, _∙_}
 use mathlib.Core.Bool.{Bool, false}
-use Prim.Native.Nat.{ℕ, _+_, _-_, _/_, _%_, _^_, _≤_}
-use native.Mathlib.Nat.{div-one, zero-div}
+use Prim.Native.Nat.{ℕ, _+_, _-_, _/_, _%_, _^_, _≤_, _<_}
+use mathlib.Core.Logic.{_⊎_, inl, inr}
+use native.Mathlib.Nat.{div-one, zero-div, div-eq-of-lt, pow-le-pow-right}
 use native.Mathlib.Omega.{arith}
 use lib.Dec.{eqb}
 use lib.Pow.{shr-shr}
 use Rattle.rules.specs.Book.{hasBit}
+use Rattle.rules.proofs.Division.{lt-or-ge}
 
 abbrev lowest : ℕ → Bool
 lowest b = eqb (b % 2) 1
@@ -31,3 +33,11 @@ module _ (p b k : ℕ) (left : b ≡ p / 2 ^ k) where
       let e : k + (i - k) ≡ i = omega arith in
       let zero-left : p / 2 ^ i ≡ 0 = rw (← e, ← shr-shr p k (i - k), ← left, none) (zero-div (2 ^ (i - k))) in
       ap lowest zero-left
+
+  -- where something is left of a number below 2 ^ n, there were fewer than n halvings
+  pub left-below : (n : ℕ) → p < 2 ^ n → (b ≡ 0 → ⊥) → k < n
+  left-below n h some = go (lt-or-ge k n)
+    where
+      go : (k < n) ⊎ (n ≤ k) → k < n
+      go (inl l) = l
+      go (inr l) = absurd (some (left ∙ div-eq-of-lt (omega (arith, pow-le-pow-right {n = 2} (omega arith) l))))
