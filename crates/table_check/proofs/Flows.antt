@@ -14,7 +14,6 @@ use Rattle.rules.specs.declared.Verdict.{Verdict}
 use Rattle.rules.specs.declared.Verdict.the-variants.{Pass, Refused}
 use Rattle.rules.specs.Walks.{if_then_else_}
 use Rattle.rules.specs.Limits.{slots, workBytes}
-use Rattle.rules.specs.Fields.{AllBytes}
 use Rattle.rules.specs.Answers.{firstFault}
 use Rattle.rules.specs.Book.{Book, flowCount, jobCount, flowOf, jobOf, InRange}
 use Rattle.rules.specs.Reading.{bookOf}
@@ -36,7 +35,7 @@ use Rattle.table_check.specs.declared.walk.Walked.{Walked}
 use Rattle.table_check.specs.Tests.{rowFrom, serviceKey, placeOf, places, rowKey, leastKey, earlyNumber, offFault}
 use Rattle.table_check.specs.Tally.{CurrentFlow, rowsTo, Reached}
 use Rattle.table_check.specs.Walk.{rowsFault, flowTotals, FlowBegins, WentOn, RowsWalked, totalFaultBy, FlowWalked, Ready, Closed, TableWalked}
-use Rattle.table_check.proofs.TableRows.{row-at, table-length, table-short, rows-to}
+use Rattle.table_check.proofs.TableRows.{row-at, table-length, rows-to}
 use Rattle.table_check.proofs.Keys.{KeyFits, service-apart, place-below}
 use Rattle.table_check.proofs.RowFaults.{EarlyPassed, flow-unknown, early-fault, early-passed}
 use Rattle.table_check.proofs.Finals.{none-walked, stopped, flow-totals, off-found}
@@ -62,7 +61,6 @@ pub record Between (book table : List ℕ) (x : Index) (flows : ℕ) (work₀ wo
   pub indexed : Indexed book x
   pub flows-are : flows ≡ flowCount (bookOf book)
   pub headed : tableHeadFault (bookOf book) table ≡ Pass
-  pub short : length table < 4294967296
   pub room : workBytes ≤ length work
   pub work-kept : length work ≡ length work₀
   pub cleared : workZero slots work ≡ workZero slots work₀
@@ -89,7 +87,7 @@ closed-none b range = record {
   finish-of = λ f h. getD-replicate {A = ℕ} 64 f 0 0 h;
 }
 
-module _ {book table entry work : List ℕ} {x : Index} (ready : Ready book table entry x) (bytes : AllBytes table) (from : work ≡ workZero slots entry) where
+module _ {book table entry work : List ℕ} {x : Index} (ready : Ready book table entry x) (from : work ≡ workZero slots entry) where
   again : workZero slots work ≡ work
   again = ap (workZero slots) from ∙ cleared-twice slots entry ∙ sym from
 
@@ -111,7 +109,6 @@ module _ {book table entry work : List ℕ} {x : Index} (ready : Ready book tabl
     indexed = ready .indexed;
     flows-are = ready .indexed .flows;
     headed = ready .headed;
-    short = table-short (bookOf book) table (ready .headed) bytes;
     room = omega (arith, ready .room, ap length from, cleared-length slots entry (ready .room));
     work-kept = refl;
     cleared = refl;
@@ -251,8 +248,7 @@ module _ {book table : List ℕ} {x : Index} {flows : ℕ} {work₀ work off fin
             processors = processors-are ∙ between .indexed .processors;
           };
           headed = between .headed;
-          short = between .short;
-          room = between .room;
+            room = between .room;
           reached = rw (← k-is) (between .reached);
           more = rw (← k-is) more-rows;
           own = rw (← k-is) (ap (λ (q : rules.Row). q .flow) row-read ∙ sym flow-is);
@@ -317,7 +313,6 @@ module _ {book table : List ℕ} {x : Index} {flows : ℕ} {work₀ work off fin
         indexed = between .indexed;
         flows-are = between .flows-are;
         headed = between .headed;
-        short = between .short;
         room = omega (arith, between .room);
         work-kept = kept ∙ between .work-kept;
         cleared = walked .cleared ∙ between .cleared;

@@ -1,16 +1,14 @@
 -- 14 as the code tests it: the length first, then all other parts of the head together. Assumes nothing.
 use mathlib.Core.Path.{_≡_, refl}
-use Prim.Native.Nat.{ℕ, _+_, _*_, _-_, _%_, _^_, _≤_, _<_, zero, suc}
+use Prim.Native.Nat.{ℕ, _+_, _*_, _-_, _%_, _≤_, _<_}
 use mathlib.Core.Bool.{Bool, not, _||_}
 use mathlib.Core.List.{List}
-use native.Mathlib.Nat.{pow-suc}
-use native.Mathlib.Omega.{arith}
 use lib.ListN.{length}
 use lib.Dec.{ltb, eqb}
 use borrow.Author.Tests.{lt-ltb, le-ltb, ltb-false, eqb-true, not-false}
 use Rattle.rules.specs.declared.Verdict.the-variants.{Pass, Refused}
 use Rattle.rules.specs.Walks.{if_then_else_}
-use Rattle.rules.specs.Fields.{byte, field, AllBytes}
+use Rattle.rules.specs.Fields.{byte, field}
 use Rattle.rules.specs.Book.{Book, flowCount}
 use Rattle.rules.specs.Table.{tableHead, rowLength}
 use Rattle.rules.proofs.Passing.{test-passed, neither-true}
@@ -34,14 +32,8 @@ module _ (processors flows : ℕ) (s : List ℕ) where
   head-whole stated count p t h e₁ e₂ e₃ q = rw (le-ltb (length s) (8 + 2 * flows) h, ← e₁, ← e₂, ← e₃, q) refl
 
 -- ---- a table that passes 14
-pub field-below : (s : List ℕ) → AllBytes s → (n at : ℕ) → field n s at < 256 ^ n
-unfolding field AllBytes
-field-below s bytes zero at = omega arith
-field-below s bytes (suc n) at = rw pow-suc (omega (arith, field-below s bytes n at, bytes (at + n)))
-
 pub record HeadPasses (b : Book) (s : List ℕ) : Type 0 where
   pub head-inside : tableHead b ≤ length s
-  pub length-stated : field 4 s 0 ≡ length s
   pub rows-whole : (length s - tableHead b) % rowLength ≡ 0
 
 pub head-passes : (b : Book) (s : List ℕ) → tableHeadFault b s ≡ Pass → HeadPasses b s
@@ -60,6 +52,5 @@ head-passes b s e =
     let one = neither-true short wrong (two .0) in
     record {
       head-inside = ltb-false (length s) (tableHead b) (one .0);
-      length-stated = eqb-true (field 4 s 0) (length s) (not-false _ (one .1));
       rows-whole = eqb-true ((length s - tableHead b) % rowLength) 0 (not-false _ (five .1));
     }

@@ -101,6 +101,11 @@ pub key-slots : (b : Book) (q r : Row) → KeyFits q → KeyFits r → q .flow �
 unfolding rowKey
 key-slots b q r h l e k = omega (arith, ap (λ (f : ℕ). flowOf b f .deadline) e, h .job-fits, l .job-fits)
 
+-- and of two rows of a job in a later one
+pub key-slots-less : (b : Book) (q r : Row) → q .flow ≡ r .flow → q .job ≡ r .job → rowKey b q < rowKey b r → q .slot < r .slot
+unfolding rowKey
+key-slots-less b q r e d k = omega (arith, ap (λ (f : ℕ). flowOf b f .deadline) e)
+
 -- row k comes after the one before it where its key is at least the least one
 pub rises-key : (b : Book) (rows : List Row) (k : ℕ) → ((j : ℕ) → j < k → KeyFits (getD rows j noRow)) → KeyFits (getD rows k noRow) →
     rises b rows k ≡ leb (leastKey b rows k) (rowKey b (getD rows k noRow))

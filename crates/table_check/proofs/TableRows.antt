@@ -5,13 +5,12 @@ use mathlib.Core.List.{List}
 use native.Mathlib.Omega.{arith}
 use lib.ListN.{length, getD}
 use Rattle.rules.specs.declared.Verdict.the-variants.{Pass}
-use Rattle.rules.specs.Fields.{AllBytes}
 use Rattle.rules.specs.Book.{Book}
 use Rattle.rules.specs.Table.{tableHead, rowLength, rowAt}
 use Rattle.rules.specs.Check.{noRow, tableRows, tableHeadFault}
 use Rattle.rules.proofs.Walks.{list-length, list-at}
 use Rattle.table_check.specs.Tally.{rowsTo}
-use Rattle.table_check.proofs.Heads.{head-passes, field-below}
+use Rattle.table_check.proofs.Heads.{head-passes}
 
 rows-length : (b : Book) (s : List ℕ) → length (tableRows b s) ≡ (length s - tableHead b) / rowLength
 unfolding tableRows
@@ -27,9 +26,6 @@ row-at b s k h =
 -- the rows fill the table behind its head
 pub table-length : (b : Book) (s : List ℕ) → tableHeadFault b s ≡ Pass → length s ≡ tableHead b + rowLength * length (tableRows b s)
 table-length b s e = let p = head-passes b s e in omega (arith, rows-length b s, p .head-inside, p .rows-whole)
-
-pub table-short : (b : Book) (s : List ℕ) → tableHeadFault b s ≡ Pass → AllBytes s → length s < 4294967296
-table-short b s e bytes = omega (arith, head-passes b s e .length-stated, field-below s bytes 4 0)
 
 pub rows-to : (b : Book) (at k : ℕ) → at ≡ tableHead b + rowLength * k → rowsTo b at ≡ k
 unfolding rowsTo

@@ -47,8 +47,8 @@ use Rattle.table_check.proofs.RowFaults.{EarlyPassed, LatePassed, in-bo
 pub record Going (book table sizes caps : List ℕ) (c : Current) (from : ℕ) (totals ready work : List ℕ) (bad : Verdict) (least finish at k : ℕ) : Type 0 where
   pub current : CurrentFlow book c
   pub held : JobsHeld (bookOf book) (c .flow) (c .jobs) sizes caps
+  pub table-fits : length table < 18446744073709551616
   pub headed : tableHeadFault (bookOf book) table ≡ Pass
-  pub short : length table < 4294967296
   pub room : workBytes ≤ length work
   pub no-fault : bad ≡ Pass
   pub first-more : rowsTo (bookOf book) from < length (tableRows (bookOf book) table)
@@ -88,10 +88,10 @@ pub record Turn (b : Book) (table : List ℕ) (f k : ℕ) (r : rules.Row) (t : T
 
 -- ---- the first turn
 pub going-first : {book table sizes caps totals ready work : List ℕ} {c : Current} {from : ℕ} → FlowBegins book table work c from →
-    JobsHeld (bookOf book) (c .flow) (c .jobs) sizes caps →
+    JobsHeld (bookOf book) (c .flow) (c .jobs) sizes caps → length table < 18446744073709551616 →
     totals ≡ replicate 64 0 → ready ≡ replicate 64 65535 →
     Going book table sizes caps c from totals ready work Pass 0 0 from (rowsTo (bookOf book) from)
-going-first {book} {table} {c = c} {from = from} begins held t-is r-is =
+going-first {book} {table} {c = c} {from = from} begins held fits t-is r-is =
     let range = pass-in-range book (begins .current .stands .passes) in
     let k = rowsTo (bookOf book) from in
     let known = so-far (bookOf book) range (tableRows (bookOf book) table) k (begins .reached .within) (begins .reached .passed) in
@@ -99,8 +99,8 @@ going-first {book} {table} {c = c} {from = from} begins held t-is r-is =
     record {
       current = begins .current;
       held = held;
+      table-fits = fits;
       headed = begins .headed;
-      short = begins .short;
       room = begins .room;
       no-fault = refl;
       first-more = begins .more;
@@ -305,10 +305,9 @@ module _ {book table sizes caps : List ℕ} {c : Current} {from : ℕ} {totals r
       total-fits = omega (
         arith,
         going .tally .total (r .job) job-few,
-        known .few (c .flow) (r .job),
-        going .reached .within,
-        table-length b table (going .headed),
-        going .short,
+        rw (turn .own) at (known .earlier (rowFrom r) (turn .early .fits) (turn .early .after-least)),
+        known .few (c .flow) (r .job) (r .slot),
+        slot-in,
         ltb-false (b .processors) (usedIn (take k rows) (r .slot) + r .processors) (turn .late .room-kept),
         range .processors-most,
       );
@@ -359,8 +358,8 @@ module _ {book table sizes caps : List ℕ} {c : Current} {from : ℕ} {totals r
       going-at v v-is = record {
         current = going .current;
         held = going .held;
+        table-fits = going .table-fits;
         headed = going .headed;
-        short = going .short;
         room = omega (arith, going .room, ap length (counted .used), length-sets work (2 * r .slot) (bytesOf 2 (t .used + r .processors)));
         no-fault = v-is;
         first-more = going .first-more;
@@ -444,6 +443,7 @@ pub record Asking (book table sizes caps : List ℕ) (c : Current) (from : ℕ) 
     (r : Row) (t : Tested) (i bits j : ℕ) : Type 0 where
   pub going : Going book table sizes caps c from totals ready work bad least finish at (rowsTo (bookOf book) at)
   pub turn : Turn (bookOf book) table (c .flow) (rowsTo (bookOf book) at) (rowFrom r) t
+  pub here : at < length table
   pub job-is : i ≡ r .job
   pub all : ℕ
   pub all-are : all ≡ asked (getD totals (r .job) 0) (jobOf (flowOf (bookOf book) (c .flow)) (r .job) .predecessors)
@@ -458,12 +458,13 @@ lowest-lacks p bits j slot ready e = ap (λ (u : Bool). u && ltb slot ready) (bi
 module _ {book table sizes caps : List ℕ} {c : Current} {from : ℕ} {totals ready work : List ℕ} {bad : Verdict} {least finish at : ℕ} {r : Row} {t : Tested}
     {i bits : ℕ} where
   pub asking-first : Going book table sizes caps c from totals ready work bad least finish at (rowsTo (bookOf book) at) →
-      Turn (bookOf book) table (c .flow) (rowsTo (bookOf book) at) (rowFrom r) t → i ≡ r .job →
+      Turn (bookOf book) table (c .flow) (rowsTo (bookOf book) at) (rowFrom r) t → at < length table → i ≡ r .job →
       bits ≡ asked (getD totals i 0) (jobOf (flowOf (bookOf book) (c .flow)) i .predecessors) →
       Asking book table sizes caps c from totals ready work bad least finish at r t i bits 0
-  asking-first going turn job-is bits-are = record {
+  asking-first going turn here job-is bits-are = record {
     going = going;
     turn = turn;
+    here = here;
     job-is = job-is;
     all = bits;
     all-are = rw job-is at bits-are;
@@ -486,6 +487,7 @@ module _ {book table sizes caps : List ℕ} {c : Current} {from : ℕ} {totals r
       asking-next none = record {
         going = asking .going;
         turn = asking .turn;
+        here = asking .here;
         job-is = asking .job-is;
         all = asking .all;
         all-are = asking .all-are;

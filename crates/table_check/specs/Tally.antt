@@ -49,7 +49,7 @@ pub record Countable (totals ready work : List ℕ) (t : Tested) (r : rules.Row)
   pub ready-long : length ready ≡ 64
   pub room : workBytes ≤ length work
   pub use-fits : t .used + r .processors < 65536
-  pub total-fits : getD totals (r .job) 0 + r .processors < 18446744073709551616
+  pub total-fits : getD totals (r .job) 0 + r .processors < 4294967296
 
 -- the row is counted
 pub record RowCounted (t : Tested) (r : rules.Row) (totals ready work totals′ ready′ work′ : List ℕ) : Type 0 where

@@ -38,7 +38,6 @@ flowTotals b soFar f = firstFault (totalFault b soFar f) (jobCount (flowOf b f))
 pub record FlowBegins (book table work : List ℕ) (c : Current) (at : ℕ) : Type 0 where
   pub current : CurrentFlow book c
   pub headed : tableHeadFault (bookOf book) table ≡ Pass
-  pub short : length table < 4294967296
   pub room : workBytes ≤ length work
   pub reached : Reached (bookOf book) table (rowsTo (bookOf book) at) at work
   pub more : rowsTo (bookOf book) at < length (tableRows (bookOf book) table)

@@ -144,7 +144,7 @@ pub fn test_row(
 }
 
 // The predecessors that are asked at a row of job i, a bit each: all at its first row, and none once it has a total, since they were asked then.
-pub fn to_ask(book: &[u8], c: Current, total: u64, i: usize) -> u64
+pub fn to_ask(book: &[u8], c: Current, total: u32, i: usize) -> u64
     requires { ⌜ CurrentFlow (now book) c × (i < jobCount (flowOf (bookOf (now book)) (c .flow))) ⌝ }
     ensures { λ p. ⌜ p ≡ asked total (jobOf (flowOf (bookOf (now (book .entry))) (c .flow)) i .predecessors) ⌝ }
 {
@@ -166,29 +166,28 @@ pub fn lacks(bits: u64, slot: u16, ready: u16) -> bool
 }
 
 // The slot from which job i is complete, once its total goes from `before` to `after` by a row in `slot`.
-pub fn complete(ready: &mut [u16], i: usize, before: u64, after: u64, size: u32, slot: u16)
+pub fn complete(ready: &mut [u16], i: usize, before: u32, after: u32, size: u32, slot: u16)
     requires { ⌜ (i < length (now ready)) × (slot < slots) ⌝ }
     ensures { λ _. ⌜ now (ready .exit) ≡ set (now (ready .entry)) i (readyAfter (getD (now (ready .entry)) i 0) before after size slot) ⌝ }
 {
-    let whole = size as u64;
-    if after < whole {
+    if after < size {
         return;
     }
-    if whole <= before {
+    if size <= before {
         return;
     }
     ready[i] = slot + 1;
 }
 
 // A row that passed is counted: in its slot's use, in its job's total, and where that completes the job.
-pub fn count_row(totals: &mut [u64], ready: &mut [u16], work: &mut [u8], t: Tested, r: Row)
+pub fn count_row(totals: &mut [u32], ready: &mut [u16], work: &mut [u8], t: Tested, r: Row)
     requires { ⌜ Countable (now totals) (now ready) (now work) t (rowFrom r) ⌝ }
     ensures { λ _. ⌜ RowCounted t (rowFrom r) (now (totals .entry)) (now (ready .entry)) (now (work .entry)) (now (totals .exit)) (now (ready .exit)) (now (work .exit)) ⌝ }
 {
     bytes::write16(work, 2 * bytes::wide16(r.slot), t.used + r.processors);
     let i = bytes::wide(r.job);
     let before = totals[i];
-    let after = before + r.processors as u64;
+    let after = before + r.processors as u32;
     totals[i] = after;
     complete(ready, i, before, after, t.size, r.slot);
 }

@@ -43,7 +43,7 @@ pub fn walk_rows(
     table: &[u8],
     sizes: &[u32],
     caps: &[u16],
-    totals: &mut [u64],
+    totals: &mut [u32],
     ready: &mut [u16],
     work: &mut [u8],
     c: Current,
@@ -90,14 +90,14 @@ pub fn walk_rows(
 }
 
 // A flow is closed: the first job whose total differs from its size, 64 where there is none.
-pub fn first_off(book: &[u8], sizes: &[u32], caps: &[u16], totals: &[u64], c: Current) -> u8
+pub fn first_off(book: &[u8], sizes: &[u32], caps: &[u16], totals: &[u32], c: Current) -> u8
     requires { ⌜ CurrentFlow (now book) c × JobsHeld (bookOf (now book)) (c .flow) (c .jobs) (now sizes) (now caps) × (length (now totals) ≡ 64) ⌝ }
     ensures { λ i. ⌜ offFault (c .flow) i ≡ firstFault (totalFaultBy (bookOf (now (book .entry))) (c .flow) (now (totals .entry))) (jobCount (flowOf (bookOf (now (book .entry))) (c .flow))) ⌝ }
 {
     let mut job: u8 = 0;
     while job < c.jobs {
         let i = bytes::wide(job);
-        if totals[i] != sizes[i] as u64 {
+        if totals[i] != sizes[i] {
             return job;
         }
         job = job + 1;
@@ -113,7 +113,7 @@ pub fn walk_flow(book: &[u8], table: &[u8], work: &mut [u8], c: Current, from: u
     let mut sizes = [0u32; 64];
     let mut caps = [0u16; 64];
     row::load_jobs(book, c, &mut sizes, &mut caps);
-    let mut totals = [0u64; 64];
+    let mut totals = [0u32; 64];
     let mut ready = [65535u16; 64];
     let w = walk_rows(book, table, &sizes, &caps, &mut totals, &mut ready, work, c, from);
     let verdict = w.verdict;

@@ -35,9 +35,6 @@ mul-if2-2 c = omega (arith, c .before .wide .ensures .1)
 shared-slice-read-if2-2 : tie.Need-shared-slice-read-if2-2 Inv-loop μ-loop
 shared-slice-read-if2-2 c = omega (arith, c .before .before .wide .ensures .0, c .before .before .before .before .before .loop .inv .1, c .before .before .before .if1 .taken, c .before .before .before .before .before .before .before .before .before .before .pre .1 .sizes-long)
 
-cast-if2 : tie.Need-cast-if2 Inv-loop μ-loop
-cast-if2 c = omega (arith, c .shared-slice-known6 .given (c .before .before .wide .result))
-
 returns : tie.Need-returns Inv-loop μ-loop
 returns c =
     let p = c .before .before .before .before .before .before .before .before .before .before .before .pre in
@@ -78,7 +75,6 @@ first-off-spec =
     shared-slice-read-if2
     mul-if2-2
     shared-slice-read-if2-2
-    cast-if2
     returns
     add-job
     loop-less

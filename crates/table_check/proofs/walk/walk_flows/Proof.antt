@@ -5,7 +5,6 @@ use Prim.Native.Nat.{_-_, _<_}
 use lib.ListN.{length}
 use borrow.Author.Needs.{needs}
 use native.Mathlib.Omega.{arith}
-use Rattle.rules.specs.Fields.{AllBytes}
 use Rattle.rules.specs.Book.{flowCount}
 use Rattle.rules.specs.Reading.{bookOf}
 use Rattle.table_check.specs.Tally.{rowsTo}
@@ -31,8 +30,7 @@ add-at : tie.Need-add-at Inv-loop μ-loop
 add-at c = omega (arith, index-flows (c .before .before .before .before .before .before .before .pre .indexed))
 
 loop-holds : tie.Need-loop-holds Inv-loop μ-loop
-unfolding AllBytes
-loop-holds c = between-first (c .before .before .before .before .before .before .before .pre) (λ i. omega (arith, c .before .before .before .before .before .shared-slice-known2 .given i)) (c .before .before .clear .ensures)
+loop-holds c = between-first (c .before .before .before .before .before .before .before .pre) (c .before .before .clear .ensures)
 
 read-row-requires : tie.Need-read-row-requires Inv-loop μ-loop
 read-row-requires c κs = row-inside (c .before .loop .inv) (c .loop-test .taken)

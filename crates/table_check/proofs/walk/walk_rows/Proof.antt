@@ -27,7 +27,7 @@ abbrev μ-rows : tie.MeasureT-rows
 μ-rows book table sizes caps totals₀ ready₀ work₀ c from bad₀ least₀ finish₀ at₀ totals ready work bad least finish at = length table - at
 
 rows-holds : tie.Need-rows-holds Inv-loop μ-loop Inv-rows μ-rows
-rows-holds c = let p = c .before .before .before .before .before .before .before .pre in (going-first (p .0) (p .1) (p .2) (p .3), lent-first _ _ _)
+rows-holds c = let p = c .before .before .before .before .before .before .before .pre in (going-first (p .0) (p .1) (omega (arith, c .before .before .before .before .before .before .before .good .1 .0)) (p .2) (p .3), lent-first _ _ _)
 
 read-row-requires : tie.Need-read-row-requires Inv-loop μ-loop Inv-rows μ-rows
 read-row-requires c κs = row-inside (c .before .rows .inv .0) (c .rows-test .taken)
@@ -63,7 +63,7 @@ loop-holds : tie.Need-loop-holds Inv-loop μ-loop Inv-rows μ-rows
 loop-holds c =
     let g = c .before .before .before .before .before .before .before .before .before .before .before .before .rows .inv .0 in
     let turn = turn-of g (c .before .before .before .before .before .before .before .before .before .before .before .rows-test .taken) (c .before .before .before .before .before .before .before .before .before .before .read-row .result) (c .before .before .before .before .before .before .before .before .before .before .read-row .ensures) (sym (c .before .before .before .before .before .before .before .before .before .wide .ensures .0) ∙ c .before .before .before .before .before .before .before .if1 .left) (c .before .before .before .before .before .test-row .ensures) (c .before .before .before .if2 .left) in
-    asking-first g turn (c .before .before .wide2 .ensures .0) (c .to-ask .ensures)
+    asking-first g turn (c .before .before .before .before .before .before .before .before .before .before .before .rows-test .taken) (c .before .before .wide2 .ensures .0) (c .to-ask .ensures)
 
 mul-lacks : tie.Need-mul-lacks Inv-loop μ-loop Inv-rows μ-rows
 mul-lacks c = omega (arith, asks-few (c .before .loop .inv) (c .loop-test .taken))
@@ -99,10 +99,10 @@ add-least : tie.Need-add-least Inv-loop μ-loop Inv-rows μ-rows
 add-least c = omega (arith, c .place-of .ensures .1)
 
 add-at : tie.Need-add-at Inv-loop μ-loop Inv-rows μ-rows
-add-at c = omega (arith, row-inside (c .before .before .before .before .before .before .before .before .before .before .before .before .before .loop .inv .going) (c .before .before .before .before .before .before .before .before .before .before .before .before .before .before .before .before .before .before .before .before .before .before .before .before .before .rows-test .taken))
+add-at c = let a = c .before .before .before .before .before .before .before .before .before .before .before .before .before .loop .inv in omega (arith, row-inside (a .going) (a .here), a .going .table-fits)
 
 rows-less : tie.Need-rows-less Inv-loop μ-loop Inv-rows μ-rows
-rows-less c = omega (arith, c .before .before .before .before .before .before .before .before .before .before .before .before .before .before .before .before .before .before .before .before .before .before .before .before .before .rows-test .taken)
+rows-less c = omega (arith, c .before .before .before .before .before .before .before .before .before .before .before .before .before .loop .inv .here)
 
 rows-again : tie.Need-rows-again Inv-loop μ-loop Inv-rows μ-rows
 rows-again c =
