@@ -40,6 +40,10 @@
  *   After acceptance each pair holds the processors in use in that slot. Bytes
  *   past FLOWPLAN_WORK_BYTES are never touched.
  *
+ * Stack
+ *   A call needs at most FLOWPLAN_CHECK_STACK or FLOWPLAN_PLAN_STACK bytes of
+ *   stack, whatever the input (measured on x86-64 Linux).
+ *
  * Buffers
  *   The buffers of one call must not overlap. No pointer may be null, also
  *   where its length is 0. A buffer may start at any address.
@@ -57,6 +61,10 @@ extern "C" {
 /* Bytes of the work area that are used, and the slots that they stand for. */
 #define FLOWPLAN_WORK_BYTES 16384
 #define FLOWPLAN_SLOTS 8192
+
+/* Bytes of stack that a call needs at most. */
+#define FLOWPLAN_CHECK_STACK 16384
+#define FLOWPLAN_PLAN_STACK 20480
 
 /* The longest book that passes its checks. */
 #define FLOWPLAN_LONGEST_BOOK 57544

@@ -15,7 +15,6 @@ use Rattle.rules.specs.Book.{Book, flowCount, jobCount, flowOf, jobOf, InRange}
 use Rattle.rules.specs.Rows.{Row, totalOf, lateFlows}
 use Rattle.rules.specs.Check.{totalFault, statedFinish, finishFault}
 use Rattle.rules.proofs.Faults.{not-pass, fault-stop, fault-next, fault-ext}
-use Rattle.rules.specs.Reading.{bookOf}
 use Rattle.rules.proofs.Passing.{pass-in-range}
 use Rattle.book.specs.declared.Index.{Index}
 use Rattle.book.specs.Promise.{Indexed}

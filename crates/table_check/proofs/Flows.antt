@@ -9,7 +9,7 @@ use native.Mathlib.Omega.{arith}
 use lib.ListN.{length, getD, take, set, replicate, length-set, length-replicate, getD-replicate}
 use lib.Seq.{take-all, getD-set-same, getD-set-other}
 use lib.Dec.{leb, eqb}
-use borrow.Author.Tests.{le-leb, lt-leb, leb-true, ltb-false, eqb-true, eqb-false, ne-eqb}
+use borrow.Author.Tests.{le-leb, lt-leb, leb-true, eqb-true, eqb-false, ne-eqb}
 use Rattle.rules.specs.declared.Verdict.{Verdict}
 use Rattle.rules.specs.declared.Verdict.the-variants.{Pass, Refused}
 use Rattle.rules.specs.Walks.{if_then_else_}
@@ -31,7 +31,6 @@ use Rattle.table_check.specs.declared.row.Row.{Row}
 use Rattle.table_check.specs.declared.row.Current.{Current}
 use Rattle.table_check.specs.declared.walk.Stop.{Stop}
 use Rattle.table_check.specs.declared.walk.FlowStop.{FlowStop}
-use Rattle.table_check.specs.declared.walk.Walked.{Walked}
 use Rattle.table_check.specs.Tests.{rowFrom, serviceKey, placeOf, places, rowKey, leastKey, earlyNumber, offFault}
 use Rattle.table_check.specs.Tally.{CurrentFlow, rowsTo, Reached}
 use Rattle.table_check.specs.Walk.{rowsFault, flowTotals, FlowBegins, WentOn, RowsWalked, totalFaultBy, FlowWalked, Ready, Closed, TableWalked}
@@ -248,7 +247,7 @@ module _ {book table : List ℕ} {x : Index} {flows : ℕ} {work₀ work off fin
             processors = processors-are ∙ between .indexed .processors;
           };
           headed = between .headed;
-            room = between .room;
+          room = between .room;
           reached = rw (← k-is) (between .reached);
           more = rw (← k-is) more-rows;
           own = rw (← k-is) (ap (λ (q : rules.Row). q .flow) row-read ∙ sym flow-is);
@@ -327,6 +326,3 @@ module _ {book table : List ℕ} {x : Index} {flows : ℕ} {work₀ work off fin
 
       pub goes-on : at < w .next
       goes-on = omega (arith, went .some, went .reached .at-is, between .reached .at-is)
-
-      pub stays-inside : w .next ≤ length table
-      stays-inside = omega (arith, went .reached .at-is, went .reached .within, table-length b table (between .headed))

@@ -11,11 +11,10 @@ use lib.Dec.{ltb, eqb}
 use borrow.Author.Tests.{lt-ltb, eq-eqb, ne-eqb, ltb-true, eqb-true, eqb-false, leb-true}
 use Rattle.rules.specs.declared.Verdict.the-variants.{Pass}
 use Rattle.rules.specs.Walks.{if_then_else_}
-use Rattle.rules.specs.Limits.{slots}
 use Rattle.rules.specs.Answers.{firstFault}
-use Rattle.rules.specs.Book.{Book, jobOf, flowOf, InRange}
+use Rattle.rules.specs.Book.{Book, InRange}
 use Rattle.rules.specs.Rows.{Row, sumWhere, usedIn, isOf, totalOf, doneBefore, finishOf}
-use Rattle.rules.specs.Check.{noRow, rises, rowFault}
+use Rattle.rules.specs.Check.{noRow, rowFault}
 use Rattle.rules.proofs.Faults.{both-pass, fault-pass}
 use Rattle.rules.proofs.RowsSoFar.{used-last, total-last, done-last, finish-last}
 use Rattle.rules.proofs.RowSums.{done-le-total}

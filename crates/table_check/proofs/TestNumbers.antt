@@ -7,10 +7,9 @@ use native.Mathlib.Omega.{arith}
 use lib.ListN.{getD}
 use lib.Dec.{leb, eqb}
 use borrow.Author.Tests.{eq-eqb, ne-eqb, eqb-true, eqb-false, leb-false}
-use Rattle.rules.specs.Walks.{if_then_else_}
 use Rattle.rules.specs.Limits.{slots}
 use Rattle.rules.specs.Fields.{field}
-use Rattle.rules.specs.Book.{Book, jobCount, flowOf, jobOf}
+use Rattle.rules.specs.Book.{Book, jobCount, flowOf}
 use Rattle.rules.specs.Rows.{Row}
 use Rattle.table_check.specs.Tests.{placeOf, earlyNumber, lateNumber, firstNumber, testNumber}
 use Rattle.table_check.specs.Tally.{JobsHeld, RowTested}

@@ -1,6 +1,6 @@
 -- One turn of the walk over a flow's rows: what holds as it begins, what is known of its row once 15 to 18 have passed, that a row that lacks no
 -- predecessor is counted by the next turn's beginning, and what each way out of the walk gives. Assumes nothing.
-use mathlib.Core.Path.{_≡_, refl, sym, ap, _∙_, subst}
+use mathlib.Core.Path.{_≡_, refl, sym, ap, _∙_}
 use Prim.Native.Nat.{ℕ, suc, _+_, _*_, _/_, _^_, _≤_, _<_}
 use mathlib.Core.Bool.{Bool, true, false, _&&_, false≢true}
 use mathlib.Core.Logic.{_⊎_, inl, inr}
@@ -13,15 +13,14 @@ use lib.Dec.{ltb, leb, eqb}
 use borrow.Author.Tests.{ltb-true, ltb-false, le-leb, lt-leb, eqb-true, eqb-false}
 use Rattle.rules.specs.declared.Verdict.{Verdict}
 use Rattle.rules.specs.declared.Verdict.the-variants.{Pass, Refused}
-use Rattle.rules.specs.Walks.{if_then_else_, anyTo, joinFrom}
+use Rattle.rules.specs.Walks.{anyTo, joinFrom}
 use Rattle.rules.specs.Limits.{slots, workBytes}
 use Rattle.rules.specs.Fields.{field, bytesOf}
-use Rattle.rules.specs.Answers.{firstFault}
 use Rattle.rules.specs.Book.{Book, flowCount, jobCount, flowOf, jobOf, hasBit, InRange}
 use Rattle.rules.specs.Reading.{bookOf}
 use Rattle.rules.specs.Rows as rules
 use Rattle.rules.specs.Rows.{usedIn, totalOf, finishOf, workUsed, workZero}
-use Rattle.rules.specs.Table.{tableHead, rowLength, rowAt}
+use Rattle.rules.specs.Table.{rowAt}
 use Rattle.rules.specs.Check.{noRow, tableRows, tableHeadFault, lacksPredecessor, rowFault}
 use Rattle.rules.proofs.Division.{lt-or-ge}
 use Rattle.rules.proofs.Faults.{fault-stop, fault-next, not-pass}
@@ -32,7 +31,7 @@ use Rattle.rules.proofs.WorkArea.{used-pair, used-row, used-rest, used-cleared}
 use Rattle.table_check.specs.declared.row.Row.{Row}
 use Rattle.table_check.specs.declared.row.Current.{Current}
 use Rattle.table_check.specs.declared.row.Tested.{Tested}
-use Rattle.table_check.specs.Tests.{rowFrom, serviceKey, placeOf, places, rowKey, leastKey, earlyNumber, lateNumber, testNumber, lacksAt, asked, readyAfter}
+use Rattle.table_check.specs.Tests.{rowFrom, serviceKey, placeOf, places, rowKey, leastKey, earlyNumber, lateNumber, testNumber, lacksAt, asked}
 use Rattle.table_check.specs.Tally.{CurrentFlow, JobsHeld, RowTested, Countable, RowCounted, rowsTo, Reached, FlowTally}
 use Rattle.table_check.specs.Walk.{rowsFault, FlowBegins, WentOn, RowsWalked}
 use Rattle.table_check.proofs.TestNumbers.{first-stands, first-passes, first-none}
@@ -440,11 +439,10 @@ module _ {book table sizes caps : List ℕ} {c : Current} {from : ℕ} {totals r
 -- ---- the predecessors of the row, asked one after the other
 -- what holds after j halvings of the bits that are asked
 pub record Asking (book table sizes caps : List ℕ) (c : Current) (from : ℕ) (totals ready work : List ℕ) (bad : Verdict) (least finish at : ℕ)
-    (r : Row) (t : Tested) (i bits j : ℕ) : Type 0 where
+    (r : Row) (t : Tested) (bits j : ℕ) : Type 0 where
   pub going : Going book table sizes caps c from totals ready work bad least finish at (rowsTo (bookOf book) at)
   pub turn : Turn (bookOf book) table (c .flow) (rowsTo (bookOf book) at) (rowFrom r) t
   pub here : at < length table
-  pub job-is : i ≡ r .job
   pub all : ℕ
   pub all-are : all ≡ asked (getD totals (r .job) 0) (jobOf (flowOf (bookOf book) (c .flow)) (r .job) .predecessors)
   pub left : bits ≡ all / 2 ^ j
@@ -456,23 +454,22 @@ unfolding lacksAt
 lowest-lacks p bits j slot ready e = ap (λ (u : Bool). u && ltb slot ready) (bit-of-left p bits j e)
 
 module _ {book table sizes caps : List ℕ} {c : Current} {from : ℕ} {totals ready work : List ℕ} {bad : Verdict} {least finish at : ℕ} {r : Row} {t : Tested}
-    {i bits : ℕ} where
+    {bits : ℕ} where
   pub asking-first : Going book table sizes caps c from totals ready work bad least finish at (rowsTo (bookOf book) at) →
-      Turn (bookOf book) table (c .flow) (rowsTo (bookOf book) at) (rowFrom r) t → at < length table → i ≡ r .job →
-      bits ≡ asked (getD totals i 0) (jobOf (flowOf (bookOf book) (c .flow)) i .predecessors) →
-      Asking book table sizes caps c from totals ready work bad least finish at r t i bits 0
-  asking-first going turn here job-is bits-are = record {
+      Turn (bookOf book) table (c .flow) (rowsTo (bookOf book) at) (rowFrom r) t → at < length table →
+      bits ≡ asked (getD totals (r .job) 0) (jobOf (flowOf (bookOf book) (c .flow)) (r .job) .predecessors) →
+      Asking book table sizes caps c from totals ready work bad least finish at r t bits 0
+  asking-first going turn here bits-are = record {
     going = going;
     turn = turn;
     here = here;
-    job-is = job-is;
     all = bits;
-    all-are = rw job-is at bits-are;
+    all-are = bits-are;
     left = sym (div-one bits);
     none-so-far = λ m h. absurd (omega arith);
   }
 
-  module _ {j : ℕ} (asking : Asking book table sizes caps c from totals ready work bad least finish at r t i bits j) where
+  module _ {j : ℕ} (asking : Asking book table sizes caps c from totals ready work bad least finish at r t bits j) where
     below-job : (bits ≡ 0 → ⊥) → j < r .job
     below-job some = left-below (asking .all) bits j (asking .left) (r .job) (bits-few (asking .going) (asking .turn) (asking .all) (asking .all-are)) some
 
@@ -483,12 +480,11 @@ module _ {book table sizes caps : List ℕ} {c : Current} {from : ℕ} {totals r
       here : lacking ≡ lacksAt (asking .all) j (r .slot) (getD ready j 0)
       here = is ∙ lowest-lacks (asking .all) bits j (r .slot) (getD ready j 0) (asking .left)
 
-      pub asking-next : lacking ≡ false → Asking book table sizes caps c from totals ready work bad least finish at r t i (bits / 2) (j + 1)
+      pub asking-next : lacking ≡ false → Asking book table sizes caps c from totals ready work bad least finish at r t (bits / 2) (j + 1)
       asking-next none = record {
         going = asking .going;
         turn = asking .turn;
         here = asking .here;
-        job-is = asking .job-is;
         all = asking .all;
         all-are = asking .all-are;
         left = left-next (asking .all) bits j (asking .left);

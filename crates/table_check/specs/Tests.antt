@@ -1,6 +1,5 @@
 -- What the code tests of a row, in the numbers that it holds: where the row stands in the order, the tests 15 to 18 by their number, and 19 by
 -- the slot from which a predecessor is complete. Assumes nothing.
-use mathlib.Core.Path.{_≡_}
 use Prim.Native.Nat.{ℕ, zero, suc, _+_, _*_, _-_, _%_}
 use mathlib.Core.Bool.{Bool, not, _&&_, _||_}
 use mathlib.Core.List.{List}

@@ -3,7 +3,7 @@
 use mathlib.Core.Path.{_≡_}
 use Prim.Native.Nat.{ℕ, _+_, _*_, _≤_, _<_}
 use mathlib.Core.List.{List}
-use lib.ListN.{length, getD, take, replicate}
+use lib.ListN.{length, getD, take}
 use lib.Dec.{eqb}
 use Rattle.rules.specs.Walks.{if_then_else_}
 use Rattle.rules.specs.declared.Verdict.{Verdict}

@@ -143,12 +143,13 @@ pub fn test_row(
     }
 }
 
-// The predecessors that are asked at a row of job i, a bit each: all at its first row, and none once it has a total, since they were asked then.
-pub fn to_ask(book: &[u8], c: Current, total: u32, i: usize) -> u64
-    requires { ⌜ CurrentFlow (now book) c × (i < jobCount (flowOf (bookOf (now book)) (c .flow))) ⌝ }
-    ensures { λ p. ⌜ p ≡ asked total (jobOf (flowOf (bookOf (now (book .entry))) (c .flow)) i .predecessors) ⌝ }
+// The predecessors that are asked at a row, a bit each: all at its job's first row, and none once the job has a total, since they were asked then.
+pub fn to_ask(book: &[u8], totals: &[u32], c: Current, r: Row) -> u64
+    requires { ⌜ CurrentFlow (now book) c × (r .job < jobCount (flowOf (bookOf (now book)) (c .flow))) × (length (now totals) ≡ 64) ⌝ }
+    ensures { λ p. ⌜ p ≡ asked (getD (now (totals .entry)) (r .job) 0) (jobOf (flowOf (bookOf (now (book .entry))) (c .flow)) (r .job) .predecessors) ⌝ }
 {
-    if 0 < total {
+    let i = bytes::wide(r.job);
+    if 0 < totals[i] {
         return 0;
     }
     let job = book::job_of(book, c.start, c.flow, i);

@@ -1,7 +1,7 @@
 // The walk over a table's rows. Rows of a flow stand together, in service order, so that what is kept of single jobs is the current flow's alone;
 // of a flow that the walk has left the first job whose total is off is kept, and its finish.
 ghost use mathlib.Core.Path.{_≡_};
-ghost use Prim.Native.Nat.{_+_, _*_, _<_, _≤_};
+ghost use Prim.Native.Nat.{_+_, _*_, _<_};
 ghost use lib.ListN.{length, replicate};
 ghost use Rattle.rules.specs.Answers.{firstFault};
 ghost use Rattle.rules.specs.Book.{jobCount, flowOf};
@@ -66,8 +66,7 @@ pub fn walk_rows(
             bad = row::refused(t.number, r);
             break 'rows;
         }
-        let i = bytes::wide(r.job);
-        let mut bits = row::to_ask(book, c, totals[i], i);
+        let mut bits = row::to_ask(book, totals, c, r);
         let mut k: usize = 0;
         while bits != 0 {
             if row::lacks(bits, r.slot, ready[k]) {
@@ -115,7 +114,17 @@ pub fn walk_flow(book: &[u8], table: &[u8], work: &mut [u8], c: Current, from: u
     row::load_jobs(book, c, &mut sizes, &mut caps);
     let mut totals = [0u32; 64];
     let mut ready = [65535u16; 64];
-    let w = walk_rows(book, table, &sizes, &caps, &mut totals, &mut ready, work, c, from);
+    let w = walk_rows(
+        book,
+        table,
+        &sizes,
+        &caps,
+        &mut totals,
+        &mut ready,
+        work,
+        c,
+        from,
+    );
     let verdict = w.verdict;
     FlowStop {
         verdict,

@@ -6,13 +6,6 @@ use Rattle.table_check.proofs.Judging.{call-unread, call-short, call-re
 use borrow.Author.Needs.{needs}
 use Rattle.table_check.proofs.check_table.Statement.{statement}
 use Rattle.table_check.proofs.check_table.Tie as tie
-use Rattle.table_check.proofs.check_table.Reads as reads
-use Rattle.table_check.proofs.check_table.Lts as lts
-use Rattle.book.proofs.bytes.clear.Reads as clear-reads
-use Rattle.book.proofs.index_of.Reads as index-of-reads
-use Rattle.book.proofs.verdict_of.Reads as verdict-of-reads
-use Rattle.table_check.proofs.judge_table.Reads as judge-table-reads
-use Rattle.table_check.proofs.refusal.Reads as refusal-reads
 
 verdict-of-requires : tie.Need-verdict-of-requires
 verdict-of-requires c κs = search needs

@@ -9,9 +9,6 @@ use borrow.Author.Needs.{needs}
 use native.Mathlib.Omega.{arith}
 use Rattle.table_check.proofs.finishes_verdict.Statement.{statement}
 use Rattle.table_check.proofs.finishes_verdict.Tie as tie
-use Rattle.table_check.proofs.finishes_verdict.Reads as reads
-use Rattle.table_check.proofs.finishes_verdict.Lts as lts
-use Rattle.book.proofs.bytes.read16.Reads as read16-reads
 
 abbrev Inv-loop : tie.InvT-loop
 Inv-loop table flows finish f₀ f = (f ≤ flows) × (firstFault (finishFaultBy table finish) f ≡ Pass)

@@ -1,5 +1,4 @@
 -- `table_check::row::lacks` meets its contract: the lowest bit is the rest by 2. Assumes nothing.
-use borrow.Author.Needs.{needs}
 use borrow.Author.Tests.{eq-eqb, ne-eqb}
 use Rattle.rules.proofs.Bits.{lowest-bit}
 use Rattle.table_check.specs.Tests.{lacksAt}

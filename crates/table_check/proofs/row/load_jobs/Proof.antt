@@ -1,12 +1,11 @@
 -- `table_check::row::load_jobs` meets its contract. The invariant: the jobs so far are held. The measure is the jobs left. Assumes nothing.
-use mathlib.Core.Path.{_≡_, refl, _∙_}
-use Prim.Native.Nat.{_-_, _≤_}
-use lib.ListN.{length, length-set}
+use mathlib.Core.Path.{_≡_}
+use Prim.Native.Nat.{_-_}
+use lib.ListN.{length}
 use Rattle.rules.specs.Reading.{bookOf}
 use Rattle.table_check.specs.Tally.{JobsHeld}
 use Rattle.table_check.proofs.Finals.{few-jobs}
 use Rattle.table_check.proofs.Jobs.{held-none, held-next, held-all}
-use borrow.Author.Needs.{needs}
 use native.Mathlib.Omega.{arith}
 use Rattle.table_check.proofs.row.load_jobs.Statement.{statement}
 use Rattle.table_check.proofs.row.load_jobs.Tie as tie

@@ -1,7 +1,6 @@
 -- `table_check::row::test_row` meets its contract: where 15 or 16 is met it is the number; otherwise the row's slot and job are in range, and what
 -- was read is that of the flow and of the work area. Assumes nothing.
 use native.Mathlib.Omega.{arith}
-use borrow.Author.Needs.{needs}
 use Rattle.table_check.proofs.Finals.{few-jobs}
 use Rattle.table_check.proofs.TestNumbers.{tested-early, tested-inside, tested-late}
 use Rattle.table_check.proofs.row.test_row.Statement.{statement}

@@ -1,7 +1,6 @@
 -- `table_check::walk::walk_flow` meets its contract: the walk begins with no totals, and the flow is closed by those that it ends with.
 -- Assumes nothing.
-use mathlib.Core.Path.{refl, _∙_}
-use lib.ListN.{length-replicate}
+use mathlib.Core.Path.{refl}
 use borrow.Author.Needs.{needs}
 use Rattle.table_check.proofs.Flows.{flow-closed}
 use Rattle.table_check.proofs.walk.walk_flow.Statement.{statement}

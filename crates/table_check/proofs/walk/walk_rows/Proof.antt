@@ -5,19 +5,18 @@ use Prim.Native.Nat.{_-_}
 use lib.ListN.{length}
 use Rattle.rules.specs.Reading.{bookOf}
 use Rattle.table_check.specs.Tally.{rowsTo}
-use Rattle.table_check.proofs.Turns.{Going, Lent, Asking, going-first, lent-first, row-inside, test-stops, turn-of, job-in, job-few, slot-in, countable, lent-next, going-next, walk-stops, more-rows, walk-ends, walk-turns, asking-first, asks-few, asking-next, asking-stops, asking-ends}
+use Rattle.table_check.proofs.Turns.{Going, Lent, Asking, going-first, lent-first, row-inside, test-stops, turn-of, job-in, slot-in, countable, lent-next, going-next, walk-stops, more-rows, walk-ends, walk-turns, asking-first, asks-few, asking-next, asking-stops, asking-ends}
 use mathlib.Core.Path.{_∙_, sym}
-use borrow.Author.Needs.{needs}
 use native.Mathlib.Omega.{arith}
 use Rattle.table_check.proofs.walk.walk_rows.Statement.{statement}
 use Rattle.table_check.proofs.walk.walk_rows.Tie as tie
 
 abbrev Inv-loop : tie.InvT-loop
-Inv-loop book table sizes caps totals ready work c from bad₀ least finish at r t i bits₀ k₀ bad bits k =
-    Asking book table sizes caps c from totals ready work bad least finish at r t i bits k
+Inv-loop book table sizes caps totals ready work c from bad₀ least finish at r t bits₀ k₀ bad bits k =
+    Asking book table sizes caps c from totals ready work bad least finish at r t bits k
 
 abbrev μ-loop : tie.MeasureT-loop
-μ-loop book table sizes caps totals ready work c from bad₀ least finish at r t i bits₀ k₀ bad bits k = bits
+μ-loop book table sizes caps totals ready work c from bad₀ least finish at r t bits₀ k₀ bad bits k = bits
 
 abbrev Inv-rows : tie.InvT-rows
 Inv-rows book table sizes caps totals₀ ready₀ work₀ c from bad₀ least₀ finish₀ at₀ totals ready work bad least finish at =
@@ -41,29 +40,17 @@ test-row-requires c κs = let g = c .before .before .before .before .before .bef
 refused-requires : tie.Need-refused-requires Inv-loop μ-loop Inv-rows μ-rows
 refused-requires c κs = tt
 
-wide-requires-2 : tie.Need-wide-requires-2 Inv-loop μ-loop Inv-rows μ-rows
-wide-requires-2 c κs = tt
-
-mul-to-ask : tie.Need-mul-to-ask Inv-loop μ-loop Inv-rows μ-rows
-mul-to-ask c = omega (arith, c .wide2 .ensures .1)
-
-slice-read-to-ask : tie.Need-slice-read-to-ask Inv-loop μ-loop Inv-rows μ-rows
-slice-read-to-ask c =
-    let g = c .before .before .before .before .before .before .before .before .before .before .before .rows .inv .0 in
-    let turn = turn-of g (c .before .before .before .before .before .before .before .before .before .before .rows-test .taken) (c .before .before .before .before .before .before .before .before .before .read-row .result) (c .before .before .before .before .before .before .before .before .before .read-row .ensures) (sym (c .before .before .before .before .before .before .before .before .wide .ensures .0) ∙ c .before .before .before .before .before .before .if1 .left) (c .before .before .before .before .test-row .ensures) (c .before .before .if2 .left) in
-    omega (arith, g .tally .totals-long, job-few g turn, c .before .wide2 .ensures .0)
-
 to-ask-requires : tie.Need-to-ask-requires Inv-loop μ-loop Inv-rows μ-rows
 to-ask-requires c κs =
-    let g = c .before .before .before .before .before .before .before .before .before .before .before .rows .inv .0 in
-    let turn = turn-of g (c .before .before .before .before .before .before .before .before .before .before .rows-test .taken) (c .before .before .before .before .before .before .before .before .before .read-row .result) (c .before .before .before .before .before .before .before .before .before .read-row .ensures) (sym (c .before .before .before .before .before .before .before .before .wide .ensures .0) ∙ c .before .before .before .before .before .before .if1 .left) (c .before .before .before .before .test-row .ensures) (c .before .before .if2 .left) in
-    (g .current, omega (arith, job-in g turn, c .before .wide2 .ensures .0))
+    let g = c .before .before .before .before .before .before .before .before .before .before .rows .inv .0 in
+    let turn = turn-of g (c .before .before .before .before .before .before .before .before .before .rows-test .taken) (c .before .before .before .before .before .before .before .before .read-row .result) (c .before .before .before .before .before .before .before .before .read-row .ensures) (sym (c .before .before .before .before .before .before .before .wide .ensures .0) ∙ c .before .before .before .before .before .if1 .left) (c .before .before .before .test-row .ensures) (c .before .if2 .left) in
+    (g .current, job-in g turn, g .tally .totals-long)
 
 loop-holds : tie.Need-loop-holds Inv-loop μ-loop Inv-rows μ-rows
 loop-holds c =
-    let g = c .before .before .before .before .before .before .before .before .before .before .before .before .rows .inv .0 in
-    let turn = turn-of g (c .before .before .before .before .before .before .before .before .before .before .before .rows-test .taken) (c .before .before .before .before .before .before .before .before .before .before .read-row .result) (c .before .before .before .before .before .before .before .before .before .before .read-row .ensures) (sym (c .before .before .before .before .before .before .before .before .before .wide .ensures .0) ∙ c .before .before .before .before .before .before .before .if1 .left) (c .before .before .before .before .before .test-row .ensures) (c .before .before .before .if2 .left) in
-    asking-first g turn (c .before .before .before .before .before .before .before .before .before .before .before .rows-test .taken) (c .before .before .wide2 .ensures .0) (c .to-ask .ensures)
+    let g = c .before .before .before .before .before .before .before .before .before .before .before .rows .inv .0 in
+    let turn = turn-of g (c .before .before .before .before .before .before .before .before .before .before .rows-test .taken) (c .before .before .before .before .before .before .before .before .before .read-row .result) (c .before .before .before .before .before .before .before .before .before .read-row .ensures) (sym (c .before .before .before .before .before .before .before .before .wide .ensures .0) ∙ c .before .before .before .before .before .before .if1 .left) (c .before .before .before .before .test-row .ensures) (c .before .before .if2 .left) in
+    asking-first g turn (c .before .before .before .before .before .before .before .before .before .before .rows-test .taken) (c .to-ask .ensures)
 
 mul-lacks : tie.Need-mul-lacks Inv-loop μ-loop Inv-rows μ-rows
 mul-lacks c = omega (arith, asks-few (c .before .loop .inv) (c .loop-test .taken))
@@ -110,7 +97,7 @@ rows-again c =
     let none = asking-ends a (c .before .before .before .before .before .before .before .before .before .before .before .before .loop-test .left) in
     let counted = c .before .before .before .before .before .before .before .before .count-row .ensures in (
       going-next (a .going) (a .turn) none counted (a .going .no-fault) (c .place-of .ensures .0),
-      lent-next (a .going) (a .turn) none counted (c .before .before .before .before .before .before .before .before .before .before .before .before .before .before .before .before .before .before .before .before .before .before .before .before .before .before .rows .inv .1),
+      lent-next (a .going) (a .turn) none counted (c .before .before .before .before .before .before .before .before .before .before .before .before .before .before .before .before .before .before .before .before .before .before .before .before .before .rows .inv .1),
     )
 
 same-length : tie.Need-same-length Inv-loop μ-loop Inv-rows μ-rows
@@ -155,18 +142,18 @@ returns-3 c =
     (test-stops g here (r .result) (r .ensures) (sym (c .before .before .before .before .before .before .before .wide .ensures .0) ∙ c .before .before .before .before .before .if1 .left) (c .before .before .before .test-row .ensures) (c .before .if2 .taken))
 
 same-length-10 : tie.Need-same-length-10 Inv-loop μ-loop Inv-rows μ-rows
-same-length-10 c = c .before .before .before .before .before .before .before .before .before .before .before .before .before .before .before .before .before .before .rows .inv .1 .totals-kept
+same-length-10 c = c .before .before .before .before .before .before .before .before .before .before .before .before .before .before .before .before .before .rows .inv .1 .totals-kept
 
 same-length-11 : tie.Need-same-length-11 Inv-loop μ-loop Inv-rows μ-rows
-same-length-11 c = c .before .before .before .before .before .before .before .before .before .before .before .before .before .before .before .before .before .before .rows .inv .1 .ready-kept
+same-length-11 c = c .before .before .before .before .before .before .before .before .before .before .before .before .before .before .before .before .before .rows .inv .1 .ready-kept
 
 same-length-12 : tie.Need-same-length-12 Inv-loop μ-loop Inv-rows μ-rows
-same-length-12 c = c .before .before .before .before .before .before .before .before .before .before .before .before .before .before .before .before .before .before .rows .inv .1 .work-kept
+same-length-12 c = c .before .before .before .before .before .before .before .before .before .before .before .before .before .before .before .before .before .rows .inv .1 .work-kept
 
 returns-4 : tie.Need-returns-4 Inv-loop μ-loop Inv-rows μ-rows
 returns-4 c =
     let a = c .before .before .before .before .before .loop .inv in
-    walk-stops (a .going) (c .before .before .before .before .before .before .before .before .before .before .before .before .before .before .before .before .before .before .rows .inv .1) (a .turn .more) (c .refused2 .ensures) (asking-stops a (c .before .before .lacks .ensures) (c .before .before .before .before .loop-test .taken) (c .before .if3 .taken))
+    walk-stops (a .going) (c .before .before .before .before .before .before .before .before .before .before .before .before .before .before .before .before .before .rows .inv .1) (a .turn .more) (c .refused2 .ensures) (asking-stops a (c .before .before .lacks .ensures) (c .before .before .before .before .loop-test .taken) (c .before .if3 .taken))
 
 pub walk-rows-spec : {M : Type 1} → statement M
 walk-rows-spec =
@@ -181,9 +168,6 @@ walk-rows-spec =
     wide-requires
     test-row-requires
     refused-requires
-    wide-requires-2
-    mul-to-ask
-    slice-read-to-ask
     to-ask-requires
     loop-holds
     mul-lacks
