@@ -9,6 +9,9 @@ pub mod Tallies
 pub mod RowFaults
 pub mod Started
 pub mod Turns
+pub mod Counting
+pub mod Leaving
+pub mod Asking
 pub mod Finals
 pub mod Flows
 pub mod Judging

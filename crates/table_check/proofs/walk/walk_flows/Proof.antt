@@ -46,7 +46,9 @@ same-length c = c .before .before .before .before .before .loop .inv .work-kept 
 
 returns : tie.Need-returns Inv-loop μ-loop
 returns c =
-    unknown-stops (c .before .before .before .before .before .loop .inv) (c .before .before .before .before .loop-test .taken) (c .before .before .before .read-row .result) (c .before .before .before .read-row .ensures) (c .before .before .wide .ensures .0) _ (c .before .before .before .before .before .before .before .before .clear .ensures) (c .refused .ensures) (c .before .if1 .taken)
+    let read = c .before .before .before in
+    unknown-stops (read .before .before .loop .inv) (read .before .loop-test .taken) (read .read-row .result) (read .read-row .ensures) (c .before .before .wide .ensures .0)
+    _ (c .before .before .before .before .before .before .before .before .clear .ensures) (c .refused .ensures) (c .before .if1 .taken)
 
 element-copy-out-jobs : tie.Need-element-copy-out-jobs Inv-loop μ-loop
 element-copy-out-jobs c = omega (arith, flows-few (c .before .before .before .before .loop .inv), c .if1 .left)
@@ -71,8 +73,9 @@ same-length-2 c = c .before .before .before .before .before .before .before .bef
 
 returns-2 : tie.Need-returns-2 Inv-loop μ-loop
 returns-2 c =
-    early-stops (c .before .before .before .before .before .before .before .before .before .before .loop .inv) (c .before .before .before .before .before .before .before .before .before .loop-test .taken) (c .before .before .before .before .before .before .before .before .read-row .result) (c .before .before .before .before .before .before .before .before .read-row .ensures) (c .before .before .before .before .before .before .before .wide .ensures .0) (c .before .before .before .before .before .before .if1 .left) refl (c .before .before .before .service-key .ensures .0) (c .before .before .early-fault .ensures)
-    _ (c .before .before .before .before .before .before .before .before .before .before .before .before .before .clear .ensures) (c .refused2 .ensures) (c .before .if2 .taken)
+    let read = c .before .before .before .before .before .before .before .before in
+    early-stops (read .before .before .loop .inv) (read .before .loop-test .taken) (read .read-row .result) (read .read-row .ensures) (c .before .before .before .before .before .before .before .wide .ensures .0) (c .before .before .before .before .before .before .if1 .left)
+    refl (c .before .before .before .service-key .ensures .0) (c .before .before .early-fault .ensures) _ (c .before .before .before .before .before .before .before .before .before .before .before .before .before .clear .ensures) (c .refused2 .ensures) (c .before .if2 .taken)
 
 mul-t23 : tie.Need-mul-t23 Inv-loop μ-loop
 mul-t23 c = omega (arith, c .before .before .before .before .before .before .wide .ensures .1)
@@ -82,8 +85,9 @@ element-copy-out-t39 c = omega (arith, flows-few (c .before .before .before .bef
 
 walk-flow-requires : tie.Need-walk-flow-requires Inv-loop μ-loop
 walk-flow-requires c κs =
-    flow-begins (c .before .before .before .before .before .before .before .before .before .before .before .loop .inv) (c .before .before .before .before .before .before .before .before .before .before .loop-test .taken) (c .before .before .before .before .before .before .before .before .before .read-row .result) (c .before .before .before .before .before .before .before .before .before .read-row .ensures) (c .before .before .before .before .before .before .before .before .wide .ensures .0) (c .before .before .before .before .before .before .before .if1 .left) refl (c .before .before .before .before .service-key .ensures .0) (c .before .before .before .early-fault .ensures)
-    (c .before .before .if2 .left) refl refl refl
+    let read = c .before .before .before .before .before .before .before .before .before in
+    flow-begins (read .before .before .loop .inv) (read .before .loop-test .taken) (read .read-row .result) (read .read-row .ensures) (c .before .before .before .before .before .before .before .before .wide .ensures .0) (c .before .before .before .before .before .before .before .if1 .left)
+    refl (c .before .before .before .before .service-key .ensures .0) (c .before .before .before .early-fault .ensures) (c .before .before .if2 .left) refl refl refl
 
 enum-told : tie.Need-enum-told Inv-loop μ-loop
 enum-told c = search needs
@@ -111,15 +115,19 @@ add-least c = omega (arith, c .before .before .before .before .before .before .b
 
 loop-less : tie.Need-loop-less Inv-loop μ-loop
 loop-less c =
-    let l = c .before .before .before .before .before .before .before .before .before .before .before .before .before .before .before .before .loop .inv in
-    omega (arith, c .before .before .before .before .before .before .before .before .before .before .before .before .before .before .before .loop-test .taken, goes-on l (c .before .before .before .before .walk-flow .ensures) (c .enum-told .given .1) refl (omega (arith, c .before .before .before .before .before .before .before .before .before .before .before .before .if1 .left, l .flows-are)))
+    let turn = c .before .before .before .before .before .before .before .before .before .before .before .before .before .before .before in
+    let l = turn .before .loop .inv in
+    omega (arith, turn .loop-test .taken, goes-on l (c .before .before .before .before .walk-flow .ensures) (c .enum-told .given .1) refl (omega (arith, c .before .before .before .before .before .before .before .before .before .before .before .before .if1 .left, l .flows-are)))
 
 loop-again : tie.Need-loop-again Inv-loop μ-loop
 loop-again c =
-    let l = c .before .before .before .before .before .before .before .before .before .before .before .before .before .before .before .before .loop .inv in
-    let inside : c .before .before .before .before .before .before .before .before .before .before .before .before .before .wide .result < flowCount (bookOf (c .before .before .before .before .before .before .before .before .before .before .before .before .before .before .before .before .before .before .before .before .before .before .before .before .args .book .now)) = omega (arith, c .before .before .before .before .before .before .before .before .before .before .before .before .if1 .left, l .flows-are) in
-    between-next l (c .before .before .before .before .walk-flow .ensures) (c .enum-told .given .1) refl inside
-    (omega (arith, c .before .before .before .before .before .before .before .before .before .service-key .ensures .0, l .indexed .deadlines (c .before .before .before .before .before .before .before .before .before .before .before .before .before .wide .result) inside, c .before .before .before .before .before .before .before .before .before .before .before .before .before .wide .ensures .0)) (c .before .before .before .before .walk-flow .kept .1 .1 .0)
+    let flow = c .before .before .before .before .before .before .before .before .before .before .before .before in
+    let f = flow .before .wide in
+    let l = flow .before .before .before .before .loop .inv in
+    let walked = c .before .before .before .before .walk-flow in
+    let inside : f .result < flowCount (bookOf (c .before .before .before .before .before .before .before .before .before .before .before .before .before .before .before .before .before .before .before .before .before .before .before .before .args .book .now)) = omega (arith, flow .if1 .left, l .flows-are) in
+    between-next l (walked .ensures) (c .enum-told .given .1) refl inside
+    (omega (arith, c .before .before .before .before .before .before .before .before .before .service-key .ensures .0, l .indexed .deadlines (f .result) inside, f .ensures .0)) (walked .kept .1 .1 .0)
 
 same-length-4 : tie.Need-same-length-4 Inv-loop μ-loop
 same-length-4 c = c .before .loop .inv .work-kept ∙ c .before .before .before .before .clear .kept .0

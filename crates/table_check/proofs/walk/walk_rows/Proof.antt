@@ -5,7 +5,10 @@ use Prim.Native.Nat.{_-_}
 use lib.ListN.{length}
 use Rattle.rules.specs.Reading.{bookOf}
 use Rattle.table_check.specs.Tally.{rowsTo}
-use Rattle.table_check.proofs.Turns.{Going, Lent, Asking, going-first, lent-first, row-inside, test-stops, turn-of, job-in, slot-in, countable, lent-next, going-next, walk-stops, more-rows, walk-ends, walk-turns, asking-first, asks-few, asking-next, asking-stops, asking-ends}
+use Rattle.table_check.proofs.Turns.{Going, Lent, going-first, lent-first, row-inside, more-rows, test-stops, turn-of}
+use Rattle.table_check.proofs.Counting.{job-in, slot-in, countable, lent-next, going-next}
+use Rattle.table_check.proofs.Asking.{Asking, asking-first, asks-few, asking-next, asking-stops, asking-ends}
+use Rattle.table_check.proofs.Leaving.{walk-stops, walk-ends, walk-turns}
 use mathlib.Core.Path.{_∙_, sym}
 use native.Mathlib.Omega.{arith}
 use Rattle.table_check.proofs.walk.walk_rows.Statement.{statement}
@@ -26,7 +29,10 @@ abbrev μ-rows : tie.MeasureT-rows
 μ-rows book table sizes caps totals₀ ready₀ work₀ c from bad₀ least₀ finish₀ at₀ totals ready work bad least finish at = length table - at
 
 rows-holds : tie.Need-rows-holds Inv-loop μ-loop Inv-rows μ-rows
-rows-holds c = let p = c .before .before .before .before .before .before .before .pre in (going-first (p .0) (p .1) (omega (arith, c .before .before .before .before .before .before .before .good .1 .0)) (p .2) (p .3), lent-first _ _ _)
+rows-holds c =
+    let s = c .before .before .before .before .before .before .before in
+    let p = s .pre in
+    (going-first (p .0) (p .1) (omega (arith, s .good .1 .0)) (p .2) (p .3), lent-first _ _ _)
 
 read-row-requires : tie.Need-read-row-requires Inv-loop μ-loop Inv-rows μ-rows
 read-row-requires c κs = row-inside (c .before .rows .inv .0) (c .rows-test .taken)
@@ -42,15 +48,23 @@ refused-requires c κs = tt
 
 to-ask-requires : tie.Need-to-ask-requires Inv-loop μ-loop Inv-rows μ-rows
 to-ask-requires c κs =
-    let g = c .before .before .before .before .before .before .before .before .before .before .rows .inv .0 in
-    let turn = turn-of g (c .before .before .before .before .before .before .before .before .before .rows-test .taken) (c .before .before .before .before .before .before .before .before .read-row .result) (c .before .before .before .before .before .before .before .before .read-row .ensures) (sym (c .before .before .before .before .before .before .before .wide .ensures .0) ∙ c .before .before .before .before .before .if1 .left) (c .before .before .before .test-row .ensures) (c .before .if2 .left) in
+    let tested = c .before .before .before in
+    let own = tested .before .before in
+    let read = own .before .before .before in
+    let g = read .before .before .rows .inv .0 in
+    let turn = turn-of g (read .before .rows-test .taken) (read .read-row .result) (read .read-row .ensures) (sym (own .before .before .wide .ensures .0) ∙ own .if1 .left)
+    (tested .test-row .ensures) (c .before .if2 .left) in
     (g .current, job-in g turn, g .tally .totals-long)
 
 loop-holds : tie.Need-loop-holds Inv-loop μ-loop Inv-rows μ-rows
 loop-holds c =
-    let g = c .before .before .before .before .before .before .before .before .before .before .before .rows .inv .0 in
-    let turn = turn-of g (c .before .before .before .before .before .before .before .before .before .before .rows-test .taken) (c .before .before .before .before .before .before .before .before .before .read-row .result) (c .before .before .before .before .before .before .before .before .before .read-row .ensures) (sym (c .before .before .before .before .before .before .before .before .wide .ensures .0) ∙ c .before .before .before .before .before .before .if1 .left) (c .before .before .before .before .test-row .ensures) (c .before .before .if2 .left) in
-    asking-first g turn (c .before .before .before .before .before .before .before .before .before .before .rows-test .taken) (c .to-ask .ensures)
+    let tested = c .before .before .before .before in
+    let own = tested .before .before in
+    let read = own .before .before .before in
+    let g = read .before .before .rows .inv .0 in
+    let turn = turn-of g (read .before .rows-test .taken) (read .read-row .result) (read .read-row .ensures) (sym (own .before .before .wide .ensures .0) ∙ own .if1 .left)
+    (tested .test-row .ensures) (c .before .before .if2 .left) in
+    asking-first g turn (read .before .rows-test .taken) (c .to-ask .ensures)
 
 mul-lacks : tie.Need-mul-lacks Inv-loop μ-loop Inv-rows μ-rows
 mul-lacks c = omega (arith, asks-few (c .before .loop .inv) (c .loop-test .taken))
@@ -93,11 +107,12 @@ rows-less c = omega (arith, c .before .before .before .before .before .before .b
 
 rows-again : tie.Need-rows-again Inv-loop μ-loop Inv-rows μ-rows
 rows-again c =
-    let a = c .before .before .before .before .before .before .before .before .before .before .before .before .before .loop .inv in
-    let none = asking-ends a (c .before .before .before .before .before .before .before .before .before .before .before .before .loop-test .left) in
+    let asked = c .before .before .before .before .before .before .before .before .before .before .before .before in
+    let a = asked .before .loop .inv in
+    let none = asking-ends a (asked .loop-test .left) in
     let counted = c .before .before .before .before .before .before .before .before .count-row .ensures in (
       going-next (a .going) (a .turn) none counted (a .going .no-fault) (c .place-of .ensures .0),
-      lent-next (a .going) (a .turn) none counted (c .before .before .before .before .before .before .before .before .before .before .before .before .before .before .before .before .before .before .before .before .before .before .before .before .before .rows .inv .1),
+      lent-next (a .going) (a .turn) none counted (asked .before .before .before .before .before .before .before .before .before .before .before .before .before .rows .inv .1),
     )
 
 same-length : tie.Need-same-length Inv-loop μ-loop Inv-rows μ-rows
@@ -135,11 +150,14 @@ same-length-9 c = c .before .before .before .before .before .before .before .bef
 
 returns-3 : tie.Need-returns-3 Inv-loop μ-loop Inv-rows μ-rows
 returns-3 c =
-    let g = c .before .before .before .before .before .before .before .before .before .before .rows .inv .0 in
-    let r = c .before .before .before .before .before .before .before .before .read-row in
-    let here = c .before .before .before .before .before .before .before .before .before .rows-test .taken in
-    walk-stops g (c .before .before .before .before .before .before .before .before .before .before .rows .inv .1) (more-rows g here) (c .refused .ensures)
-    (test-stops g here (r .result) (r .ensures) (sym (c .before .before .before .before .before .before .before .wide .ensures .0) ∙ c .before .before .before .before .before .if1 .left) (c .before .before .before .test-row .ensures) (c .before .if2 .taken))
+    let tested = c .before .before .before in
+    let own = tested .before .before in
+    let read = own .before .before .before in
+    let inv = read .before .before .rows .inv in
+    let here = read .before .rows-test .taken in
+    walk-stops (inv .0) (inv .1) (more-rows (inv .0) here) (c .refused .ensures)
+    (test-stops (inv .0) here (read .read-row .result) (read .read-row .ensures) (sym (own .before .before .wide .ensures .0) ∙ own .if1 .left) (tested .test-row .ensures)
+    (c .before .if2 .taken))
 
 same-length-10 : tie.Need-same-length-10 Inv-loop μ-loop Inv-rows μ-rows
 same-length-10 c = c .before .before .before .before .before .before .before .before .before .before .before .before .before .before .before .before .before .rows .inv .1 .totals-kept
