@@ -1,10 +1,10 @@
 // The walk over a table's rows. Rows of a flow stand together, in service order, so that what is kept of single jobs is the current flow's alone;
 // of a flow that the walk has left the first job whose total is off is kept, and its finish.
 ghost use mathlib.Core.Path.{_≡_};
-ghost use Prim.Native.Nat.{_+_, _*_, _<_};
-ghost use lib.ListN.{length, replicate};
+ghost use Prim.Native.Nat.{ℕ, _+_, _*_, _<_};
+ghost use lib.ListN.{length, getD, replicate};
 ghost use Rattle.rules.specs.Answers.{firstFault};
-ghost use Rattle.rules.specs.Book.{jobCount, flowOf};
+ghost use Rattle.rules.specs.Book.{jobCount, flowOf, jobOf};
 ghost use Rattle.rules.specs.Reading.{bookOf};
 ghost use Rattle.table_check.specs.Tests.{offFault};
 ghost use Rattle.table_check.specs.Tally.{CurrentFlow, JobsHeld};
@@ -89,8 +89,8 @@ pub fn walk_rows(
 }
 
 // A flow is closed: the first job whose total differs from its size, 64 where there is none.
-pub fn first_off(book: &[u8], sizes: &[u32], caps: &[u16], totals: &[u32], c: Current) -> u8
-    requires { ⌜ CurrentFlow (now book) c × JobsHeld (bookOf (now book)) (c .flow) (c .jobs) (now sizes) (now caps) × (length (now totals) ≡ 64) ⌝ }
+pub fn first_off(book: &[u8], sizes: &[u32], totals: &[u32], c: Current) -> u8
+    requires { ⌜ CurrentFlow (now book) c × ((i : ℕ) → i < c .jobs → getD (now sizes) i 0 ≡ jobOf (flowOf (bookOf (now book)) (c .flow)) i .size) × (length (now sizes) ≡ 64) × (length (now totals) ≡ 64) ⌝ }
     ensures { λ i. ⌜ offFault (c .flow) i ≡ firstFault (totalFaultBy (bookOf (now (book .entry))) (c .flow) (now (totals .entry))) (jobCount (flowOf (bookOf (now (book .entry))) (c .flow))) ⌝ }
 {
     let mut job: u8 = 0;
@@ -130,7 +130,7 @@ pub fn walk_flow(book: &[u8], table: &[u8], work: &mut [u8], c: Current, from: u
         verdict,
         next: w.next,
         finish: w.finish,
-        off: first_off(book, &sizes, &caps, &totals, c),
+        off: first_off(book, &sizes, &totals, c),
     }
 }
 

@@ -12,13 +12,13 @@ use Rattle.table_check.proofs.walk.first_off.Statement.{statement}
 use Rattle.table_check.proofs.walk.first_off.Tie as tie
 
 abbrev Inv-loop : tie.InvT-loop
-Inv-loop book sizes caps totals c job₀ job = (job ≤ c .jobs) × (c .jobs ≤ 64) × (firstFault (totalFaultBy (bookOf book) (c .flow) totals) job ≡ Pass)
+Inv-loop book sizes totals c job₀ job = (job ≤ c .jobs) × (c .jobs ≤ 64) × (firstFault (totalFaultBy (bookOf book) (c .flow) totals) job ≡ Pass)
 
 abbrev μ-loop : tie.MeasureT-loop
-μ-loop book sizes caps totals c job₀ job = c .jobs - job
+μ-loop book sizes totals c job₀ job = c .jobs - job
 
 loop-holds : tie.Need-loop-holds Inv-loop μ-loop
-loop-holds c = (omega arith, few-jobs (c .before .before .before .before .pre .0), none-walked _)
+loop-holds c = (omega arith, few-jobs (c .before .before .before .pre .0), none-walked _)
 
 wide-requires : tie.Need-wide-requires Inv-loop μ-loop
 wide-requires c κs = tt
@@ -27,20 +27,20 @@ mul-if2 : tie.Need-mul-if2 Inv-loop μ-loop
 mul-if2 c = omega (arith, c .wide .ensures .1)
 
 shared-slice-read-if2 : tie.Need-shared-slice-read-if2 Inv-loop μ-loop
-shared-slice-read-if2 c = omega (arith, c .before .wide .ensures .0, c .before .before .before .before .loop .inv .1, c .before .before .if1 .taken, c .before .before .before .before .before .before .before .before .before .pre .2)
+shared-slice-read-if2 c = omega (arith, c .before .wide .ensures .0, c .before .before .before .before .loop .inv .1, c .before .before .if1 .taken, c .before .before .before .before .before .before .before .before .pre .3)
 
 mul-if2-2 : tie.Need-mul-if2-2 Inv-loop μ-loop
 mul-if2-2 c = omega (arith, c .before .wide .ensures .1)
 
 shared-slice-read-if2-2 : tie.Need-shared-slice-read-if2-2 Inv-loop μ-loop
-shared-slice-read-if2-2 c = omega (arith, c .before .before .wide .ensures .0, c .before .before .before .before .before .loop .inv .1, c .before .before .before .if1 .taken, c .before .before .before .before .before .before .before .before .before .before .pre .1 .sizes-long)
+shared-slice-read-if2-2 c = omega (arith, c .before .before .wide .ensures .0, c .before .before .before .before .before .loop .inv .1, c .before .before .before .if1 .taken, c .before .before .before .before .before .before .before .before .before .pre .2)
 
 returns : tie.Need-returns Inv-loop μ-loop
 returns c =
-    let p = c .before .before .before .before .before .before .before .before .before .before .before .pre in
+    let p = c .before .before .before .before .before .before .before .before .before .before .pre in
     let l = c .before .before .before .before .before .before .loop in
     closes-off _ _ _ _ (p .0 .jobs) (l .inv .1) (l .job) (c .before .before .before .before .if1 .taken) (l .inv .2)
-    (total-wrong _ _ _ _ (l .job) _ (c .before .before .before .wide .ensures .0) (p .1 .size-of _ (omega (arith, c .before .before .before .wide .ensures .0, c .before .before .before .before .if1 .taken))) (c .if2 .taken))
+    (total-wrong _ _ _ _ (l .job) _ (c .before .before .before .wide .ensures .0) (p .1 _ (omega (arith, c .before .before .before .wide .ensures .0, c .before .before .before .before .if1 .taken))) (c .if2 .taken))
 
 add-job : tie.Need-add-job Inv-loop μ-loop
 add-job c = search needs
@@ -50,18 +50,18 @@ loop-less c = search needs
 
 loop-again : tie.Need-loop-again Inv-loop μ-loop
 loop-again c =
-    let p = c .before .before .before .before .before .before .before .before .before .before .before .pre in
+    let p = c .before .before .before .before .before .before .before .before .before .before .pre in
     let l = c .before .before .before .before .before .before .loop in (
       omega (arith, c .before .before .before .before .if1 .taken),
       l .inv .1,
       one-walked _ (l .job) (l .inv .2)
-          (total-right _ _ _ _ (l .job) _ (c .before .before .before .wide .ensures .0) (p .1 .size-of _ (omega (arith, c .before .before .before .wide .ensures .0, c .before .before .before .before .if1 .taken))) (c .if2 .left)),
+          (total-right _ _ _ _ (l .job) _ (c .before .before .before .wide .ensures .0) (p .1 _ (omega (arith, c .before .before .before .wide .ensures .0, c .before .before .before .before .if1 .taken))) (c .if2 .left)),
     )
 
 returns-2 : tie.Need-returns-2 Inv-loop μ-loop
 returns-2 c =
     let l = c .before .before .loop in
-    closes-right _ _ _ _ (c .before .before .before .before .before .before .before .pre .0 .jobs) (l .inv .1) (l .job) (l .inv .0) (c .if1 .left) (l .inv .2)
+    closes-right _ _ _ _ (c .before .before .before .before .before .before .pre .0 .jobs) (l .inv .1) (l .job) (l .inv .0) (c .if1 .left) (l .inv .2)
 
 pub first-off-spec : {M : Type 1} → statement M
 first-off-spec =

@@ -36,17 +36,14 @@ slice-aggregate-first-off c = search needs
 slice-aggregate-first-off-2 : tie.Need-slice-aggregate-first-off-2
 slice-aggregate-first-off-2 c = search needs
 
-slice-aggregate-first-off-3 : tie.Need-slice-aggregate-first-off-3
-slice-aggregate-first-off-3 c = search needs
-
 first-off-requires : tie.Need-first-off-requires
-first-off-requires c κs = (c .before .before .before .before .before .before .before .before .before .before .before .before .before .before .before .before .before .before .before .before .before .pre .current, c .before .before .before .before .before .before .before .before .before .before .before .before .before .before .before .load-jobs .ensures, c .before .before .before .before .before .before .before .walk-rows .ensures .totals-long)
+first-off-requires c κs = let held = c .before .before .before .before .before .before .before .before .before .before .before .before .before .before .load-jobs .ensures in (c .before .before .before .before .before .before .before .before .before .before .before .before .before .before .before .before .before .before .before .before .pre .current, held .size-of, held .sizes-long, c .before .before .before .before .before .before .walk-rows .ensures .totals-long)
 
 same-length : tie.Need-same-length
 same-length c = search needs
 
 returns : tie.Need-returns
-returns c = flow-closed (c .before .before .before .before .before .before .before .before .before .before .before .before .before .before .before .before .before .before .before .before .before .before .pre .current) (c .before .before .before .before .before .before .before .before .walk-rows .ensures) (c .first-off .ensures)
+returns c = flow-closed (c .before .before .before .before .before .before .before .before .before .before .before .before .before .before .before .before .before .before .before .before .before .pre .current) (c .before .before .before .before .before .before .before .walk-rows .ensures) (c .first-off .ensures)
 
 pub walk-flow-spec : {M : Type 1} → statement M
 walk-flow-spec =
@@ -62,7 +59,6 @@ walk-flow-spec =
     walk-rows-requires
     slice-aggregate-first-off
     slice-aggregate-first-off-2
-    slice-aggregate-first-off-3
     first-off-requires
     same-length
     returns)
