@@ -202,7 +202,7 @@ module _ {s : List ℕ} {f : ℕ} {caps starts ends lasts firsts : List ℕ} {co
   currentAt t P r = record { flow = f; parts = r .parts; processors = P; first = t; width = r .width; rate = r .rate }
 
   -- .. by what `run_at` answers
-  module _ (t P : ℕ) (names takes : List ℕ) (r : Run)
+  module _ {t : ℕ} {names takes : List ℕ} {r : Run}
       (answer : (x : FlowJobs) (y : Ideal) → RunInput caps starts ends lasts firsts count most x y → RunAt (flowFrom x) t names takes r) where
     pub run-here : RunAt (flowOf (bookOf s) f) t names takes r
     run-here = subst (λ (v : Flow). RunAt v t names takes r) (h .loaded .values) (answer (h .jobs) (h .ideal) (h .held))
@@ -218,9 +218,9 @@ module _ {s : List ℕ} {f : ℕ} {caps starts ends lasts firsts : List ℕ} {co
     parts-fit q l =
         amount-within (λ i. takeOf (flowOf (bookOf s) f) i t) _ names takes (r .parts) 4096 (run-here .parts) (takes-within s f t (h .passes) (h .flow-in)) q l
 
-    pub serving-at : (rows : List ℕ) → P ≡ bookOf s .processors → count ≤ length names → count ≤ length takes → count ≤ length rows →
+    pub serving-at : {P : ℕ} {rows : List ℕ} → P ≡ bookOf s .processors → count ≤ length names → count ≤ length takes → count ≤ length rows →
         ((q : ℕ) → q < r .parts → Packs (getD rows q 0) f (getD names q 0) (getD takes q 0)) → Serving s (currentAt t P r) names takes rows
-    serving-at rows e names-whole takes-whole rows-whole packs = record {
+    serving-at e names-whole takes-whole rows-whole packs = record {
       passes = h .passes;
       flow-in = h .flow-in;
       processors = e;
@@ -239,27 +239,27 @@ module _ {s : List ℕ} {f : ℕ} {caps starts ends lasts firsts : List ℕ} {co
             (omega (arith, run-here .run .within, run-here .run .some))
 
     -- where the flow stands at a cut, the run there is the current pseudo-job
-    pub at-cut-under : (y : Beside) (slot : ℕ) (out area : List ℕ) (next : ℕ) → FlowSoFar (bookOf s) f y t slot out area next →
+    at-cut-under : (P : ℕ) (y : Beside) (slot : ℕ) (out area : List ℕ) (next : ℕ) → FlowSoFar (bookOf s) f y t slot out area next →
         UnderwayBy s (currentAt t P r) y slot
         (standing (pseudoJob (currentAt t P r) ∷ runs (flowOf (bookOf s) f) (path (flowOf (bookOf s) f) - (t + r .width)) (t + r .width))
         0) out area next
-    at-cut-under y slot out area next so-far =
+    at-cut-under P y slot out area next so-far =
         subst (λ (ps : List PseudoJob). Underway (bookOf s) f y slot (standing ps 0) out area next) (run-here .run .step) (so-far .under)
 
-    pub flow-goes-on : (y : Beside) (slot at limit : ℕ) (out area out′ area′ : List ℕ) (slot′ next′ : ℕ) →
+    flow-goes-on : (P : ℕ) (y : Beside) (slot at limit : ℕ) (out area out′ area′ : List ℕ) (slot′ next′ : ℕ) →
         FlowSoFar (bookOf s) f y t slot out area at →
         RunPlaced s (currentAt t P r) slot at limit out area out′ area′ slot′ next′ → FlowSoFar (bookOf s) f y (t + r .width) slot′ out′
         area′ next′
-    flow-goes-on y slot at limit out area out′ area′ slot′ next′ so-far placed =
-        let done = placed .finished y _ (at-cut-under y slot out area at so-far) in
+    flow-goes-on P y slot at limit out area out′ area′ slot′ next′ so-far placed =
+        let done = placed .finished y _ (at-cut-under P y slot out area at so-far) in
         record { under = done .under; finish = done .finish }
 
-    pub flow-kept-next : (at limit : ℕ) (out₀ area₀ out area out′ area′ : List ℕ) (slot next slot′ next′ : ℕ) →
+    pub flow-kept-next : {at limit : ℕ} {out₀ area₀ out area out′ area′ : List ℕ} {slot next slot′ next′ : ℕ} {q : Placed} (P : ℕ) →
         FlowKept (bookOf s) f at limit out₀ area₀ out area t slot next →
-        (q : Placed) → RunAnswer s (currentAt t P r) slot next limit out area out′ area′ q → q ≡ To slot′ next′ →
+        RunAnswer s (currentAt t P r) slot next limit out area out′ area′ q → q ≡ To slot′ next′ →
         length out′ ≡ length out → length area′ ≡ length area → FlowKept (bookOf s) f at limit out₀ area₀ out′ area′ (t + r .width) slot′
         next′
-    flow-kept-next at limit out₀ area₀ out area out′ area′ slot next slot′ next′ k q answer told same-out same-area =
+    flow-kept-next {at} {limit} {out₀} {area₀} {out} {area} {out′} {area′} {slot} {next} {slot′} {next′} P k answer told same-out same-area =
         let placed : RunPlaced s (currentAt t P r) slot next limit out area out′ area′ slot′ next′ =
         subst (λ (z : Placed). RunAnswer s (currentAt t P r) slot next limit out area out′ area′ z) told answer in
         record {
@@ -268,27 +268,27 @@ module _ {s : List ℕ} {f : ℕ} {caps starts ends lasts firsts : List ℕ} {co
           next-to = omega (arith, placed .next-within, placed .slot-after, k .next-to);
           out-length = same-out ∙ k .out-length;
           area-length = same-area ∙ k .area-length;
-          so-far = λ rows bytes e within. flow-goes-on (beside rows bytes out₀ at) slot next limit out area out′ area′ slot′ next′
+          so-far = λ rows bytes e within. flow-goes-on P (beside rows bytes out₀ at) slot next limit out area out′ area′ slot′ next′
               (k .so-far rows bytes e within) placed;
         }
 
-    pub flow-kept-stops : (at limit : ℕ) (out₀ area₀ out area out′ area′ : List ℕ) (slot next : ℕ) → limit ≡ slotsFor (flowOf (bookOf s) f) →
-        FlowKept (bookOf s) f at limit out₀ area₀ out area t slot next →
-        (q : Placed) → RunAnswer s (currentAt t P r) slot next limit out area out′ area′ q → q ≡ Infeasible →
+    pub flow-kept-stops : {at limit : ℕ} {out₀ area₀ out area out′ area′ : List ℕ} {slot next : ℕ} {q : Placed} (P : ℕ) →
+        limit ≡ slotsFor (flowOf (bookOf s) f) → FlowKept (bookOf s) f at limit out₀ area₀ out area t slot next →
+        RunAnswer s (currentAt t P r) slot next limit out area out′ area′ q → q ≡ Infeasible →
         (rows : List Row) (bytes : List ℕ) → area₀ ≡ workUsed slots rows bytes → ((u : ℕ) → usedIn rows u ≤ bookOf s .processors) →
         FlowInfeasible (bookOf s) f rows bytes out₀ out′ area′
-    flow-kept-stops at limit out₀ area₀ out area out′ area′ slot next e k q answer told rows bytes used within =
+    flow-kept-stops {at} {limit} {out₀} {area₀} {out} {area} {out′} {area′} {slot} {next} P e k answer told rows bytes used within =
         let left : RunAnswer s (currentAt t P r) slot next limit out area out′ area′ Infeasible =
         subst (λ (z : Placed). RunAnswer s (currentAt t P r) slot next limit out area out′ area′ z) told answer in
         flow-stops (bookOf s) f rows bytes out₀ out′ area′ at limit e
         (left (beside rows bytes out₀ at) _
-        (at-cut-under (beside rows bytes out₀ at) slot out area next (k .so-far rows bytes used within)))
+        (at-cut-under P (beside rows bytes out₀ at) slot out area next (k .so-far rows bytes used within)))
 
-  pub flow-kept-done : (at limit : ℕ) (out₀ area₀ out area : List ℕ) (t slot next : ℕ) → limit ≡ slotsFor (flowOf (bookOf s) f) →
+  pub flow-kept-done : {at limit : ℕ} {out₀ area₀ out area : List ℕ} {t slot next : ℕ} → limit ≡ slotsFor (flowOf (bookOf s) f) →
       path (flowOf (bookOf s) f) ≤ t →
       FlowKept (bookOf s) f at limit out₀ area₀ out area t slot next →
       (rows : List Row) (bytes : List ℕ) → area₀ ≡ workUsed slots rows bytes → ((u : ℕ) → usedIn rows u ≤ bookOf s .processors) →
       FlowDone (bookOf s) f rows bytes out₀ at out area slot next
-  flow-kept-done at limit out₀ area₀ out area t slot next e over k rows bytes q within =
+  flow-kept-done {at} {limit} {out₀} {area₀} {out} {area} {t} {slot} {next} e over k rows bytes q within =
       flow-done (bookOf s) f rows bytes out₀ out area at t slot next flow-sized jobs-few over (omega (arith, k .slot-to))
       deadline-within (k .next-to) (k .so-far rows bytes q within)

@@ -20,23 +20,32 @@ abbrev μ-loop : tie.MeasureT-loop
 μ-loop book caps starts ends lasts firsts names₀ takes₀ rows₀ out₀ area₀ at f processors count path limit from₀ t₀ slot₀ next₀ names takes rows out area from t slot next =
     path - t
 
+-- where the function begins, a turn, the run at the turn's cut, and its packed rows
+abbrev start : tie.At-loop Inv-loop μ-loop → tie.Start Inv-loop μ-loop
+start c = c .before .before .before .before .before .before .before .before .before .before .before .before
+
+abbrev turn : tie.After-run-at Inv-loop μ-loop → tie.At-loop Inv-loop μ-loop
+turn c = c .before .before .before .before .before
+
+abbrev made : tie.After-pack-parts Inv-loop μ-loop → tie.After-run-at Inv-loop μ-loop
+made c = c .before .before .before .before .before .before .before .before
+
+abbrev packed : tie.After-place-run Inv-loop μ-loop → tie.After-pack-parts Inv-loop μ-loop
+packed c = c .before .before .before .before .before .before .before .before
+
 loop-holds : tie.Need-loop-holds Inv-loop μ-loop
 loop-holds c =
     let a = c .before .before .before .before .before .before .before .before .before .before .before .args in
     (flow-kept-first (bookOf (a .book .now)) (a .f) (a .at) _ (a .out .now) (a .area .now), ended-none _ _ _, refl, refl, refl)
 
 skip-ended-requires : tie.Need-skip-ended-requires Inv-loop μ-loop
-skip-ended-requires c κs =
-    let a = c .before .before .before .before .before .before .before .before .before .before .before .before .before .args in
-    let v = c .before .before .before .before .before .before .before .before .before .before .before .before .before .pre in
-    let l = c .before .loop in
-    (l .inv .1 .within, v .0 .ends-whole)
+skip-ended-requires c κs = (c .before .loop .inv .1 .within, start (c .before) .pre .0 .ends-whole)
 
 run-at-requires : tie.Need-run-at-requires Inv-loop μ-loop
 run-at-requires c κs =
-    let a = c .before .before .before .before .before .before .before .before .before .before .before .before .before .before .before .before .args in
-    let v = c .before .before .before .before .before .before .before .before .before .before .before .before .before .before .before .before .pre in
-    let l = c .before .before .before .before .loop in
+    let u = c .before .before .before .before in
+    let l = u .loop in
+    let v = start u .pre in
     let ended = ended-more _ _ _ _ _ (l .inv .1) (c .before .before .skip-ended .ensures) in (
       count-few (v .0),
       v .0 .caps-whole,
@@ -53,26 +62,22 @@ run-at-requires c κs =
     )
 
 cast-pack-parts : tie.Need-cast-pack-parts Inv-loop μ-loop
-cast-pack-parts c =
-    omega (arith, flow-few (c .before .before .before .before .before .before .before .before .before .before .before .before .before .before .before .before .before .before .before .before .before .pre .0))
+cast-pack-parts c = omega (arith, flow-few (start (turn (c .before .before .before .before)) .pre .0))
 
 pack-parts-requires : tie.Need-pack-parts-requires Inv-loop μ-loop
 pack-parts-requires c κs =
-    let a = c .before .before .before .before .before .before .before .before .before .before .before .before .before .before .before .before .before .before .before .before .before .before .before .before .args in
-    let v = c .before .before .before .before .before .before .before .before .before .before .before .before .before .before .before .before .before .before .before .before .before .before .before .before .pre in
-    let l = c .before .before .before .before .before .before .before .before .before .before .before .before .loop in
-    let run = c .before .before .before .before .before .before .before .run-at in
-    let few = parts-within (v .0) (l .t) (a .processors) (run .last .1 .1 .1 .1 .1 .1 .1 .1 .1 .0) (run .last .1 .1 .1 .1 .1 .1 .1 .1 .1 .1 .0) (run .result) (run .ensures) in
-    (omega (arith, few, v .1, l .inv .2), omega (arith, few, v .2, l .inv .3), omega (arith, few, v .3, l .inv .4), parts-fit (v .0) (l .t) (a .processors) (run .last .1 .1 .1 .1 .1 .1 .1 .1 .1 .0) (run .last .1 .1 .1 .1 .1 .1 .1 .1 .1 .1 .0) (run .result) (run .ensures))
+    let m = c .before .before .before .before .before .before .before in
+    let l = turn m .loop in
+    let v = start (turn m) .pre in
+    let few = parts-within (v .0) (m .run-at .ensures) in
+    (omega (arith, v .1, l .inv .2), omega (arith, v .2, l .inv .3), omega (arith, v .3, l .inv .4), parts-fit (v .0) (m .run-at .ensures))
 
 place-run-requires : tie.Need-place-run-requires Inv-loop μ-loop
 place-run-requires c κs =
-    let a = c .before .before .before .before .before .before .before .before .before .before .before .before .before .before .before .before .before .before .before .before .before .before .before .before .before .before .before .before .before .before .before .before .args in
-    let v = c .before .before .before .before .before .before .before .before .before .before .before .before .before .before .before .before .before .before .before .before .before .before .before .before .before .before .before .before .before .before .before .before .pre in
-    let l = c .before .before .before .before .before .before .before .before .before .before .before .before .before .before .before .before .before .before .before .before .loop in
-    let run = c .before .before .before .before .before .before .before .before .before .before .before .before .before .before .before .run-at in
-    let packs = c .before .before .before .before .before .before .before .pack-parts in (
-      serving-at (v .0) (l .t) (a .processors) (run .last .1 .1 .1 .1 .1 .1 .1 .1 .1 .0) (run .last .1 .1 .1 .1 .1 .1 .1 .1 .1 .1 .0) (run .result) (run .ensures) (packs .last .1 .1 .1 .1 .0) (v .4) (omega (arith, v .1, l .inv .2)) (omega (arith, v .2, l .inv .3)) (omega (arith, v .3, l .inv .4)) (packs .ensures),
+    let p = c .before .before .before .before .before .before .before in
+    let l = turn (made p) .loop in
+    let v = start (turn (made p)) .pre in (
+      serving-at (v .0) (made p .run-at .ensures) (v .4) (omega (arith, v .1, l .inv .2)) (omega (arith, v .2, l .inv .3)) (omega (arith, v .3, l .inv .4)) (p .pack-parts .ensures),
       omega (arith, v .6, l .inv .0 .area-length),
       l .inv .0 .slot-to,
       omega (arith, v .5, deadline-within (v .0)),
@@ -86,69 +91,50 @@ enum-told : tie.Need-enum-told Inv-loop μ-loop
 enum-told c = search needs
 
 same-length : tie.Need-same-length Inv-loop μ-loop
-same-length c =
-    omega (arith, c .before .before .before .before .before .before .before .before .before .before .before .before .before .before .before .before .before .before .before .before .before .before .run-at .kept .1 .1 .1 .1 .1 .1 .1 .1 .1 .0, c .before .before .before .before .before .before .before .before .before .before .before .before .before .before .before .before .before .before .before .before .before .before .before .before .before .before .before .loop .inv .2)
+same-length c = let m = made (packed (c .before .before .before .before .before .before)) in omega (arith, m .run-at .kept .1 .1 .1 .1 .1 .1 .1 .1 .1 .0, turn m .loop .inv .2)
 
 same-length-2 : tie.Need-same-length-2 Inv-loop μ-loop
-same-length-2 c =
-    omega (arith, c .before .before .before .before .before .before .before .before .before .before .before .before .before .before .before .before .before .before .before .before .before .before .run-at .kept .1 .1 .1 .1 .1 .1 .1 .1 .1 .1 .0, c .before .before .before .before .before .before .before .before .before .before .before .before .before .before .before .before .before .before .before .before .before .before .before .before .before .before .before .loop .inv .3)
+same-length-2 c = let m = made (packed (c .before .before .before .before .before .before)) in omega (arith, m .run-at .kept .1 .1 .1 .1 .1 .1 .1 .1 .1 .1 .0, turn m .loop .inv .3)
 
 same-length-3 : tie.Need-same-length-3 Inv-loop μ-loop
-same-length-3 c =
-    omega (arith, c .before .before .before .before .before .before .before .before .before .before .before .before .before .before .pack-parts .kept .1 .1 .1 .1 .0, c .before .before .before .before .before .before .before .before .before .before .before .before .before .before .before .before .before .before .before .before .before .before .before .before .before .before .before .loop .inv .4)
+same-length-3 c = let p = packed (c .before .before .before .before .before .before) in omega (arith, p .pack-parts .kept .1 .1 .1 .1 .0, turn (made p) .loop .inv .4)
 
 same-length-4 : tie.Need-same-length-4 Inv-loop μ-loop
-same-length-4 c =
-    omega (arith, c .before .before .before .before .before .before .place-run .kept .1 .1 .1 .1 .0, c .before .before .before .before .before .before .before .before .before .before .before .before .before .before .before .before .before .before .before .before .before .before .before .before .before .before .before .loop .inv .0 .out-length)
+same-length-4 c = let d = c .before .before .before .before .before .before in omega (arith, d .place-run .kept .1 .1 .1 .1 .0, turn (made (packed d)) .loop .inv .0 .out-length)
 
 same-length-5 : tie.Need-same-length-5 Inv-loop μ-loop
-same-length-5 c =
-    omega (arith, c .before .before .before .before .before .before .place-run .kept .1 .1 .1 .1 .1 .0, c .before .before .before .before .before .before .before .before .before .before .before .before .before .before .before .before .before .before .before .before .before .before .before .before .before .before .before .loop .inv .0 .area-length)
+same-length-5 c = let d = c .before .before .before .before .before .before in omega (arith, d .place-run .kept .1 .1 .1 .1 .1 .0, turn (made (packed d)) .loop .inv .0 .area-length)
 
 returns : tie.Need-returns Inv-loop μ-loop
 returns c rows bytes used within =
-    let a = c .before .before .before .before .before .before .before .before .before .before .before .before .before .before .before .before .before .before .before .before .before .before .before .before .before .before .before .before .before .before .before .before .before .before .before .before .before .before .before .args in
-    let v = c .before .before .before .before .before .before .before .before .before .before .before .before .before .before .before .before .before .before .before .before .before .before .before .before .before .before .before .before .before .before .before .before .before .before .before .before .before .before .before .pre in
-    let l = c .before .before .before .before .before .before .before .before .before .before .before .before .before .before .before .before .before .before .before .before .before .before .before .before .before .before .before .loop in
-    let run = c .before .before .before .before .before .before .before .before .before .before .before .before .before .before .before .before .before .before .before .before .before .before .run-at in
-    let placed = c .before .before .before .before .before .before .place-run in
-    flow-kept-stops (v .0) (l .t) (a .processors) (run .last .1 .1 .1 .1 .1 .1 .1 .1 .1 .0) (run .last .1 .1 .1 .1 .1 .1 .1 .1 .1 .1 .0) (run .result) (run .ensures) (a .at) _ (a .out .now) (a .area .now) (l .out) (l .area)
-    (placed .last .1 .1 .1 .1 .0) (placed .last .1 .1 .1 .1 .1 .0) (l .slot) (l .next)
-    (v .5) (l .inv .0) (placed .result) (placed .ensures) (c .enum-told .given .1) rows bytes used
+    let d = c .before .before .before .before .before .before in
+    let m = made (packed d) in
+    let v = start (turn m) .pre in
+    flow-kept-stops (v .0) (m .run-at .ensures) _ (v .5) (turn m .loop .inv .0) (d .place-run .ensures) (c .enum-told .given .1) rows bytes used
     (λ u. omega (arith, within u, v .4))
 
 add-t : tie.Need-add-t Inv-loop μ-loop
 add-t c =
-    let a = c .before .before .before .before .before .before .before .before .before .before .before .before .before .before .before .before .before .before .before .before .before .before .before .before .before .before .before .before .before .before .before .before .before .before .before .before .before .before .before .before .before .args in
-    let v = c .before .before .before .before .before .before .before .before .before .before .before .before .before .before .before .before .before .before .before .before .before .before .before .before .before .before .before .before .before .before .before .before .before .before .before .before .before .before .before .before .before .pre in
-    let l = c .before .before .before .before .before .before .before .before .before .before .before .before .before .before .before .before .before .before .before .before .before .before .before .before .before .before .before .before .before .loop in
-    let run = c .before .before .before .before .before .before .before .before .before .before .before .before .before .before .before .before .before .before .before .before .before .before .before .before .run-at in
-    omega (arith, cut-within (v .0) (l .t) (a .processors) (run .last .1 .1 .1 .1 .1 .1 .1 .1 .1 .0) (run .last .1 .1 .1 .1 .1 .1 .1 .1 .1 .1 .0) (run .result) (run .ensures), path-fits (v .0))
+    let m = made (packed (c .before .before .before .before .before .before .before .before)) in
+    let v = start (turn m) .pre in
+    omega (arith, cut-within (v .0) (m .run-at .ensures), path-fits (v .0))
 
 loop-less : tie.Need-loop-less Inv-loop μ-loop
 loop-less c =
-    let a = c .before .before .before .before .before .before .before .before .before .before .before .before .before .before .before .before .before .before .before .before .before .before .before .before .before .before .before .before .before .before .before .before .before .before .before .before .before .before .before .before .before .args in
-    let v = c .before .before .before .before .before .before .before .before .before .before .before .before .before .before .before .before .before .before .before .before .before .before .before .before .before .before .before .before .before .before .before .before .before .before .before .before .before .before .before .before .before .pre in
-    let l = c .before .before .before .before .before .before .before .before .before .before .before .before .before .before .before .before .before .before .before .before .before .before .before .before .before .before .before .before .before .loop in
-    let run = c .before .before .before .before .before .before .before .before .before .before .before .before .before .before .before .before .before .before .before .before .before .before .before .before .run-at in
-    omega (arith, run-here (v .0) (l .t) (a .processors) (run .last .1 .1 .1 .1 .1 .1 .1 .1 .1 .0) (run .last .1 .1 .1 .1 .1 .1 .1 .1 .1 .1 .0) (run .result) (run .ensures) .run .some, c .before .before .before .before .before .before .before .before .before .before .before .before .before .before .before .before .before .before .before .before .before .before .before .before .before .before .before .before .loop-test .taken)
+    let m = made (packed (c .before .before .before .before .before .before .before .before)) in
+    omega (arith, run-here (start (turn m) .pre .0) (m .run-at .ensures) .run .some, m .before .before .before .before .loop-test .taken)
 
 loop-again : tie.Need-loop-again Inv-loop μ-loop
 loop-again c =
-    let a = c .before .before .before .before .before .before .before .before .before .before .before .before .before .before .before .before .before .before .before .before .before .before .before .before .before .before .before .before .before .before .before .before .before .before .before .before .before .before .before .before .before .args in
-    let v = c .before .before .before .before .before .before .before .before .before .before .before .before .before .before .before .before .before .before .before .before .before .before .before .before .before .before .before .before .before .before .before .before .before .before .before .before .before .before .before .before .before .pre in
-    let l = c .before .before .before .before .before .before .before .before .before .before .before .before .before .before .before .before .before .before .before .before .before .before .before .before .before .before .before .before .before .loop in
-    let run = c .before .before .before .before .before .before .before .before .before .before .before .before .before .before .before .before .before .before .before .before .before .before .before .before .run-at in
-    let placed = c .before .before .before .before .before .before .before .before .place-run in
-    let to = c .before .before .s .given in
-    let packs = c .before .before .before .before .before .before .before .before .before .before .before .before .before .before .before .before .pack-parts in
-    let ended = ended-more _ _ _ _ _ (l .inv .1) (c .before .before .before .before .before .before .before .before .before .before .before .before .before .before .before .before .before .before .before .before .before .before .before .before .before .before .before .skip-ended .ensures) in (
-      flow-kept-next (v .0) (l .t) (a .processors) (run .last .1 .1 .1 .1 .1 .1 .1 .1 .1 .0) (run .last .1 .1 .1 .1 .1 .1 .1 .1 .1 .1 .0) (run .result) (run .ensures) (a .at) _ (a .out .now) (a .area .now) (l .out) (l .area)
-          (placed .last .1 .1 .1 .1 .0) (placed .last .1 .1 .1 .1 .1 .0) (l .slot) (l .next) _ _ (l .inv .0) (placed .result) (placed .ensures) (to .1) (omega arith) (omega arith),
+    let d = c .before .before .before .before .before .before .before .before in
+    let m = made (packed d) in
+    let l = turn m .loop in
+    let ended = ended-more _ _ _ _ _ (l .inv .1) (m .before .before .before .skip-ended .ensures) in (
+      flow-kept-next (start (turn m) .pre .0) (m .run-at .ensures) _ (l .inv .0) (d .place-run .ensures) (c .before .before .s .given .1) (omega arith) (omega arith),
       ended-later _ _ _ _ _ (omega arith) ended,
-      omega (arith, l .inv .2, run .kept .1 .1 .1 .1 .1 .1 .1 .1 .1 .0),
-      omega (arith, l .inv .3, run .kept .1 .1 .1 .1 .1 .1 .1 .1 .1 .1 .0),
-      omega (arith, l .inv .4),
+      omega (arith, l .inv .2, m .run-at .kept .1 .1 .1 .1 .1 .1 .1 .1 .1 .0),
+      omega (arith, l .inv .3, m .run-at .kept .1 .1 .1 .1 .1 .1 .1 .1 .1 .1 .0),
+      omega (arith, l .inv .4, packed d .pack-parts .kept .1 .1 .1 .1 .0),
     )
 
 same-length-6 : tie.Need-same-length-6 Inv-loop μ-loop
@@ -168,39 +154,13 @@ same-length-10 c = search needs
 
 returns-2 : tie.Need-returns-2 Inv-loop μ-loop
 returns-2 c rows bytes used within =
-    let a = c .before .before .before .before .before .before .before .before .before .before .before .before .before .args in
-    let v = c .before .before .before .before .before .before .before .before .before .before .before .before .before .pre in
-    let l = c .before .loop in
-    flow-kept-done (v .0) (a .at) _ (a .out .now) (a .area .now) (l .out) (l .area) (l .t) (l .slot) (l .next) (v .5)
-    (omega (arith, c .loop-test .left, path-held (v .0)))
-    (l .inv .0) rows bytes used (λ u. omega (arith, within u, v .4))
+    let v = start (c .before) .pre in
+    flow-kept-done (v .0) (v .5) (omega (arith, c .loop-test .left, path-held (v .0))) (c .before .loop .inv .0) rows bytes used
+    (λ u. omega (arith, within u, v .4))
 
 pub place-cuts-spec : {M : Type 1} → statement M
 place-cuts-spec =
     tie.close
-    (tie.spec
-    Inv-loop
-    μ-loop
-    loop-holds
-    skip-ended-requires
-    run-at-requires
-    cast-pack-parts
-    pack-parts-requires
-    place-run-requires
-    enum-known-s
-    enum-told
-    same-length
-    same-length-2
-    same-length-3
-    same-length-4
-    same-length-5
-    returns
-    add-t
-    loop-less
-    loop-again
-    same-length-6
-    same-length-7
-    same-length-8
-    same-length-9
-    same-length-10
-    returns-2)
+    (tie.spec Inv-loop μ-loop loop-holds skip-ended-requires run-at-requires cast-pack-parts pack-parts-requires place-run-requires enum-known-s enum-told
+    same-length same-length-2 same-length-3 same-length-4 same-length-5 returns add-t loop-less loop-again same-length-6 same-length-7 same-length-8
+    same-length-9 same-length-10 returns-2)
