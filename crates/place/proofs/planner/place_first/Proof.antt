@@ -8,7 +8,7 @@ use Rattle.rules.specs.Rows.{Row}
 use Rattle.place.specs.declared.Placed.{Placed}
 use Rattle.place.specs.declared.planner.Ended.the-variants.{Infeasible}
 use Rattle.place.specs.Flows.{newRows, FlowPlaced}
-use Rattle.place.proofs.FirstFlows.{Stands, few-flows, next-flow, place-most, stands-first, goes-on, infeasible-next, infeasible-stays, ends-planned, ends-infeasible}
+use Rattle.place.proofs.FirstFlows.{NextFlow, Stands, few-flows, next-flow, place-most, stands-first, goes-on, infeasible-next, infeasible-stays, ends-planned, ends-infeasible}
 use borrow.Author.Needs.{needs}
 use native.Mathlib.Omega.{arith}
 use Rattle.place.proofs.planner.place_first.Statement.{statement}
@@ -20,6 +20,34 @@ Inv-loop book out₀ work₀ count x order processors finish₀ next₀ k₀ out
 
 abbrev μ-loop : tie.MeasureT-loop
 μ-loop book out₀ work₀ count x order processors finish₀ next₀ k₀ out work finish next k = count - k
+
+-- where the function begins, a turn, the flow of the turn, and where it was placed
+abbrev start : tie.At-loop Inv-loop μ-loop → tie.Start Inv-loop μ-loop
+start c = c .before .before .before .before
+
+abbrev turn : tie.After-wide Inv-loop μ-loop → tie.At-loop Inv-loop μ-loop
+turn c = c .before .before
+
+abbrev served : tie.After-place-flow Inv-loop μ-loop → tie.After-wide Inv-loop μ-loop
+served c = c .before .before .before .before
+
+-- the flow of the turn is the next in service order
+next : (c : tie.After-wide Inv-loop μ-loop) → NextFlow (start (turn c) .args .book .now) (start (turn c) .args .t4) (turn c .loop .k) (c .wide .result)
+next c = next-flow _ _ _ _ _ (start (turn c) .pre) _ _ (c .before .loop-test .taken) (c .wide .ensures .0)
+
+-- it is placed beside the rows so far, whichever way that ends
+abbrev Beside : tie.After-place-flow Inv-loop μ-loop → Placed → Type 0
+Beside c w =
+    let u = turn (served c) in
+    FlowPlaced (bookOf (start u .args .book .now)) (served c .wide .result) (u .loop .inv .3 .0) (start u .args .work .now) (u .loop .out) (u .loop .next)
+    (c .place-flow .last .1 .0) (c .place-flow .last .1 .1 .0) w
+
+placed : (c : tie.After-place-flow Inv-loop μ-loop) (w : Placed) → c .place-flow .result ≡ w → Beside c w
+placed c w e =
+    let u = turn (served c) in
+    let st = u .loop .inv .3 .1 in
+    subst (Beside c) e
+    (c .place-flow .ensures (u .loop .inv .3 .0) (start u .args .work .now) (st .first .area-used) (λ t. omega (arith, st .within t, start u .pre .indexed .processors)))
 
 mul-next : tie.Need-mul-next Inv-loop μ-loop
 mul-next c = omega (arith, few-flows (c .before .before .before .pre))
@@ -34,22 +62,22 @@ loop-holds c =
     (search needs, refl, refl, ([], stands-first (bookOf (a .book .now)) (a .out .now) (a .work .now) _ 64 (p .zero) (omega (arith, p .indexed .flows)) refl))
 
 array-read-flow : tie.Need-array-read-flow Inv-loop μ-loop
-array-read-flow c = omega (arith, few-flows (c .before .before .before .before .before .pre), c .before .before .before .before .before .pre .within, c .before .before .before .before .before .pre .indexed .flows)
+array-read-flow c = let p = start (c .before) .pre in omega (arith, few-flows p, p .within, p .indexed .flows)
 
 wide-requires : tie.Need-wide-requires Inv-loop μ-loop
 wide-requires c κs = search needs
 
 mul-start : tie.Need-mul-start Inv-loop μ-loop
-mul-start c = let n = next-flow _ _ _ _ _ (c .before .before .before .before .before .before .pre) (c .before .before .loop .k) (c .wide .result) (c .before .loop-test .taken) (c .wide .ensures .0) in omega arith
+mul-start c = omega (arith, next c .flow-below)
 
 element-copy-out-start : tie.Need-element-copy-out-start Inv-loop μ-loop
-element-copy-out-start c = let n = next-flow _ _ _ _ _ (c .before .before .before .before .before .before .pre) (c .before .before .loop .k) (c .wide .result) (c .before .loop-test .taken) (c .wide .ensures .0) in omega arith
+element-copy-out-start c = omega (arith, next c .flow-below)
 
 place-flow-requires : tie.Need-place-flow-requires Inv-loop μ-loop
 place-flow-requires c κs =
-    let n = next-flow _ _ _ _ _ (c .before .before .before .before .before .before .before .before .before .pre) (c .before .before .before .before .before .loop .k) (c .before .before .before .wide .result) (c .before .before .before .before .loop-test .taken) (c .before .before .before .wide .ensures .0) in
-    let l = c .before .before .before .before .before .loop in
-    (n .stands, c .before .before .before .before .before .before .before .before .before .pre .indexed .processors, omega arith, omega (arith, place-most _ _ _ _ _ _ _ _ _ (omega arith) (n .few-flows) (l .inv .3 .1 .first)))
+    let w = c .before .before .before in
+    let n = next w in
+    (n .stands, start (turn w) .pre .indexed .processors, omega arith, omega (arith, place-most _ _ _ _ _ _ _ _ _ (omega arith) (n .few-flows) (turn w .loop .inv .3 .1 .first)))
 
 enum-known-end : tie.Need-enum-known-end Inv-loop μ-loop
 enum-known-end c = search needs
@@ -65,36 +93,28 @@ same-length-2 c = search needs
 
 returns : tie.Need-returns Inv-loop μ-loop
 returns c =
-    let a = c .before .before .before .before .before .before .before .before .before .before .before .before .before .before .before .before .args in
-    let l = c .before .before .before .before .before .before .before .before .before .before .before .before .loop in
-    let n = next-flow _ _ _ _ _ (c .before .before .before .before .before .before .before .before .before .before .before .before .before .before .before .before .pre) (c .before .before .before .before .before .before .before .before .before .before .before .before .loop .k) (c .before .before .before .before .before .before .before .before .before .before .wide .result) (c .before .before .before .before .before .before .before .before .before .before .before .loop-test .taken) (c .before .before .before .before .before .before .before .before .before .before .wide .ensures .0) in
-    let rows = l .inv .3 .0 in
-    let st = l .inv .3 .1 in
-    let d =
-    subst (λ (w : Placed). FlowPlaced (bookOf (a .book .now)) (c .before .before .before .before .before .before .before .before .before .before .wide .result) rows (a .work .now) (l .out) (l .next) (c .before .before .before .before .before .before .place-flow .last .1 .0) (c .before .before .before .before .before .before .place-flow .last .1 .1 .0) w) (c .enum-told .given .1)
-    (c .before .before .before .before .before .before .place-flow .ensures rows (a .work .now) (st .first .area-used) (λ t. omega (arith, st .within t, c .before .before .before .before .before .before .before .before .before .before .before .before .before .before .before .before .pre .indexed .processors))) in
-    let f = c .before .before .before .before .before .before .before .before .before .before .wide .result in
+    let w = served (c .before .before .before .before .before .before) in
+    let a = start (turn w) .args in
+    let l = turn w .loop in
+    let n = next w in
+    let f = w .wide .result in
+    let d = placed (c .before .before .before .before .before .before) _ (c .enum-told .given .1) in
     let e : suc (l .k) + (a .count - suc (l .k)) ≡ a .count = omega arith in
-    let p = infeasible-stays (bookOf (a .book .now)) (suc (l .k)) (a .count - suc (l .k)) f (infeasible-next _ (l .k) f rows _ _ _ _ _ _ (n .below) (n .served) st _ _ d) in
-    ends-infeasible _ _ _ _ _ _ _ f (d .others) (rw e at p) (d .area-used) (ap Infeasible (sym (c .before .before .before .before .before .before .before .before .before .before .wide .ensures .0)))
+    let p = infeasible-stays (bookOf (a .book .now)) (suc (l .k)) (a .count - suc (l .k)) f (infeasible-next _ (l .k) f _ _ _ _ _ _ _ (n .below) (n .served) (l .inv .3 .1) _ _ d) in
+    ends-infeasible _ _ _ _ _ _ _ f (d .others) (rw e at p) (d .area-used) (ap Infeasible (sym (w .wide .ensures .0)))
 
 cast-finish : tie.Need-cast-finish Inv-loop μ-loop
 cast-finish c =
-    let a = c .before .before .before .before .before .before .before .before .before .before .before .before .before .before .before .before .before .args in
-    let l = c .before .before .before .before .before .before .before .before .before .before .before .before .before .loop in
-    let n = next-flow _ _ _ _ _ (c .before .before .before .before .before .before .before .before .before .before .before .before .before .before .before .before .before .pre) (c .before .before .before .before .before .before .before .before .before .before .before .before .before .loop .k) (c .before .before .before .before .before .before .before .before .before .before .before .wide .result) (c .before .before .before .before .before .before .before .before .before .before .before .before .loop-test .taken) (c .before .before .before .before .before .before .before .before .before .before .before .wide .ensures .0) in
-    let rows = l .inv .3 .0 in
-    let st = l .inv .3 .1 in
-    let d =
-    subst (λ (w : Placed). FlowPlaced (bookOf (a .book .now)) (c .before .before .before .before .before .before .before .before .before .before .before .wide .result) rows (a .work .now) (l .out) (l .next) (c .before .before .before .before .before .before .before .place-flow .last .1 .0) (c .before .before .before .before .before .before .before .place-flow .last .1 .1 .0) w) (c .before .end .given .1)
-    (c .before .before .before .before .before .before .before .place-flow .ensures rows (a .work .now) (st .first .area-used) (λ t. omega (arith, st .within t, c .before .before .before .before .before .before .before .before .before .before .before .before .before .before .before .before .before .pre .indexed .processors))) in
-    omega (arith, d .finish-within, n .deadline-most)
+    let d = placed (c .before .before .before .before .before .before .before) _ (c .before .end .given .1) in
+    omega (arith, d .finish-within, next (served (c .before .before .before .before .before .before .before)) .deadline-most)
 
 mul-finish : tie.Need-mul-finish Inv-loop μ-loop
-mul-finish c = let n = next-flow _ _ _ _ _ (c .before .before .before .before .before .before .before .before .before .before .before .before .before .before .before .before .before .pre) (c .before .before .before .before .before .before .before .before .before .before .before .before .before .loop .k) (c .before .before .before .before .before .before .before .before .before .before .before .wide .result) (c .before .before .before .before .before .before .before .before .before .before .before .before .loop-test .taken) (c .before .before .before .before .before .before .before .before .before .before .before .wide .ensures .0) in omega arith
+mul-finish c = omega (arith, next (served (c .before .before .before .before .before .before .before)) .flow-below)
 
 array-write-finish : tie.Need-array-write-finish Inv-loop μ-loop
-array-write-finish c = let n = next-flow _ _ _ _ _ (c .before .before .before .before .before .before .before .before .before .before .before .before .before .before .before .before .before .pre) (c .before .before .before .before .before .before .before .before .before .before .before .before .before .loop .k) (c .before .before .before .before .before .before .before .before .before .before .before .wide .result) (c .before .before .before .before .before .before .before .before .before .before .before .before .loop-test .taken) (c .before .before .before .before .before .before .before .before .before .before .before .wide .ensures .0) in omega arith
+array-write-finish c =
+    let w = served (c .before .before .before .before .before .before .before) in
+    omega (arith, next w .flow-below, turn w .loop .inv .3 .1 .size)
 
 add-k : tie.Need-add-k Inv-loop μ-loop
 add-k c = search needs
@@ -104,15 +124,12 @@ loop-less c = search needs
 
 loop-again : tie.Need-loop-again Inv-loop μ-loop
 loop-again c =
-    let a = c .before .before .before .before .before .before .before .before .before .before .before .before .before .before .before .before .before .args in
-    let l = c .before .before .before .before .before .before .before .before .before .before .before .before .before .loop in
-    let n = next-flow _ _ _ _ _ (c .before .before .before .before .before .before .before .before .before .before .before .before .before .before .before .before .before .pre) (c .before .before .before .before .before .before .before .before .before .before .before .before .before .loop .k) (c .before .before .before .before .before .before .before .before .before .before .before .wide .result) (c .before .before .before .before .before .before .before .before .before .before .before .before .loop-test .taken) (c .before .before .before .before .before .before .before .before .before .before .before .wide .ensures .0) in
+    let w = served (c .before .before .before .before .before .before .before) in
+    let n = next w in
+    let l = turn w .loop in
     let rows = l .inv .3 .0 in
-    let st = l .inv .3 .1 in
-    let d =
-    subst (λ (w : Placed). FlowPlaced (bookOf (a .book .now)) (c .before .before .before .before .before .before .before .before .before .before .before .wide .result) rows (a .work .now) (l .out) (l .next) (c .before .before .before .before .before .before .before .place-flow .last .1 .0) (c .before .before .before .before .before .before .before .place-flow .last .1 .1 .0) w) (c .before .end .given .1)
-    (c .before .before .before .before .before .before .before .place-flow .ensures rows (a .work .now) (st .first .area-used) (λ t. omega (arith, st .within t, c .before .before .before .before .before .before .before .before .before .before .before .before .before .before .before .before .before .pre .indexed .processors))) in
-    (omega arith, search needs, search needs, (rows ++ newRows (bookOf (a .book .now)) (c .before .before .before .before .before .before .before .before .before .before .before .wide .result) rows, goes-on _ (l .k) _ rows _ _ _ _ _ _ (n .below) (n .served) st (n .few-flows) _ _ _ _ d))
+    let d = placed (c .before .before .before .before .before .before .before) _ (c .before .end .given .1) in
+    (omega arith, search needs, search needs, (rows ++ newRows (bookOf (start (turn w) .args .book .now)) (w .wide .result) rows, goes-on _ (l .k) _ rows _ _ _ _ _ _ (n .below) (n .served) (l .inv .3 .1) (n .few-flows) _ _ _ _ d))
 
 same-length-3 : tie.Need-same-length-3 Inv-loop μ-loop
 same-length-3 c = search needs
@@ -128,28 +145,5 @@ returns-2 c =
 pub place-first-spec : {M : Type 1} → statement M
 place-first-spec =
     tie.close
-    (tie.spec
-    Inv-loop
-    μ-loop
-    mul-next
-    add-next
-    loop-holds
-    array-read-flow
-    wide-requires
-    mul-start
-    element-copy-out-start
-    place-flow-requires
-    enum-known-end
-    enum-told
-    same-length
-    same-length-2
-    returns
-    cast-finish
-    mul-finish
-    array-write-finish
-    add-k
-    loop-less
-    loop-again
-    same-length-3
-    same-length-4
-    returns-2)
+    (tie.spec Inv-loop μ-loop mul-next add-next loop-holds array-read-flow wide-requires mul-start element-copy-out-start place-flow-requires enum-known-end enum-told
+    same-length same-length-2 returns cast-finish mul-finish array-write-finish add-k loop-less loop-again same-length-3 same-length-4 returns-2)
