@@ -34,7 +34,7 @@ use Rattle.table_check.specs.declared.walk.FlowStop.{FlowStop}
 use Rattle.table_check.specs.Tests.{rowFrom, serviceKey, placeOf, places, rowKey, leastKey, earlyNumber, offFault}
 use Rattle.table_check.specs.Tally.{CurrentFlow, rowsTo, Reached}
 use Rattle.table_check.specs.Walk.{rowsFault, flowTotals, FlowBegins, WentOn, RowsWalked, totalFaultBy, FlowWalked, Ready, Closed, TableWalked}
-use Rattle.table_check.proofs.TableRows.{row-at, table-length, rows-to}
+use Rattle.table_check.proofs.TableRows.{rows-to, more-rows, row-read, no-more-rows}
 use Rattle.table_check.proofs.Keys.{KeyFits, service-apart, place-below}
 use Rattle.table_check.proofs.RowFaults.{EarlyPassed, flow-unknown, early-fault, early-passed}
 use Rattle.table_check.proofs.Finals.{none-walked, stopped, flow-totals, off-found}
@@ -138,9 +138,6 @@ module _ {book table : List ℕ} {x : Index} {flows : ℕ} {work₀ work off fin
   pub flows-few : flows ≤ 64
   flows-few = omega (arith, between .flows-are, range .flows-most)
 
-  pub row-inside : at < length table → at + 6 ≤ length table
-  row-inside here = omega (arith, table-length b table (between .headed), between .reached .at-is)
-
   -- a fault ends the walk
   module _ (entry : List ℕ) (from : work₀ ≡ workZero slots entry) where
     entry-cleared : (after : List ℕ) → workZero slots after ≡ workZero slots work → workZero slots after ≡ workZero slots entry
@@ -159,7 +156,7 @@ module _ {book table : List ℕ} {x : Index} {flows : ℕ} {work₀ work off fin
     pub table-ends : length table ≤ at → TableWalked (bookOf book) table entry work (record { verdict = Pass; off = off; finish = finish })
     unfolding rowsFault
     table-ends h =
-        let all : k ≡ length rows = omega (arith, table-length b table (between .headed), between .reached .at-is, between .reached .within) in
+        let all : k ≡ length rows = no-more-rows (between .headed) (between .reached) h in
         let whole : take k rows ≡ rows = take-all k rows (omega arith) in
         record {
           verdict = sym (ap (firstFault (rowFault b rows)) (sym all) ∙ between .reached .passed);
@@ -172,22 +169,22 @@ module _ {book table : List ℕ} {x : Index} {flows : ℕ} {work₀ work off fin
 
   -- ---- the row that was read, the first of its flow
   module _ (here : at < length table) (r : Row) (read : rowFrom r ≡ rowAt table at) {f : ℕ} (flow-is : f ≡ r .flow) where
-    more-rows : k < length (tableRows (bookOf book) table)
-    more-rows = omega (arith, table-length b table (between .headed), between .reached .at-is)
+    more : k < length (tableRows (bookOf book) table)
+    more = more-rows (between .headed) (between .reached) here
 
-    row-read : getD (tableRows (bookOf book) table) k noRow ≡ rowFrom r
-    row-read = row-at b table k more-rows ∙ ap (rowAt table) (sym (between .reached .at-is)) ∙ sym read
+    row-here : getD (tableRows (bookOf book) table) k noRow ≡ rowFrom r
+    row-here = row-read (between .headed) (between .reached) here read
 
     row-stops : (entry : List ℕ) → work₀ ≡ workZero slots entry → {n fl jb : ℕ} {v : Verdict} → v ≡ Refused n fl jb → rowFault (bookOf book) (tableRows (bookOf book) table) k ≡ Refused n fl jb →
         TableWalked (bookOf book) table entry work (record { verdict = v; off = off; finish = finish })
     unfolding rowsFault
     row-stops entry from {n} {fl} {jb} v-is e =
         table-stops entry from v-is
-        (v-is ∙ sym (fault-stop (rowFault b rows) (length rows) k (Refused n fl jb) more-rows (not-pass n fl jb) (between .reached .passed) e)) refl
+        (v-is ∙ sym (fault-stop (rowFault b rows) (length rows) k (Refused n fl jb) more (not-pass n fl jb) (between .reached .passed) e)) refl
 
     pub unknown-stops : (entry : List ℕ) → work₀ ≡ workZero slots entry → {v : Verdict} → v ≡ Refused 15 (r .flow) (r .job) → flows ≤ f →
         TableWalked (bookOf book) table entry work (record { verdict = v; off = off; finish = finish })
-    unknown-stops entry from v-is h = row-stops entry from v-is (flow-unknown b rows k (rowFrom r) row-read (omega (arith, between .flows-are, flow-is)))
+    unknown-stops entry from v-is h = row-stops entry from v-is (flow-unknown b rows k (rowFrom r) row-here (omega (arith, between .flows-are, flow-is)))
 
     module _ (in-book : f < flows) {jobs key n : ℕ} (jobs-read : jobs ≡ getD (x .jobs) f 0) (key-read : key ≡ getD (x .deadlines) f 0 * 64 + r .flow)
         (n-is : n ≡ earlyNumber jobs least key (rowFrom r)) where
@@ -206,7 +203,7 @@ module _ {book table : List ℕ} {x : Index} {flows : ℕ} {work₀ work off fin
           go : (key < least) ⊎ (least ≤ key) →
               leb (leastKey (bookOf book) (tableRows (bookOf book) table) k) (serviceKey (bookOf book) (r .flow) * places + placeOf (rowFrom r)) ≡ leb least key
           go (inl l) =
-              let apart : suc key ≡ least → ⊥ = λ e. between .another (r .flow) (fit .flow-fits) more-rows (ap (λ (q : rules.Row). q .flow) row-read) (ap suc (sym key-is) ∙ e) in
+              let apart : suc key ≡ least → ⊥ = λ e. between .another (r .flow) (fit .flow-fits) more (ap (λ (q : rules.Row). q .flow) row-here) (ap suc (sym key-is) ∙ e) in
               let far : suc key < least = go′ (lt-or-ge (suc key) least) apart in
               lt-leb (leastKey b rows k) (serviceKey b (r .flow) * places + placeOf (rowFrom r)) (omega (arith, key-is, between .least-low, place-below (rowFrom r) fit)) ∙ sym (lt-leb least key l)
             where
@@ -224,12 +221,12 @@ module _ {book table : List ℕ} {x : Index} {flows : ℕ} {work₀ work off fin
           TableWalked (bookOf book) table entry work (record { verdict = v; off = off; finish = finish })
       early-stops entry from v-is h =
           row-stops entry from v-is
-          (early-fault b rows k (rowFrom r) row-read range (between .reached .passed) least key n order flow-in n-right h)
+          (early-fault b rows k (rowFrom r) row-here range (between .reached .passed) least key n order flow-in n-right h)
 
       -- the flow's rows come after those so far
       module _ (none : n ≡ 0) where
         early : EarlyPassed (bookOf book) (tableRows (bookOf book) table) k (rowFrom r)
-        early = early-passed b rows k (rowFrom r) row-read range (between .reached .passed) least key n order flow-in n-right none
+        early = early-passed b rows k (rowFrom r) row-here range (between .reached .passed) least key n order flow-in n-right none
 
         key-least : least ≤ key
         key-least = leb-true least key (sym (order (early .fits)) ∙ le-leb (leastKey b rows k) (rowKey b (rowFrom r)) (early .after-least))
@@ -249,8 +246,8 @@ module _ {book table : List ℕ} {x : Index} {flows : ℕ} {work₀ work off fin
           headed = between .headed;
           room = between .room;
           reached = rw (← k-is) (between .reached);
-          more = rw (← k-is) more-rows;
-          own = rw (← k-is) (ap (λ (q : rules.Row). q .flow) row-read ∙ sym flow-is);
+          more = rw (← k-is) more;
+          own = rw (← k-is) (ap (λ (q : rules.Row). q .flow) row-here ∙ sym flow-is);
           ahead = rw (← k-is, flow-is, ← key-is) (omega (arith, between .least-high, key-least));
         }
 

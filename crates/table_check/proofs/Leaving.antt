@@ -19,8 +19,8 @@ use Rattle.table_check.specs.declared.row.Current.{Current}
 use Rattle.table_check.specs.Tests.{rowFrom}
 use Rattle.table_check.specs.Tally.{rowsTo}
 use Rattle.table_check.specs.Walk.{rowsFault, WentOn, RowsWalked}
-use Rattle.table_check.proofs.TableRows.{table-length, rows-to}
-use Rattle.table_check.proofs.Turns.{Going, Lent, row-read}
+use Rattle.table_check.proofs.TableRows.{rows-to, no-more-rows}
+use Rattle.table_check.proofs.Turns.{Going, Lent, row-here}
 
 module _ {book table sizes caps : List ℕ} {c : Current} {from : ℕ} {totals ready work : List ℕ} {bad : Verdict} {least finish at k : ℕ}
     (going : Going book table sizes caps c from totals ready work bad least finish at k) where
@@ -80,8 +80,8 @@ module _ {book table sizes caps : List ℕ} {c : Current} {from : ℕ} {totals r
         }
 
     pub walk-ends : length table ≤ at → RowsWalked (bookOf book) table (c .flow) from entry work totals (record { verdict = bad; next = at; finish = finish })
-    walk-ends h = walk-leaves (λ l e. omega (arith, table-length b table (going .headed), going .reached .at-is))
+    walk-ends h = walk-leaves (λ l e. omega (arith, no-more-rows (going .headed) (going .reached) h))
 
     pub walk-turns : (here : at < length table) (r : Row) → rowFrom r ≡ rowAt table at → (r .flow ≡ c .flow → ⊥) →
         RowsWalked (bookOf book) table (c .flow) from entry work totals (record { verdict = bad; next = at; finish = finish })
-    walk-turns here r read n = walk-leaves (λ l e. n (sym (ap (λ (q : rules.Row). q .flow) (row-read going here r read)) ∙ e))
+    walk-turns here r read n = walk-leaves (λ l e. n (sym (ap (λ (q : rules.Row). q .flow) (row-here going here r read)) ∙ e))

@@ -1,6 +1,6 @@
 -- One turn of the walk over a flow's rows: what holds as it begins, that it holds at the flow's first row, and what the tests 15 to 18 leave of
 -- the row that is read. Assumes nothing.
-use mathlib.Core.Path.{_≡_, refl, sym, ap, _∙_}
+use mathlib.Core.Path.{_≡_, refl, sym, _∙_}
 use Prim.Native.Nat.{ℕ, _+_, _*_, _≤_, _<_}
 use mathlib.Core.Bool.{Bool, true, false}
 use mathlib.Core.List.{List, []}
@@ -27,7 +27,7 @@ use Rattle.table_check.specs.Tests.{rowFrom, serviceKey, placeOf, places
 use Rattle.table_check.specs.Tally.{CurrentFlow, JobsHeld, RowTested, rowsTo, Reached, FlowTally}
 use Rattle.table_check.specs.Walk.{FlowBegins}
 use Rattle.table_check.proofs.TestNumbers.{first-stands, first-passes, first-none}
-use Rattle.table_check.proofs.TableRows.{row-at, table-length}
+use Rattle.table_check.proofs.TableRows.{more-rows, row-read}
 use Rattle.table_check.proofs.Keys.{KeyFits}
 use Rattle.table_check.proofs.SoFar.{SoFar, so-far}
 use Rattle.table_check.proofs.Tallies.{tally-none}
@@ -122,16 +122,10 @@ module _ {book table sizes caps : List ℕ} {c : Current} {from : ℕ} {totals r
   pub known : SoFar (bookOf book) (tableRows (bookOf book) table) k
   known = so-far b range rows k (going .reached .within) (going .reached .passed)
 
-  pub row-inside : at < length table → at + 6 ≤ length table
-  row-inside here = omega (arith, table-length b table (going .headed), going .reached .at-is)
-
-  pub more-rows : at < length table → k < length (tableRows (bookOf book) table)
-  more-rows here = omega (arith, table-length b table (going .headed), going .reached .at-is)
-
   -- ---- the row that was read
   module _ (here : at < length table) (r : Row) (read : rowFrom r ≡ rowAt table at) where
-    pub row-read : getD (tableRows (bookOf book) table) k noRow ≡ rowFrom r
-    row-read = row-at b table k (more-rows here) ∙ ap (rowAt table) (sym (going .reached .at-is)) ∙ sym read
+    pub row-here : getD (tableRows (bookOf book) table) k noRow ≡ rowFrom r
+    row-here = row-read (going .headed) (going .reached) here read
 
     module _ (own : r .flow ≡ c .flow) {t : Tested} (tested : RowTested (bookOf book) (c .flow) work least (rowFrom r) t) where
       flow-in : r .flow < flowCount (bookOf book)
@@ -157,7 +151,7 @@ module _ {book table sizes caps : List ℕ} {c : Current} {from : ℕ} {totals r
       -- 15 and 16 have passed
       module _ (none : earlyNumber (jobCount (flowOf (bookOf book) (c .flow))) least (placeOf (rowFrom r)) (rowFrom r) ≡ 0) where
         early-row : EarlyPassed (bookOf book) (tableRows (bookOf book) table) k (rowFrom r)
-        early-row = early-passed b rows k (rowFrom r) row-read range (going .reached .passed) least (placeOf (rowFrom r)) first by-place flow-in first-right none
+        early-row = early-passed b rows k (rowFrom r) row-here range (going .reached .passed) least (placeOf (rowFrom r)) first by-place flow-in first-right none
 
         used-right : field 2 work (2 * r .slot) ≡ usedIn (take k (tableRows (bookOf book) table)) (r .slot)
         used-right =
@@ -174,10 +168,10 @@ module _ {book table sizes caps : List ℕ} {c : Current} {from : ℕ} {totals r
           go : (u : Bool) → eqb first 0 ≡ u → rowFault (bookOf book) (tableRows (bookOf book) table) k ≡ Refused (t .number) (r .flow) (r .job)
           go true e =
               let none : first ≡ 0 = eqb-true first 0 e in
-              late-fault b rows k (rowFrom r) row-read (early-row none) (field 2 work (2 * r .slot)) (jobOf (flowOf (bookOf book) (c .flow)) (r .job) .cap)
+              late-fault b rows k (rowFrom r) row-here (early-row none) (field 2 work (2 * r .slot)) (jobOf (flowOf (bookOf book) (c .flow)) (r .job) .cap)
               (t .number) (used-right none) (cap-right none) (number-is ∙ first-passes first second none) n
           go false e =
-              early-fault b rows k (rowFrom r) row-read range (going .reached .passed) least (placeOf (rowFrom r)) (t .number) by-place flow-in
+              early-fault b rows k (rowFrom r) row-here range (going .reached .passed) least (placeOf (rowFrom r)) (t .number) by-place flow-in
               (number-is ∙ first-stands first second (eqb-false first 0 e) ∙ first-right) n
 
       pub turn-of : t .number ≡ 0 → Turn (bookOf book) table (c .flow) k (rowFrom r) t
@@ -185,11 +179,11 @@ module _ {book table sizes caps : List ℕ} {c : Current} {from : ℕ} {totals r
       turn-of e =
           let both = first-none first second (sym number-is ∙ e) in
           record {
-            more = more-rows here;
-            row-is = row-read;
+            more = more-rows (going .headed) (going .reached) here;
+            row-is = row-here;
             own = own;
             early = early-row (both .0);
-            late = late-passed b rows k (rowFrom r) row-read (early-row (both .0)) (field 2 work (2 * r .slot))
+            late = late-passed b rows k (rowFrom r) row-here (early-row (both .0)) (field 2 work (2 * r .slot))
                 (jobOf (flowOf (bookOf book) (c .flow)) (r .job) .cap) second (used-right (both .0)) (cap-right (both .0)) refl (both .1);
             used-is = tested .used e ∙ used-right (both .0);
             size-is = tested .size e;

@@ -9,7 +9,8 @@ use Rattle.rules.specs.Book.{flowCount}
 use Rattle.rules.specs.Reading.{bookOf}
 use Rattle.table_check.specs.Tally.{rowsTo}
 use Rattle.table_check.proofs.Finals.{index-flows}
-use Rattle.table_check.proofs.Flows.{Between, between-first, flows-few, row-inside, table-ends, unknown-stops, early-stops, flow-begins, flow-stops, between-next, goes-on}
+use Rattle.table_check.proofs.TableRows.{row-inside}
+use Rattle.table_check.proofs.Flows.{Between, between-first, flows-few, table-ends, unknown-stops, early-stops, flow-begins, flow-stops, between-next, goes-on}
 use Rattle.table_check.proofs.walk.walk_flows.Statement.{statement}
 use Rattle.table_check.proofs.walk.walk_flows.Tie as tie
 
@@ -33,7 +34,7 @@ loop-holds : tie.Need-loop-holds Inv-loop μ-loop
 loop-holds c = between-first (c .before .before .before .before .before .before .before .pre) (c .before .before .clear .ensures)
 
 read-row-requires : tie.Need-read-row-requires Inv-loop μ-loop
-read-row-requires c κs = row-inside (c .before .loop .inv) (c .loop-test .taken)
+read-row-requires c κs = let l = c .before .loop .inv in row-inside (l .headed) (l .reached) (c .loop-test .taken)
 
 wide-requires : tie.Need-wide-requires Inv-loop μ-loop
 wide-requires c κs = tt

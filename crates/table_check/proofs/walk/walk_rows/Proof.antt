@@ -5,7 +5,8 @@ use Prim.Native.Nat.{_-_}
 use lib.ListN.{length}
 use Rattle.rules.specs.Reading.{bookOf}
 use Rattle.table_check.specs.Tally.{rowsTo}
-use Rattle.table_check.proofs.Turns.{Going, Lent, going-first, lent-first, row-inside, more-rows, test-stops, turn-of}
+use Rattle.table_check.proofs.Turns.{Going, Lent, going-first, lent-first, test-stops, turn-of}
+use Rattle.table_check.proofs.TableRows.{row-inside, more-rows}
 use Rattle.table_check.proofs.Counting.{job-in, slot-in, countable, lent-next, going-next}
 use Rattle.table_check.proofs.Asking.{Asking, asking-first, asks-few, asking-next, asking-stops, asking-ends}
 use Rattle.table_check.proofs.Leaving.{walk-stops, walk-ends, walk-turns}
@@ -35,7 +36,7 @@ rows-holds c =
     (going-first (p .0) (p .1) (omega (arith, s .good .1 .0)) (p .2) (p .3), lent-first _ _ _)
 
 read-row-requires : tie.Need-read-row-requires Inv-loop μ-loop Inv-rows μ-rows
-read-row-requires c κs = row-inside (c .before .rows .inv .0) (c .rows-test .taken)
+read-row-requires c κs = let g = c .before .rows .inv .0 in row-inside (g .headed) (g .reached) (c .rows-test .taken)
 
 wide-requires : tie.Need-wide-requires Inv-loop μ-loop Inv-rows μ-rows
 wide-requires c κs = tt
@@ -100,7 +101,7 @@ add-least : tie.Need-add-least Inv-loop μ-loop Inv-rows μ-rows
 add-least c = omega (arith, c .place-of .ensures .1)
 
 add-at : tie.Need-add-at Inv-loop μ-loop Inv-rows μ-rows
-add-at c = let a = c .before .before .before .before .before .before .before .before .before .before .before .before .before .loop .inv in omega (arith, row-inside (a .going) (a .here), a .going .table-fits)
+add-at c = let a = c .before .before .before .before .before .before .before .before .before .before .before .before .before .loop .inv in omega (arith, row-inside (a .going .headed) (a .going .reached) (a .here), a .going .table-fits)
 
 rows-less : tie.Need-rows-less Inv-loop μ-loop Inv-rows μ-rows
 rows-less c = omega (arith, c .before .before .before .before .before .before .before .before .before .before .before .before .before .loop .inv .here)
@@ -155,7 +156,7 @@ returns-3 c =
     let read = own .before .before .before in
     let inv = read .before .before .rows .inv in
     let here = read .before .rows-test .taken in
-    walk-stops (inv .0) (inv .1) (more-rows (inv .0) here) (c .refused .ensures)
+    walk-stops (inv .0) (inv .1) (more-rows (inv .0 .headed) (inv .0 .reached) here) (c .refused .ensures)
     (test-stops (inv .0) here (read .read-row .result) (read .read-row .ensures) (sym (own .before .before .wide .ensures .0) ∙ own .if1 .left) (tested .test-row .ensures)
     (c .before .if2 .taken))
 
