@@ -6,7 +6,6 @@ use mathlib.Core.Path.{_≡_, refl, sym, ap, _∙_, subst}
 use mathlib.Core.Logic.{_⊎_, inl, inr}
 use mathlib.Core.Bool.{Bool, true, false, _&&_, and-false}
 use Prim.Native.Nat.{ℕ, zero, suc, _+_, _/_, _%_, _^_, _≤_, _<_}
-use native.Mathlib.Nat.{div-eq-of-lt, pow-le-pow-right}
 use native.Mathlib.Omega.{arith}
 use mathlib.Core.List.{List, _∷_, _++_, List·Memᴰ·cases-cons}
 use lib.ListN.{length, take, drop, getD}
@@ -20,6 +19,7 @@ use Rattle.rules.specs.Rows.{Row, sumWhere, usedIn, isOf, totalOf, doneB
 use Rattle.rules.specs.Schedule.{Schedule, everyFlow, IsJob, inUse, Valid, InSlots, scheduleOf, scheduleRows}
 use Rattle.rules.specs.Check.{noRow}
 use Rattle.rules.proofs.Division.{lt-or-ge}
+use Rattle.rules.proofs.Bits.{left-below}
 use Rattle.rules.proofs.Sums.{sum-ext, sum-quiet}
 use Rattle.rules.proofs.Rising.{_∈_, at-in, in-at, Rising, rising-after}
 use Rattle.rules.proofs.RowOrder.{Before, before-slot, rises-rising, rising-rises}
@@ -30,14 +30,7 @@ use Rattle.rules.proofs.TablePasses.{PredecessorsDone, RowPasses, RowsP
 -- a bit of a number below 2 ^ i is one of the lowest i
 bit-below : (p i k : ℕ) → p < 2 ^ i → hasBit p k ≡ true → k < i
 unfolding hasBit
-bit-below p i k l e = go (lt-or-ge k i)
-  where
-    go : (k < i) ⊎ (i ≤ k) → k < i
-    go (inl h) = h
-    go (inr h) =
-        let none : p / 2 ^ k ≡ 0 = div-eq-of-lt (omega (arith, pow-le-pow-right {n = 2} (omega arith) h)) in
-        let one : p / 2 ^ k % 2 ≡ 1 = eqb-true (p / 2 ^ k % 2) 1 e in
-        absurd (omega arith)
+bit-below p i k l e = left-below p (p / 2 ^ k) k refl i l (λ none. omega (arith, eqb-true (p / 2 ^ k % 2) 1 e))
 
 -- a predecessor is a job with a lower number
 pub predecessor-below : (b : Book) → InRange b → (f i k : ℕ) → f < flowCount b → i < jobCount (flowOf b f) → precedes (flowOf b f) k i ≡ true → k < i
