@@ -1,7 +1,8 @@
 -- Rows that pass the check are those of a valid schedule, and the rows of every valid schedule within the slots pass.
--- The first: each row keeps its cap; the use of a slot grows row by row and never passes P; a job's rows before a slot sum to what it has
--- before that slot; a predecessor has its size by the rows so far, so it has it by all rows, which have no more. The second: rows so far are
--- fewer than all rows, except of one flow in earlier slots, where they are all rows, since the rows of a flow stand by slot. Assumes nothing.
+-- The first: each row keeps its cap and its flow's release; the use of a slot grows row by row and never passes P; a job's rows before a slot
+-- sum to what it has before that slot; a predecessor has its size by the rows so far, so it has it by all rows, which have no more. The second:
+-- rows so far are fewer than all rows, except of one flow in earlier slots, where they are all rows, since the rows of a flow stand by slot.
+-- Assumes nothing.
 use mathlib.Core.Path.{_≡_, refl, sym, ap, _∙_, subst}
 use mathlib.Core.Logic.{_⊎_, inl, inr}
 use mathlib.Core.Bool.{Bool, true, false, _&&_, and-false}
@@ -134,6 +135,18 @@ module _ (b : Book) (range : InRange b) (rows : List Row) (pass : RowsPass b row
         pass .totals f k (j .flow-in) (omega (arith, below, j .job-in)),
       )
 
+  row-released : {r : Row} → r ∈ rows → flowOf b (r .flow) .release ≤ r .slot
+  row-released m =
+      let w = row-at m in
+      subst (λ q. flowOf b (q .flow) .release ≤ q .slot) (w .2) (w .1 .released)
+
+  before-release : (f i t : ℕ) → t < flowOf b f .release → scheduleOf rows f i t ≡ 0
+  before-release f i t l =
+      schedule-none rows f i t
+      (λ r m at-r.
+      let from = rw (at-r .of-flow) at (row-released m) in
+      omega (arith, from, at-r .of-slot))
+
   pub passing-valid : Valid b everyFlow (scheduleOf rows)
   passing-valid = record {
     no-others = λ f i t n. schedule-none rows f i t (λ r m at-r. n (only-jobs f i t r m at-r));
@@ -143,6 +156,7 @@ module _ (b : Book) (range : InRange b) (rows : List Row) (pass : RowsPass b row
     nothing-after = slot-in;
     sizes = λ f i j. sum-schedule rows f i slots ∙ total-by rows f i slots (λ r m. passing-is-row r m .slot-in) ∙ pass .totals f i (j .flow-in) (j .job-in);
     precedence = predecessor-done;
+    releases = λ f i t j. before-release f i t;
   }
 
   pub passing-in-slots : InSlots (scheduleOf rows)
@@ -227,6 +241,8 @@ module _ (b : Book) (range : InRange b) (σ : Schedule) (valid : Valid b everyFl
       let o = schedule-rows-in b σ r (at-in rows k noRow l) in
       let j = row-is-job b r (o .is-row .in-book) in
       let given-some : 0 < σ (r .flow) (r .job) (r .slot) = omega (arith, o .given-there, o .is-row .takes) in
+      let not-early : r .slot < flowOf b (r .flow) .release → ⊥ =
+      λ early. omega (arith, given-some, valid .releases (r .flow) (r .job) (r .slot) j early) in
       record {
         slot-in = o .is-row .slot-in;
         flow-in = j .flow-in;
@@ -235,6 +251,7 @@ module _ (b : Book) (range : InRange b) (σ : Schedule) (valid : Valid b everyFl
         comes-after = rising-rises b rows (schedule-rows-rising b σ) k l;
         cap-kept = omega (arith, o .given-there, valid .caps (r .flow) (r .job) (r .slot) j);
         processors-kept = omega (arith, used-so-far rows k l, used-given (r .slot), valid .together (r .slot));
+        released = omega (arith, not-early);
         predecessors-done = λ i m p.
             omega (
               arith,

@@ -29,7 +29,7 @@ use Rattle.rules.proofs.ScheduleRows.{row-is-job, schedule-rows-in, sch
 use Rattle.rules.proofs.TableBytes.{RowFits, table-rows-written, head-written, finish-written, table-read}
 use Rattle.rules.proofs.TablePasses.{RowsPass, table-passes, passes-table}
 use Rattle.rules.proofs.AcceptedRows.{passing-rows, passing-valid, passing-in-slots, valid-passes}
-use Rattle.rules.proofs.Refusals.{Numbered, table-numbered}
+use Rattle.rules.proofs.Refusals.{Numbered, ofTable, table-numbered}
 
 -- ---- the table of a valid schedule passes
 module _ (b : Book) (range : InRange b) (σ : Schedule) (valid : Valid b everyFlow σ) (within : InSlots σ) where
@@ -83,11 +83,11 @@ rows-accepted b range rows same valid within = (
 -- ---- an outcome that accepts
 -- number 0 is that of a table without a fault
 module _ (b : Book) (s area : List ℕ) where
-  outcome-accepts : (v : Verdict) → Numbered 14 21 v → checkOutcome b s area v .answer .number ≡ 0 →
+  outcome-accepts : (v : Verdict) → Numbered ofTable v → checkOutcome b s area v .answer .number ≡ 0 →
       (v ≡ Pass) × (checkOutcome b s area v .answer .late ≡ lateFlows b (tableRows b s))
   unfolding checkOutcome
   outcome-accepts Pass h e = (refl, refl)
-  outcome-accepts (Refused n f j) h e = absurd (omega (arith, h .bounds n f j refl))
+  outcome-accepts (Refused n f j) h e = absurd (omega (arith, h .among n f j refl .0))
 
   reading-accepts : checkReading s area (read b) .answer .number ≡ 0 →
       (tableFault b s ≡ Pass) × (checkReading s area (read b) .answer .late ≡ lateFlows b (tableRows b s))

@@ -34,7 +34,7 @@ unread-number s n f j = go (bookFault s) refl
   where
     go : (v : Verdict) → bookFault s ≡ v → readingOf v (bookOf s) ≡ unread n f j → 1 ≤ n
     go Pass q e = absurd (let z : _≡_ {A = ℕ} 0 1 = cc in omega arith)
-    go (Refused m g i) q e = let d : m ≡ n = cc in omega (arith, book-numbered s .bounds m g i q .0)
+    go (Refused m g i) q e = let d : m ≡ n = cc in omega (arith, book-numbered s .among m g i q .0)
 
 module _ (book out area other : List ℕ) (long : workBytes ≤ length other) where
   -- the outcome's table is accepted, if its number is 0

@@ -20,7 +20,7 @@ use Rattle.rules.specs.Cut.{amongFirst, keepFlows, cut}
 use Rattle.rules.proofs.Sums.{sum-ext, sum-add, sum-first, count-none, count-most, count-equal, bit-or}
 use Rattle.rules.proofs.Walks.{next-start, any-true, any-met}
 use Rattle.rules.proofs.ServiceOrder.{Earlier, served-earlier, earlier-served, service-below, service-position, service-sorted, service-once, servedAt, SortedTo, EachIn, sorted-agree}
-use Rattle.rules.proofs.RoundTrip.{read-written}
+use Rattle.rules.proofs.RoundTrip.{Writable, read-written}
 
 -- ---- the numbers that pass a test
 -- of the n numbers from s on, those that pass a test
@@ -182,9 +182,16 @@ module _ (b : Book) (k : ℕ) where
     each-flow = λ f l. rw (cut-flow f l, cut-processors) (r .each-flow (kept b k f) (kept-below f l));
   }
 
--- "a book of its own"
-pub cut-reads : (b : Book) (k : ℕ) → InRange b → readBook (bookBytes (cut b k)) ≡ read (cut b k)
-cut-reads b k r = read-written (cut b k) (cut-in-range b k r)
+  -- its releases fit where those of the whole book do
+  pub cut-writable : (v : ℕ) → Writable v b → Writable v (cut b k)
+  cut-writable v can = record {
+    version-known = can .version-known;
+    release-fits = λ f l. rw (cut-flow f l) (can .release-fits (kept b k f) (kept-below f l));
+  }
+
+-- "a book of its own", which keeps its version
+pub cut-reads : (v : ℕ) (b : Book) (k : ℕ) → InRange b → Writable v b → readBook (bookBytes v (cut b k)) ≡ read (cut b k)
+cut-reads v b k r can = read-written v (cut b k) (cut-in-range b k r) (cut-writable b k v can)
 
 -- ---- how many flows are kept
 -- the flows among the first k are those at the positions below k

@@ -13,7 +13,7 @@ use Rattle.rules.specs.Walks.{if_then_else_}
 use Rattle.rules.specs.Answers.{none, planAccepted, planRefused}
 use Rattle.rules.specs.Limits.{slots, workBytes}
 use Rattle.rules.specs.Book.{Book, InRange}
-use Rattle.rules.specs.Reading.{read, readBook, bookBytes}
+use Rattle.rules.specs.Reading.{versionOf, read, readBook, bookBytes}
 use Rattle.rules.specs.Rows.{Row, lateFlows, workUsed, workZero}
 use Rattle.rules.specs.Placing.{Plan, planned, infeasible, rowsOf, plan}
 use Rattle.rules.specs.Table.{tableLength, tableBytes}
@@ -21,6 +21,7 @@ use Rattle.rules.specs.Planner.{planOutcome, planReading, planCall}
 use Rattle.rules.specs.Cut.{cut}
 use Rattle.rules.specs.Demands.{PlannerOwes, PlannedWell, Demand3}
 use Rattle.rules.proofs.Passing.{read-in-range}
+use Rattle.rules.proofs.Versions.{read-writable}
 use Rattle.rules.proofs.CutBook.{cut-in-range, cut-reads}
 use Rattle.rules.proofs.Demand3Values.{planned-well, infeasible-proves}
 
@@ -90,4 +91,5 @@ pub demand-3 : Demand3
 unfolding Demand3
 demand-3 book b e k l out area h =
     let range : InRange b = read-in-range book b e in
-    owed-of-call (cut b k) (cut-in-range b k range) out area (bookBytes (cut b k)) (cut-reads b k range) h
+    let can = read-writable book b e in
+    owed-of-call (cut b k) (cut-in-range b k range) out area (bookBytes (versionOf book) (cut b k)) (cut-reads (versionOf book) b k range can) h

@@ -38,12 +38,13 @@ pub on-time-plan : (b : Book) → InRange b → (rows : List Row) → plan b ≡
     (σ : Schedule) × Valid b everyFlow σ × ((f : ℕ) → f < flowCount b → EndsBy σ f (flowOf b f .deadline))
 on-time-plan b range rows e h = (scheduleOf rows, planned-valid b range rows e, λ f l. finish-ends rows f (flowOf b f .deadline) (h f l))
 
--- the flow at place n of the service order, while work of it is left: fewer slots have passed than its path and the area of the flows up to it
+-- the flow at place n of the service order, while work of it is left: since its release fewer slots have passed than its path and the area
+-- of the flows up to it
 pub quote : (b : Book) → InRange b → (n : ℕ) (earlier : List Row) → n < flowCount b → placeFirst b n ≡ planned earlier → (t : ℕ) →
-    0 < unitsLeftAt (servedFlow b n) (freeFor b n) t → t < path (servedFlow b n) + worksUpTo (servedFlow b) (suc n) / b .processors
+    0 < unitsLeftAt (servedFlow b n) (freeFor b n) t → t < servedFlow b n .release + path (servedFlow b n) + worksUpTo (servedFlow b) (suc n) / b .processors
 quote b range = quote-at b range
 
 -- so its finish is within that
 pub planned-finish-within-quote : (b : Book) → InRange b → (rows : List Row) → plan b ≡ planned rows → (n : ℕ) → n < flowCount b →
-    finishOf rows (servedAt b n) ≤ path (servedFlow b n) + worksUpTo (servedFlow b) (suc n) / b .processors
+    finishOf rows (servedAt b n) ≤ servedFlow b n .release + path (servedFlow b n) + worksUpTo (servedFlow b) (suc n) / b .processors
 planned-finish-within-quote b range rows e n l = first-finish-within-quote b range (flowCount b) rows (omega arith) (all-placed b range rows e) n l

@@ -20,6 +20,7 @@ use Rattle.rules.proofs.Refusals.{demand-1}
 use Rattle.rules.proofs.AcceptsExactly.{accepts-exactly}
 use Rattle.rules.proofs.Demand3.{demand-3}
 use Rattle.rules.proofs.AcceptsPlans.{accepts-plans}
+use Rattle.rules.proofs.Versions.{version-1-kept}
 
 module _ (b : Book) (out area : List ℕ) where
   abbrev Writes : PlanOutcome → Type 0
@@ -65,4 +66,5 @@ demands = record {
   accepts-exactly = accepts-exactly;
   planned-or-infeasible = demand-3;
   accepts-plans = accepts-plans;
+  version-1-kept = version-1-kept;
 }

@@ -7,10 +7,10 @@ use Prim.Native.Nat.{ℕ, zero, suc, _+_, _*_, _-_, _/_, _≤_, _<_, min}
 use mathlib.Core.Bool.{Bool, true, false}
 use mathlib.Core.List.{List, [], _∷_}
 use mathlib.Core.Logic.{_⊎_, inl, inr}
-use native.Mathlib.Nat.{mul-pos, mul-le-mul-left, lt-div-mul-add}
+use native.Mathlib.Nat.{mul-pos, mul-le-mul-left, lt-div-mul-add, lt-suc-self}
 use native.Mathlib.Omega.{arith}
 use lib.Dec.{ltb, eqb}
-use borrow.Author.Tests.{eqb-true, eqb-false, ltb-true, ltb-false}
+use borrow.Author.Tests.{eqb-true, eqb-false, ne-eqb, ltb-true, ltb-false}
 use Rattle.rules.specs.Walks.{if_then_else_, sumTo, bit, countTo}
 use Rattle.rules.specs.Book.{Flow}
 use Rattle.rules.specs.Ideal.{quotientUp}
@@ -105,6 +105,14 @@ module _ (w : Flow) where
   after-underway (p ∷ ps) done free u =
       after-slot (Underway w) p ps done free (omega (arith, u .0)) (λ e. fresh-underway ps (u .1 .1)) (λ l. (l, u .1))
 
+  -- a slot with nothing free leaves the chain where it stands
+  after-idle : (ps : List PseudoJob) (done : ℕ) → Underway w ps done → afterSlot w ps done 0 ≡ record { left = ps; done = done }
+  unfolding afterSlot given
+  after-idle [] done u = refl
+  after-idle (p ∷ ps) done u =
+      let nothing : done + min (rate w p) (min (work w p - done) 0) ≡ done = omega arith in
+      rw (nothing, ne-eqb done (work w p) (λ e. omega (arith, u .0))) refl
+
   -- nothing is lost
   after-units : (ps : List PseudoJob) (done free : ℕ) → Underway w ps done →
       givenTo w ps done free + unitsLeft w (afterSlot w ps done free .left) (afterSlot w ps done free .done) ≡ unitsLeft w ps done
@@ -170,6 +178,13 @@ module _ (w : Flow) (free : ℕ → ℕ) (live : Live w (chain w)) where
   unfolding progress
   underway zero = fresh-underway w (chain w) live
   underway (suc t) = after-underway w (progress w free t .left) (progress w free t .done) (free t) (underway t)
+
+  -- where nothing is free in the first n slots, the flow has not begun after them
+  pub not-begun : (n : ℕ) → ((t : ℕ) → t < n → free t ≡ 0) → progress w free n ≡ record { left = chain w; done = 0 }
+  unfolding progress
+  not-begun zero none = refl
+  not-begun (suc n) none =
+      rw (not-begun n (λ t l. none t (omega arith)), none n (lt-suc-self n)) (after-idle w (chain w) 0 (fresh-underway w (chain w) live))
 
   -- no units are left where no pseudo-job is left, and only there
   pub nothing-left : (t : ℕ) → unitsLeftAt w free t ≡ 0 → progress w free t .left ≡ []

@@ -1,6 +1,8 @@
 -- A book that rule 6 calls infeasible: no schedule of the flow named and those before it is on time, whoever made it.
 -- The refusal over sequences of flows is read with the flows in service order; flows that differ share the processors of a slot, so a schedule
--- of the book is one of the sequence. The same bound, divided by P, says when a planned flow ends at the latest. Assumes nothing.
+-- of the book is one of the sequence. On time, a flow has its path between release and deadline, and the work up to it fits P processors
+-- over the slots before the deadline; by twice the deadline as many slots have passed since the release as both take together. The same bound,
+-- divided by P, says when a planned flow ends at the latest. Assumes nothing.
 use mathlib.Core.Path.{_≡_, refl, ap, _∙_}
 use Prim.Native.Nat.{ℕ, suc, _+_, _-_, _/_, _≤_, _<_}
 use mathlib.Core.Bool.{Bool, true, false, _||_}
@@ -16,31 +18,32 @@ use Rattle.rules.specs.Ideal.{path}
 use Rattle.rules.specs.Service.{servedBefore}
 use Rattle.rules.specs.Rows.{Row, usedIn, finishOf}
 use Rattle.rules.specs.Schedule.{Schedule, IsJob, inUse, Valid, EndsBy, scheduleOf}
-use Rattle.rules.specs.Placing.{progress, freeProcessors, slotsFor, planned, placeFirst, rowsOf}
+use Rattle.rules.specs.Placing.{progress, usable, slotsFor, planned, placeFirst}
 use Rattle.rules.specs.Demands.{upTo, NoneOnTime}
 use Rattle.rules.proofs.Division.{lt-or-ge}
 use Rattle.rules.proofs.Sums.{count-all, sum-quiet, sum-distinct}
 use Rattle.rules.proofs.Walks.{last-or}
 use Rattle.rules.proofs.PseudoJobs.{chain-live}
 use Rattle.rules.proofs.ServiceOrder.{service-below, service-sorted, service-once, service-deadlines}
+use Rattle.rules.proofs.Usable.{usable-from, released, count-usable, free-from-release}
 use Rattle.rules.proofs.Greedy.{unitsLeftAt, something-left, nothing-left}
 use Rattle.rules.proofs.Necessity.{Keeps, CompleteBy, worksUpTo, OnTime}
 use Rattle.rules.proofs.Refusal.{refusal, quote-bound}
 use Rattle.rules.proofs.RowSums.{ends-finish}
 use Rattle.rules.proofs.PlacedFlow.{shareTo}
 use Rattle.rules.proofs.PlannedRows.{servedAt, servedFlow, freeFor, plannedShare, Stopped, placed-earlier, states-share, states-none-of-flow}
-use Rattle.rules.proofs.PlannedValid.{sized-at, used-within-work, first-rows-fit}
+use Rattle.rules.proofs.PlannedValid.{range-at, sized-at, used-within-work, first-rows-fit}
 
--- every slot is usable
+-- every slot is open to some flow
 abbrev pub everySlot : ℕ → Bool
 everySlot t = true
 
 module _ (b : Book) (range : InRange b) where
-  -- the processors free for the flow at a place, and those that the flows before it use, are P
-  free-or-used : (n : ℕ) (earlier : List Row) → placeFirst b n ≡ planned earlier → (t : ℕ) → b .processors ≤ usedIn earlier t + freeFor b n t
-  free-or-used n earlier e t =
-      let free : freeFor b n t ≡ b .processors - usedIn earlier t = unfold freeProcessors in ap (λ q. b .processors - usedIn (rowsOf q) t) e in
-      omega arith
+  -- in a slot that the flow at a place can use, the processors free for it and those that the flows before it use are P
+  free-or-used : (n : ℕ) (earlier : List Row) → placeFirst b n ≡ planned earlier → (t : ℕ) → usable (servedFlow b n) t ≡ true →
+      b .processors ≤ usedIn earlier t + freeFor b n t
+  free-or-used n earlier e t u =
+      rw e (omega (arith, free-from-release b (servedAt b n) earlier t (released (servedFlow b n) t u)))
 
   -- ---- a schedule of the flows up to f, at place n, that ends each by its deadline
   module _ (n f : ℕ) (below : n < flowCount b) (at : servedAt b n ≡ f) (σ : Schedule) (valid : Valid b (upTo b f) σ)
@@ -62,10 +65,17 @@ module _ (b : Book) (range : InRange b) where
     is-job : (m i : ℕ) → m < suc n → i < jobCount (servedFlow b m) → IsJob b (upTo b f) (servedAt b m) i
     is-job m i l a = record { flow-among = up-to-at m l; flow-in = service-below b m (omega arith); job-in = a }
 
-    keeps-rules : (m : ℕ) → m < suc n → Keeps (servedFlow b m) everySlot (σ (servedAt b m))
+    in-released : (m i t : ℕ) → m < suc n → i < jobCount (servedFlow b m) → 0 < σ (servedAt b m) i t → usable (servedFlow b m) t ≡ true
+    in-released m i t l a g = go (lt-or-ge t (servedFlow b m .release))
+      where
+        go : (t < servedFlow b m .release) ⊎ (servedFlow b m .release ≤ t) → usable (servedFlow b m) t ≡ true
+        go (inl c) = absurd (omega (arith, valid .releases (servedAt b m) i t (is-job m i l a) c))
+        go (inr c) = usable-from (servedFlow b m) t c
+
+    keeps-rules : (m : ℕ) → m < suc n → Keeps (servedFlow b m) (usable (servedFlow b m)) (σ (servedAt b m))
     keeps-rules m l = record {
       capped = λ i t a. valid .caps (servedAt b m) i t (is-job m i l a);
-      in-usable = λ i t a g. refl;
+      in-usable = λ i t. in-released m i t l;
       in-order = λ i k t a c q g. omega (arith, valid .precedence (servedAt b m) i k t (is-job m i l a) q g);
     }
 
@@ -83,7 +93,7 @@ module _ (b : Book) (range : InRange b) where
         λ t. (unfold EndsBy in on-time (servedAt b m) (service-below b m (omega arith)) (up-to-at m l) i t) in
         omega (arith, valid .sizes (servedAt b m) i (is-job m i l a), sum-quiet (σ (servedAt b m) i) (servedFlow b m .deadline) (valid .horizon) quiet)
 
-    pub sequence-on-time : OnTime (b .processors) (suc n) (servedFlow b) (λ m. everySlot) (λ m. servedFlow b m .deadline) (λ m. σ (servedAt b m))
+    pub sequence-on-time : OnTime (b .processors) (suc n) (servedFlow b) (λ m. usable (servedFlow b m)) (λ m. servedFlow b m .deadline) (λ m. σ (servedAt b m))
     sequence-on-time = record { keeps = keeps-rules; load = shares-load; complete = ends-complete }
 
   -- the flow at place n, with work left after twice its deadline
@@ -91,11 +101,18 @@ module _ (b : Book) (range : InRange b) where
       0 < unitsLeftAt (servedFlow b n) (freeFor b n) (slotsFor (servedFlow b n)) → NoneOnTime b (servedAt b n)
   unfolding NoneOnTime
   none-on-time n earlier below e left σ valid on-time =
-      refusal (b .processors) n (servedFlow b) (λ m. everySlot) (freeFor b n) (usedIn earlier) (sized-at b range n below)
-      (λ t q. free-or-used n earlier e t) (used-within-work b range n earlier (omega arith) e)
-      (slotsFor (servedFlow b n)) everySlot (λ m. servedFlow b m .deadline) (λ m t l q. q)
+      refusal (b .processors) n (servedFlow b) (λ m. usable (servedFlow b m)) (freeFor b n) (usedIn earlier) (sized-at b range n below)
+      (free-or-used n earlier e) (used-within-work b range n earlier (omega arith) e)
+      (slotsFor (servedFlow b n)) everySlot (λ m. servedFlow b m .deadline) (λ m t l q. refl)
       (λ m l. service-deadlines b m n (omega arith) below)
-      (omega (arith, count-all (servedFlow b n .deadline), count-all (slotsFor (servedFlow b n)))) left
+      (omega (
+        arith,
+        count-all (servedFlow b n .deadline),
+        count-usable (servedFlow b n) (servedFlow b n .deadline),
+        count-usable (servedFlow b n) (slotsFor (servedFlow b n)),
+        range-at b range n below .release-below,
+      ))
+      left
       (λ m. σ (servedAt b m)) (sequence-on-time n (servedAt b n) below refl σ valid on-time)
 
   -- a flow that stops the placing
@@ -107,20 +124,20 @@ module _ (b : Book) (range : InRange b) where
       (rw (s .served) at (service-below b n (s .place-below)), rw (s .served) at (none-on-time n (s .earlier) (s .place-below) (s .placed-before) left))
 
   -- ---- the quote
-  -- while work is left: the slots before t are fewer than the path and the area of the flows up to it
+  -- while work is left: the slots from the release to t are fewer than the path and the area of the flows up to it
   pub quote-at : (n : ℕ) (earlier : List Row) → n < flowCount b → placeFirst b n ≡ planned earlier → (t : ℕ) →
-      0 < unitsLeftAt (servedFlow b n) (freeFor b n) t → t < path (servedFlow b n) + worksUpTo (servedFlow b) (suc n) / b .processors
+      0 < unitsLeftAt (servedFlow b n) (freeFor b n) t → t < servedFlow b n .release + path (servedFlow b n) + worksUpTo (servedFlow b) (suc n) / b .processors
   quote-at n earlier below e t left =
       omega (
         arith,
-        count-all t,
-        quote-bound (b .processors) n (servedFlow b) (λ m. everySlot) (freeFor b n) (usedIn earlier) (sized-at b range n below)
-            (λ u q. free-or-used n earlier e u) (used-within-work b range n earlier (omega arith) e) (range .processors-least) t left,
+        count-usable (servedFlow b n) t,
+        quote-bound (b .processors) n (servedFlow b) (λ m. usable (servedFlow b m)) (freeFor b n) (usedIn earlier) (sized-at b range n below)
+            (free-or-used n earlier e) (used-within-work b range n earlier (omega arith) e) (range .processors-least) t left,
       )
 
   -- the slots within which the flow at place n ends at the latest
   abbrev pub quoteFor : ℕ → ℕ
-  quoteFor n = path (servedFlow b n) + worksUpTo (servedFlow b) (suc n) / b .processors
+  quoteFor n = servedFlow b n .release + path (servedFlow b n) + worksUpTo (servedFlow b) (suc n) / b .processors
 
   module _ (k : ℕ) (rows : List Row) (h : k ≤ flowCount b) (e : placeFirst b k ≡ planned rows) (n : ℕ) (l : n < k) where
     after-quote : (t : ℕ) → quoteFor n ≤ t → progress (servedFlow b n) (freeFor b n) t .left ≡ []

@@ -16,6 +16,7 @@ pub mod Fields
 -- the reading of books
 pub mod Passing
 pub mod RoundTrip
+pub mod Versions
 pub mod ServiceOrder
 pub mod CutBook
 -- rules 1 to 3 and 5
@@ -31,6 +32,7 @@ pub mod FlowRows
 pub mod RowsSoFar
 pub mod WorkArea
 -- placing, what it guarantees, and what a refusal proves
+pub mod Usable
 pub mod Greedy
 pub mod Necessity
 pub mod Refusal

@@ -1,4 +1,5 @@
--- The marked plans A to F of document 01, shown of the rules themselves by one theorem: whole outcomes, with output and work area.
+-- The marked plans A to F of document 01, and G for releases (02, Req 01), shown of the rules themselves by one theorem: whole outcomes, with
+-- output and work area.
 -- Each field is computed from the definitions. Assumes nothing.
 use mathlib.Core.Path.{_≡_, refl}
 use Prim.Native.Nat.{ℕ, zero, suc, _*_, _-_, _/_, _%_, _^_}
@@ -9,6 +10,9 @@ use Rattle.rules.specs.Fields.{field, bytesOf}
 use Rattle.rules.specs.Answers.{firstFault, planAccepted, planRefused, checkAccepted, checkRefused}
 use Rattle.rules.specs.Book.{flowOf, jobOf, hasBit}
 use Rattle.rules.specs.Reading.{
+  releaseSize,
+  releaseAt,
+  jobsAt,
   flowStart,
   jobAt,
   flowAt,
@@ -45,6 +49,7 @@ use Rattle.rules.specs.Placing.{
   slotRows,
   progress,
   flowRows,
+  usable,
   freeProcessors,
   placeFlow,
   placeFirst,
@@ -58,6 +63,7 @@ use Rattle.rules.specs.Check.{
   rowBefore,
   rises,
   lacksPredecessor,
+  beforeRelease,
   rowFault,
   totalFault,
   finishFault,
@@ -114,6 +120,28 @@ tableF n =
     ++ hex 24 0x0000_00_00_0001_0001_00_00_0001_0002_00_00_0002_0003_00_00_0001
     ++ hex 4 0x0003_00_01 ++ hex 2 n ++ hex 6 0x0005_00_01_0001
 
+-- G, version 2: P 3. Flow 0: deadline 6, release 2, one job, size 5 cap 2. Flow 1: deadline 4, release 0, one job, size 6 cap 2
+abbrev bookG : List ℕ
+bookG = hex 46 0x0000002e_02_0003_02_0006_0002_01_00000005_0002_0000000000000000_0004_0000_01_00000006_0002_0000000000000000
+
+-- flow 0 waits for slot 2, though a processor is free before, and shares it with flow 1
+abbrev tableG : List ℕ
+tableG =
+    hex 12 0x00000036_01_0003_02_0006_0003
+    ++ hex 18 0x0000_01_00_0002_0001_01_00_0002_0002_01_00_0002
+    ++ hex 24 0x0002_00_00_0001_0003_00_00_0002_0004_00_00_0001_0005_00_00_0001
+
+-- the same with its fourth row moved to the slot before the release
+abbrev tableEarly : List ℕ
+tableEarly =
+    hex 12 0x00000036_01_0003_02_0006_0003
+    ++ hex 18 0x0000_01_00_0002_0001_01_00_0002_0002_01_00_0002
+    ++ hex 24 0x0001_00_00_0001_0003_00_00_0002_0004_00_00_0001_0005_00_00_0001
+
+-- G with the release of flow 0 at its deadline
+abbrev bookLateRelease : List ℕ
+bookLateRelease = hex 46 0x0000002e_02_0003_02_0006_0006_01_00000005_0002_0000000000000000_0004_0000_01_00000006_0002_0000000000000000
+
 -- an output of n bytes, and a work area of 16,384, filled with nines
 abbrev out : ℕ → List ℕ
 out n = replicate n 9
@@ -149,9 +177,14 @@ pub record MarkedPlans : Type 0 where
   pub F-slot-3 : checkCall bookA (tableF 3) area ≡ record { answer = checkRefused 18 0 1; area = used 0 0 }
   pub F-slot-3-take-2 : checkCall bookA (tableF 2) area ≡ record { answer = checkRefused 19 0 1; area = used 0 0 }
   pub A-accepted : checkCall bookA tableA area ≡ record { answer = checkAccepted 1; area = used 6 0x0003_0003_0003_0001_0003_0001 }
+  pub G : planCall bookG (out 60) area
+      ≡ record { answer = planAccepted 0 54; output = tableG ++ out 6; area = used 6 0x0002_0002_0003_0002_0001_0001 }
+  pub G-accepted : checkCall bookG tableG area ≡ record { answer = checkAccepted 0; area = used 6 0x0002_0002_0003_0002_0001_0001 }
+  pub G-row-before-release : checkCall bookG tableEarly area ≡ record { answer = checkRefused 19 0 0; area = used 0 0 }
+  pub G-release-at-deadline : planCall bookLateRelease (out 60) area ≡ record { answer = planRefused 22 0 255; output = out 60; area = area }
 
 pub marked-plans : MarkedPlans
-unfolding sumTo maxTo anyTo allTo listFrom joinFrom field bytesOf firstFault flowOf jobOf hasBit flowStart jobAt flowAt bookOf flowHeadFault jobFault flowFault leftoverFault bookFault readBook quotientUp duration lastTake startAfter endsBelow startOf endOf path takeOf unchanged prepend runs chain rate work servedBefore insertFlow orderOf serviceOrder rowFor sumWhere usedIn totalOf doneBefore finishOf isLate lateFlows workUsed workZero slotUnits units unitsOf share given afterSlot slotRows progress flowRows freeProcessors placeFlow placeFirst plan tableLength rowBytes rowsBytes tableBytes rowAt planOutcome planReading planCall tableRows tableHeadFault rowBefore rises lacksPredecessor rowFault totalFault finishFault tableFault checkOutcome checkReading checkCall
+unfolding sumTo maxTo anyTo allTo listFrom joinFrom field bytesOf firstFault flowOf jobOf hasBit releaseSize releaseAt jobsAt flowStart jobAt flowAt bookOf flowHeadFault jobFault flowFault leftoverFault bookFault readBook quotientUp duration lastTake startAfter endsBelow startOf endOf path takeOf unchanged prepend runs chain rate work servedBefore insertFlow orderOf serviceOrder rowFor sumWhere usedIn totalOf doneBefore finishOf isLate lateFlows workUsed workZero slotUnits units unitsOf share given afterSlot slotRows progress flowRows usable freeProcessors placeFlow placeFirst plan tableLength rowBytes rowsBytes tableBytes rowAt planOutcome planReading planCall tableRows tableHeadFault rowBefore rises lacksPredecessor beforeRelease rowFault totalFault finishFault tableFault checkOutcome checkReading checkCall
 marked-plans = record {
   A = refl;
   B = refl;
@@ -164,4 +197,8 @@ marked-plans = record {
   F-slot-3 = refl;
   F-slot-3-take-2 = refl;
   A-accepted = refl;
+  G = refl;
+  G-accepted = refl;
+  G-row-before-release = refl;
+  G-release-at-deadline = refl;
 }

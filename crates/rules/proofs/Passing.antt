@@ -4,6 +4,7 @@ use mathlib.Core.Path.{_≡_, refl, ap, ap₂}
 use Prim.Native.Nat.{ℕ, zero, suc, _+_, _*_, _^_, _≤_, _<_}
 use mathlib.Core.Bool.{Bool, true, false, not, _||_, true≢false}
 use mathlib.Core.List.{List}
+use mathlib.Core.Logic.{_⊎_, inl, inr}
 use native.Mathlib.Omega.{arith}
 use lib.ListN.{length}
 use lib.Dec.{ltb, eqb}
@@ -15,7 +16,7 @@ use Rattle.rules.specs.Fields.{byte, field}
 use Rattle.rules.specs.Answers.{firstFault}
 use Rattle.rules.specs.Limits.{outside, mostProcessors, mostFlows, mostDeadline, mostJobs, mostSize}
 use Rattle.rules.specs.Book.{Book, flowCount, jobCount, noFlow, noJob, flowOf, jobOf, JobInRange, FlowInRange, InRange}
-use Rattle.rules.specs.Reading.{bookHead, flowHead, jobRecord, flowStart, jobStart, jobAt, flowAt, bookOf, flowHeadFault, jobFault, flowFault, leftoverFault, bookFault, readingOf, readBook}
+use Rattle.rules.specs.Reading.{bookHead, versionOf, flowHead, jobRecord, releaseAt, jobsAt, flowStart, jobStart, jobAt, flowAt, bookOf, flowHeadFault, jobFault, flowFault, leftoverFault, bookFault, readingOf, readBook}
 use Rattle.rules.specs.Reading.Reading.{read}
 use Rattle.rules.proofs.Walks.{list-length, list-at-zero}
 use Rattle.rules.proofs.Faults.{not-pass, both-pass, fault-pass, all-pass}
@@ -29,17 +30,21 @@ pub flow-of-book : (s : List ℕ) (f : ℕ) → f < byte s 7 → flowOf (bookOf 
 unfolding bookOf flowOf
 flow-of-book s f h = list-at-zero (λ g. flowAt s (flowStart s g)) (byte s 7) f noFlow h
 
-pub job-count : (s : List ℕ) (at : ℕ) → jobCount (flowAt s at) ≡ byte s (at + 2)
+pub job-count : (s : List ℕ) (at : ℕ) → jobCount (flowAt s at) ≡ jobsAt s at
 unfolding flowAt
-job-count s at = list-length (λ i. jobAt s (jobStart at i)) (byte s (at + 2)) 0
+job-count s at = list-length (λ i. jobAt s (jobStart s at i)) (jobsAt s at) 0
 
-pub job-of-flow : (s : List ℕ) (at i : ℕ) → i < byte s (at + 2) → jobOf (flowAt s at) i ≡ jobAt s (jobStart at i)
+pub job-of-flow : (s : List ℕ) (at i : ℕ) → i < jobsAt s at → jobOf (flowAt s at) i ≡ jobAt s (jobStart s at i)
 unfolding flowAt jobOf
-job-of-flow s at i h = list-at-zero (λ k. jobAt s (jobStart at k)) (byte s (at + 2)) i noJob h
+job-of-flow s at i h = list-at-zero (λ k. jobAt s (jobStart s at k)) (jobsAt s at) i noJob h
 
 pub deadline-of-flow : (s : List ℕ) (at : ℕ) → flowAt s at .deadline ≡ field 2 s at
 unfolding flowAt
 deadline-of-flow s at = refl
+
+pub release-of-flow : (s : List ℕ) (at : ℕ) → flowAt s at .release ≡ releaseAt s at
+unfolding flowAt
+release-of-flow s at = refl
 
 pub processors-of-book : (s : List ℕ) → bookOf s .processors ≡ field 2 s 5
 unfolding bookOf
@@ -62,24 +67,27 @@ not-outside least most n e =
 
 -- the head of a flow, at `at`, that passes
 pub record FlowHeadPasses (s : List ℕ) (at : ℕ) : Type 0 where
-  pub flow-head-whole : at + flowHead ≤ length s
+  pub flow-head-whole : at + flowHead (versionOf s) ≤ length s
   pub deadline-from : 1 ≤ field 2 s at
   pub deadline-to : field 2 s at ≤ mostDeadline
-  pub jobs-from : 1 ≤ byte s (at + 2)
-  pub jobs-to : byte s (at + 2) ≤ mostJobs
+  pub release-to : releaseAt s at < field 2 s at
+  pub jobs-from : 1 ≤ jobsAt s at
+  pub jobs-to : jobsAt s at ≤ mostJobs
 
 pub flow-head-passes : (s : List ℕ) (f at : ℕ) → flowHeadFault s f at ≡ Pass → FlowHeadPasses s at
 unfolding flowHeadFault
 flow-head-passes s f at e =
     let short = test-passed _ _ _ _ _ e in
     let deadline = test-passed _ _ _ _ _ (short .1) in
-    let count = test-passed _ _ _ _ _ (deadline .1) in
+    let release = test-passed _ _ _ _ _ (deadline .1) in
+    let count = test-passed _ _ _ _ _ (release .1) in
     let d = not-outside 1 mostDeadline (field 2 s at) (deadline .0) in
-    let c = not-outside 1 mostJobs (byte s (at + 2)) (count .0) in
+    let c = not-outside 1 mostJobs (jobsAt s at) (count .0) in
     record {
-      flow-head-whole = ltb-false (length s) (at + flowHead) (short .0);
+      flow-head-whole = ltb-false (length s) (at + flowHead (versionOf s)) (short .0);
       deadline-from = d .0;
       deadline-to = d .1;
+      release-to = leb-false (field 2 s at) (releaseAt s at) (release .0);
       jobs-from = c .0;
       jobs-to = c .1;
     }
@@ -111,29 +119,29 @@ job-passes s f i at e =
 
 -- in a flow that passes the head passes and every job
 pub flow-fault-parts : (s : List ℕ) (f at : ℕ) → flowFault s f at ≡ Pass →
-    (flowHeadFault s f at ≡ Pass) × ((i : ℕ) → i < byte s (at + 2) → jobFault s f i (jobStart at i) ≡ Pass)
+    (flowHeadFault s f at ≡ Pass) × ((i : ℕ) → i < jobsAt s at → jobFault s f i (jobStart s at i) ≡ Pass)
 unfolding flowFault
 flow-fault-parts s f at e =
-    let jobs : ℕ → Verdict = λ i. jobFault s f i (jobStart at i) in
-    let both = both-pass (flowHeadFault s f at) (firstFault jobs (byte s (at + 2))) e in
-    (both .0, fault-pass jobs (byte s (at + 2)) (both .1))
+    let jobs : ℕ → Verdict = λ i. jobFault s f i (jobStart s at i) in
+    let both = both-pass (flowHeadFault s f at) (firstFault jobs (jobsAt s at)) e in
+    (both .0, fault-pass jobs (jobsAt s at) (both .1))
 
 -- a flow, at `at`, that passes: its head, each of its jobs, and so all its bytes
 pub record FlowPasses (s : List ℕ) (at : ℕ) : Type 0 where
   pub head : FlowHeadPasses s at
-  pub each : (i : ℕ) → i < byte s (at + 2) → JobPasses s i (jobStart at i)
-  pub flow-whole : at + flowHead + jobRecord * byte s (at + 2) ≤ length s
+  pub each : (i : ℕ) → i < jobsAt s at → JobPasses s i (jobStart s at i)
+  pub flow-whole : at + flowHead (versionOf s) + jobRecord * jobsAt s at ≤ length s
 
 pub flow-passes : (s : List ℕ) (f at : ℕ) → flowFault s f at ≡ Pass → FlowPasses s at
-flow-passes s f at e = record { head = head; each = each; flow-whole = go (byte s (at + 2)) refl }
+flow-passes s f at e = record { head = head; each = each; flow-whole = go (jobsAt s at) refl }
   where
     head : FlowHeadPasses s at
     head = flow-head-passes s f at (flow-fault-parts s f at e .0)
 
-    each : (i : ℕ) → i < byte s (at + 2) → JobPasses s i (jobStart at i)
-    each i h = job-passes s f i (jobStart at i) (flow-fault-parts s f at e .1 i h)
+    each : (i : ℕ) → i < jobsAt s at → JobPasses s i (jobStart s at i)
+    each i h = job-passes s f i (jobStart s at i) (flow-fault-parts s f at e .1 i h)
 
-    go : (n : ℕ) → byte s (at + 2) ≡ n → at + flowHead + jobRecord * byte s (at + 2) ≤ length s
+    go : (n : ℕ) → jobsAt s at ≡ n → at + flowHead (versionOf s) + jobRecord * jobsAt s at ≤ length s
     go zero q = omega (arith, head .flow-head-whole)
     go (suc n) q = omega (arith, each n (omega arith) .job-whole)
 
@@ -142,18 +150,34 @@ flow-in-range s at p =
     record {
       deadline-least = rw (deadline-of-flow s at) (p .head .deadline-from);
       deadline-most = rw (deadline-of-flow s at) (p .head .deadline-to);
+      release-below = rw (release-of-flow s at, deadline-of-flow s at) (p .head .release-to);
       jobs-least = rw (job-count s at) (p .head .jobs-from);
       jobs-most = rw (job-count s at) (p .head .jobs-to);
       each-job = λ i h.
-          let l : i < byte s (at + 2) = rw (job-count s at) at h in
+          let l : i < jobsAt s at = rw (job-count s at) at h in
           rw (job-of-flow s at i l) (p .each i l .job-in-range);
     }
+
+-- a version that is read: 1 or 2
+abbrev pub Known : ℕ → Type 0
+Known version = (version ≡ 1) ⊎ (version ≡ 2)
+
+known : (version : ℕ) → (eqb version 1 || eqb version 2) ≡ true → Known version
+known version e = go (eqb version 1) refl e
+  where
+    go : (t : Bool) → eqb version 1 ≡ t → (t || eqb version 2) ≡ true → Known version
+    go true q p = inl (eqb-true version 1 q)
+    go false q p = inr (eqb-true version 2 p)
+
+known-passes : (version : ℕ) → Known version → (eqb version 1 || eqb version 2) ≡ true
+known-passes version (inl e) = rw e refl
+known-passes version (inr e) = rw e refl
 
 -- a book that passes: its head, each of its flows, and no bytes left over
 pub record BookPasses (s : List ℕ) : Type 0 where
   pub head-whole : bookHead ≤ length s
   pub length-field : field 4 s 0 ≡ length s
-  pub version-one : byte s 4 ≡ 1
+  pub version-known : Known (versionOf s)
   pub processors-from : 1 ≤ field 2 s 5
   pub processors-to : field 2 s 5 ≤ mostProcessors
   pub flows-to : byte s 7 ≤ mostFlows
@@ -181,7 +205,7 @@ book-passes s e =
     record {
       head-whole = ltb-false (length s) bookHead (both .0);
       length-field = eqb-true (field 4 s 0) (length s) (not-false _ (both .1));
-      version-one = eqb-true (byte s 4) 1 (not-false _ (version-test .0));
+      version-known = known (versionOf s) (not-false _ (version-test .0));
       processors-from = p .0;
       processors-to = p .1;
       flows-to = ltb-false mostFlows (byte s 7) (flows-test .0);
@@ -234,9 +258,10 @@ inside-passes least most n p q = ap₂ _||_ (le-ltb n least p) (le-ltb most n q)
 pub flow-head-no-fault : (s : List ℕ) (f at : ℕ) → FlowHeadPasses s at → flowHeadFault s f at ≡ Pass
 unfolding flowHeadFault
 flow-head-no-fault s f at p =
-    test-passes _ _ _ _ _ (le-ltb (length s) (at + flowHead) (p .flow-head-whole))
+    test-passes _ _ _ _ _ (le-ltb (length s) (at + flowHead (versionOf s)) (p .flow-head-whole))
     (test-passes _ _ _ _ _ (inside-passes 1 mostDeadline (field 2 s at) (p .deadline-from) (p .deadline-to))
-    (test-passes _ _ _ _ _ (inside-passes 1 mostJobs (byte s (at + 2)) (p .jobs-from) (p .jobs-to)) refl))
+    (test-passes _ _ _ _ _ (lt-leb (field 2 s at) (releaseAt s at) (p .release-to))
+    (test-passes _ _ _ _ _ (inside-passes 1 mostJobs (jobsAt s at) (p .jobs-from) (p .jobs-to)) refl)))
 
 pub job-no-fault : (s : List ℕ) (f i at : ℕ) → JobPasses s i at → jobFault s f i at ≡ Pass
 unfolding jobFault jobAt
@@ -250,14 +275,14 @@ job-no-fault s f i at p =
 pub flow-no-fault : (s : List ℕ) (f at : ℕ) → FlowPasses s at → flowFault s f at ≡ Pass
 unfolding flowFault
 flow-no-fault s f at p =
-    let jobs : ℕ → Verdict = λ i. jobFault s f i (jobStart at i) in
-    rw (flow-head-no-fault s f at (p .head)) (all-pass jobs (byte s (at + 2)) (λ i l. job-no-fault s f i (jobStart at i) (p .each i l)))
+    let jobs : ℕ → Verdict = λ i. jobFault s f i (jobStart s at i) in
+    rw (flow-head-no-fault s f at (p .head)) (all-pass jobs (jobsAt s at) (λ i l. job-no-fault s f i (jobStart s at i) (p .each i l)))
 
 pub book-no-fault : (s : List ℕ) → BookPasses s → bookFault s ≡ Pass
 unfolding bookFault leftoverFault
 book-no-fault s p =
     test-passes _ _ _ _ _ (ap₂ _||_ (le-ltb (length s) bookHead (p .head-whole)) (ap not (eq-eqb (field 4 s 0) (length s) (p .length-field))))
-    (test-passes _ _ _ _ _ (ap not (eq-eqb (byte s 4) 1 (p .version-one)))
+    (test-passes _ _ _ _ _ (ap not (known-passes (versionOf s) (p .version-known)))
     (test-passes _ _ _ _ _ (inside-passes 1 mostProcessors (field 2 s 5) (p .processors-from) (p .processors-to))
     (test-passes _ _ _ _ _ (le-ltb mostFlows (byte s 7) (p .flows-to))
     (rw (all-pass (λ f. flowFault s f (flowStart s f)) (byte s 7) (p .each-passes), eq-eqb (flowStart s (byte s 7)) (length s) (p .nothing-left)) refl))))

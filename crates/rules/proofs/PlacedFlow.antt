@@ -154,9 +154,9 @@ module _ (w : Flow) (free : ℕ → ℕ) (sized : Sized w) where
       (λ v g. take-from-end w k v (omega (arith, predecessor-ends-by-start w k i l e))) in
       omega (arith, had-and-to-come k (omega arith) t)
 
-  -- only in slots with a processor free
-  pub placed-where-free : (i t : ℕ) → i < jobCount w → 0 < shareIn w free i t → 0 < free t
-  placed-where-free i t b h =
+  -- no more than is free
+  pub placed-within-free : (i t : ℕ) → i < jobCount w → shareIn w free i t ≤ free t
+  placed-within-free i t b =
       omega (
         arith,
         le-sum (λ k. shareIn w free k t) (jobCount w) i b,
@@ -167,6 +167,6 @@ module _ (w : Flow) (free : ℕ → ℕ) (sized : Sized w) where
   pub placed-keeps : (usable : ℕ → Bool) → ((t : ℕ) → 0 < free t → usable t ≡ true) → Keeps w usable (shareIn w free)
   placed-keeps usable only = record {
     capped = placed-within-cap;
-    in-usable = λ i t b h. only t (placed-where-free i t b h);
+    in-usable = λ i t b h. only t (le-trans h (placed-within-free i t b));
     in-order = λ i k t b l e h. omega (arith, placed-in-order i k t b l e h);
   }

@@ -1,18 +1,18 @@
 -- What the placing of flows one after the other writes down: the rows of the first k flows are, flow by flow in service order, rows by slot and
 -- job of what the flow's jobs get there; and where the placing stops, the flow that stops it still has work left. Assumes nothing.
 use mathlib.Core.Path.{_≡_, refl, sym, ap, _∙_}
-use Prim.Native.Nat.{ℕ, zero, suc, _+_, _≤_, _<_}
+use Prim.Native.Nat.{ℕ, zero, suc, _+_, _-_, _≤_, _<_, min}
 use mathlib.Core.List.{List, [], _∷_, _++_}
 use native.Mathlib.Nat.{lt-suc-self}
 use native.Mathlib.Omega.{arith}
 use lib.ListN.{getD}
 use Rattle.rules.specs.Walks.{sumTo, joinFrom}
 use Rattle.rules.specs.Book.{Flow, Book, flowCount, jobCount, flowOf}
-use Rattle.rules.specs.PseudoJobs.{PseudoJob}
+use Rattle.rules.specs.PseudoJobs.{PseudoJob, rate, work}
 use Rattle.rules.specs.Service.{serviceOrder}
 use Rattle.rules.specs.Rows.{Row, rowFor}
 use Rattle.rules.specs.Schedule.{scheduleOf}
-use Rattle.rules.specs.Placing.{slotRows, progress, flowRows, freeProcessors, slotsFor, Plan, planned, infeasible, settled, placeFlow, thenPlace, placeFirst, rowsOf}
+use Rattle.rules.specs.Placing.{unitsOf, share, given, slotRows, progress, flowRows, freeProcessors, slotsFor, Plan, planned, infeasible, settled, placeFlow, thenPlace, placeFirst, rowsOf}
 use Rattle.rules.proofs.Sums.{sum-nothing, sum-one}
 use Rattle.rules.proofs.Walks.{last-or, join-ext, join-snoc, join-last}
 use Rattle.rules.proofs.ServiceOrder.{service-once}
@@ -39,6 +39,20 @@ flow-rows-grid w f free n =
     (λ t. joinFrom (λ i. rowFor t f i (shareIn w free i t)) (jobCount w) 0) n 0
     (λ t l. slot-rows w f (0 + t) (progress w free (0 + t) .left) (progress w free (0 + t) .done) (free (0 + t)))
 
+-- a slot with nothing free has no rows, nor have n such slots
+no-slot-rows : (w : Flow) (f t : ℕ) (ps : List PseudoJob) (done : ℕ) → slotRows w f t ps done 0 ≡ []
+unfolding slotRows given share unitsOf
+no-slot-rows w f t [] done = refl
+no-slot-rows w f t (p ∷ ps) done =
+    let nothing : min (rate w p) (min (work w p - done) 0) ≡ 0 = omega arith in
+    rw nothing (join-nothing (λ i. rowFor t f i 0) (jobCount w) 0 (λ i l. unfold rowFor in refl))
+
+pub no-rows-yet : (w : Flow) (f : ℕ) (free : ℕ → ℕ) (n : ℕ) → ((t : ℕ) → t < n → free t ≡ 0) → flowRows w f free n ≡ []
+unfolding flowRows
+no-rows-yet w f free n none =
+    join-nothing (λ t. slotRows w f t (progress w free t .left) (progress w free t .done) (free t)) n 0
+    (λ t l. rw (none (0 + t) (omega arith)) (no-slot-rows w f (0 + t) (progress w free (0 + t) .left) (progress w free (0 + t) .done)))
+
 -- ---- flows one after the other
 -- the flow at place n of the service order, and what it is
 abbrev pub servedAt : Book → ℕ → ℕ
@@ -47,9 +61,9 @@ servedAt b n = getD (serviceOrder b) n 0
 abbrev pub servedFlow : Book → ℕ → Flow
 servedFlow b n = flowOf b (servedAt b n)
 
--- the processors that the flows before it leave free
+-- the processors free for it: in the slots that it can use, what the flows before it leave
 abbrev pub freeFor : Book → ℕ → ℕ → ℕ
-freeFor b n = freeProcessors b (rowsOf (placeFirst b n))
+freeFor b n = freeProcessors b (servedAt b n) (rowsOf (placeFirst b n))
 
 -- what job i of the flow at place n gets in slot t, and its rows
 abbrev pub plannedShare : Book → ℕ → ℕ → ℕ → ℕ
@@ -90,13 +104,13 @@ placed-next b k rows e = go (placeFirst b k) refl e
     go : (q : Plan) → placeFirst b k ≡ q → thenPlace q (placeFlow b (servedAt b k)) ≡ planned rows → PlacedNext b k rows
     go (infeasible f) z d = planned-differs f rows d
     go (planned earlier) z d =
-        let s = settled-planned (servedAt b k) (progress (servedFlow b k) (freeProcessors b earlier) (slotsFor (servedFlow b k)) .left)
-        (earlier ++ flowRows (servedFlow b k) (servedAt b k) (freeProcessors b earlier) (slotsFor (servedFlow b k))) rows (unfold placeFlow in d) in
+        let s = settled-planned (servedAt b k) (progress (servedFlow b k) (freeProcessors b (servedAt b k) earlier) (slotsFor (servedFlow b k)) .left)
+        (earlier ++ flowRows (servedFlow b k) (servedAt b k) (freeProcessors b (servedAt b k) earlier) (slotsFor (servedFlow b k))) rows (unfold placeFlow in d) in
         record {
           earlier = earlier;
           placed-before = z;
           finished = rw z (s .0);
-          appended = s .1 ∙ ap (earlier ++_) (unfold plannedGrid in rw z (flow-rows-grid (servedFlow b k) (servedAt b k) (freeProcessors b earlier) (slotsFor (servedFlow b k))));
+          appended = s .1 ∙ ap (earlier ++_) (unfold plannedGrid in rw z (flow-rows-grid (servedFlow b k) (servedAt b k) (freeProcessors b (servedAt b k) earlier) (slotsFor (servedFlow b k))));
         }
 
 -- the flow at which the placing stops
@@ -118,8 +132,8 @@ placing-stops b (suc k) f e = go (placeFirst b k) refl e (placing-stops b k f)
         let s = ih (z ∙ d) in
         record { place = s .place; place-below = omega (arith, s .place-below); served = s .served; earlier = s .earlier; placed-before = s .placed-before; not-finished = s .not-finished }
     go (planned earlier) z d ih =
-        let s = settled-infeasible (servedAt b k) f (progress (servedFlow b k) (freeProcessors b earlier) (slotsFor (servedFlow b k)) .left)
-        (earlier ++ flowRows (servedFlow b k) (servedAt b k) (freeProcessors b earlier) (slotsFor (servedFlow b k))) (unfold placeFlow in d) in
+        let s = settled-infeasible (servedAt b k) f (progress (servedFlow b k) (freeProcessors b (servedAt b k) earlier) (slotsFor (servedFlow b k)) .left)
+        (earlier ++ flowRows (servedFlow b k) (servedAt b k) (freeProcessors b (servedAt b k) earlier) (slotsFor (servedFlow b k))) (unfold placeFlow in d) in
         record { place = k; place-below = lt-suc-self k; served = s .1; earlier = earlier; placed-before = z; not-finished = rw z (s .0) }
 
 -- ---- the rows of the first k flows

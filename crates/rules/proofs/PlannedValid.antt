@@ -1,6 +1,7 @@
--- The rows of a plan are a valid schedule: caps, at most P processors in every slot, exact sizes, precedence and nothing else; and each flow ends
--- within twice its deadline. Flow by flow this is what one placed flow keeps; the flows share a slot because each gets at most what those before
--- it leave free. Everything is shown of the first k flows placed, and read off for the whole plan. Assumes nothing.
+-- The rows of a plan are a valid schedule: caps, at most P processors in every slot, exact sizes, precedence, nothing before a release and
+-- nothing else; and each flow ends within twice its deadline. Flow by flow this is what one placed flow keeps; the flows share a slot because
+-- each gets at most what those before it leave free. Everything is shown of the first k flows placed, and read off for the whole plan. Assumes
+-- nothing.
 use mathlib.Core.Path.{_≡_, refl, sym, ap, subst, _∙_}
 use Prim.Native.Nat.{ℕ, zero, suc, _+_, _*_, _-_, _/_, _%_, _^_, _≤_, _<_}
 use mathlib.Core.Bool.{Bool, true, false, false≢true}
@@ -15,7 +16,7 @@ use Rattle.rules.specs.Limits.{slots}
 use Rattle.rules.specs.Book.{Job, Book, flowCount, jobCount, flowOf, jobOf, hasBit, precedes, JobInRange, FlowInRange, InRange}
 use Rattle.rules.specs.Rows.{Row, sumWhere, usedIn, finishOf}
 use Rattle.rules.specs.Schedule.{Schedule, everyFlow, IsJob, Valid, EndsBy, InSlots, scheduleOf}
-use Rattle.rules.specs.Placing.{freeProcessors, slotsFor, planned, placeFirst, rowsOf, plan}
+use Rattle.rules.specs.Placing.{slotsFor, planned, placeFirst, rowsOf, plan}
 use Rattle.rules.specs.Cut.{amongFirst}
 use Rattle.rules.proofs.Division.{lt-or-ge}
 use Rattle.rules.proofs.Sums.{sum-ext, sum-mono, sum-add, sum-zero, sum-up, sum-quiet}
@@ -23,13 +24,14 @@ use Rattle.rules.proofs.Walks.{any-met, any-none, any-true}
 use Rattle.rules.proofs.Ideal.{Sized, in-range-sized}
 use Rattle.rules.proofs.PseudoJobs.{chain-live, chain-works}
 use Rattle.rules.proofs.ServiceOrder.{service-below, service-position}
+use Rattle.rules.proofs.Usable.{none-free-before, free-within}
 use Rattle.rules.proofs.Greedy.{givenIn, given-in-le-free, given-and-left}
 use Rattle.rules.proofs.Necessity.{flowWork, worksUpTo}
 use Rattle.rules.proofs.Rising.{_∈_, join-in}
 use Rattle.rules.proofs.RowSums.{used-in-use}
 use Rattle.rules.proofs.FlowRows.{used-append, grid-used, grid-not-used, grid-in}
 use Rattle.rules.proofs.RowSums.{ends-finish}
-use Rattle.rules.proofs.PlacedFlow.{placed-together, placed-within-cap, placed-exactly, placed-in-order}
+use Rattle.rules.proofs.PlacedFlow.{placed-together, placed-within-cap, placed-within-free, placed-exactly, placed-in-order}
 use Rattle.rules.proofs.PlannedRows.{
   servedAt,
   servedFlow,
@@ -74,6 +76,7 @@ valid-among b p q σ same v = record {
   nothing-after = v .nothing-after;
   sizes = λ f i j. v .sizes f i (back f i j);
   precedence = λ f i k t j. v .precedence f i k t (back f i j);
+  releases = λ f i t j. v .releases f i t (back f i j);
 }
   where
     over : (p q : ℕ → Bool) → ((f : ℕ) → f < flowCount b → p f ≡ q f) → (f i : ℕ) → IsJob b p f i → IsJob b q f i
@@ -122,7 +125,7 @@ module _ (b : Book) (range : InRange b) where
   used-within-processors zero rows h e t = rw (placed-rows b zero rows e) (unfold usedIn sumWhere joinFrom in omega arith)
   used-within-processors (suc k) rows h e t =
       let s = placed-next b k rows e in
-      let free : freeFor b k t ≡ b .processors - usedIn (s .earlier) t = unfold freeProcessors in ap (λ q. b .processors - usedIn (rowsOf q) t) (s .placed-before) in
+      let free : freeFor b k t ≤ b .processors - usedIn (s .earlier) t = rw (s .placed-before) (free-within b (servedAt b k) (s .earlier) t) in
       rw (s .appended)
       (omega (
         arith,
@@ -194,6 +197,19 @@ module _ (b : Book) (range : InRange b) where
               placed-in-order (servedFlow b n) (freeFor b n) (sized-at n within-count) i j t a below p (rw (states-share b k rows e h n i t l a c) at g)
           go (inr c) = absurd (omega (arith, flow-ends i t c))
 
+      flow-releases : (i t : ℕ) → i < jobCount (servedFlow b n) → t < servedFlow b n .release → scheduleOf rows (servedAt b n) i t ≡ 0
+      flow-releases i t a c = go (lt-or-ge t (slotsFor (servedFlow b n)))
+        where
+          go : (t < slotsFor (servedFlow b n)) ⊎ (slotsFor (servedFlow b n) ≤ t) → scheduleOf rows (servedAt b n) i t ≡ 0
+          go (inl d) =
+              omega (
+                arith,
+                states-share b k rows e h n i t l a d,
+                placed-within-free (servedFlow b n) (freeFor b n) (sized-at n within-count) i t a,
+                none-free-before b (servedAt b n) (rowsOf (placeFirst b n)) t c,
+              )
+          go (inr d) = flow-ends i t d
+
     -- a flow among the first k stands at a place below k
     at-place : (f : ℕ) → amongFirst b k f ≡ true → (n : ℕ) × (n < k) × (servedAt b n ≡ f)
     unfolding amongFirst
@@ -262,6 +278,8 @@ module _ (b : Book) (range : InRange b) where
           (λ f. (i m t : ℕ) → IsJob b (amongFirst b k) f i → precedes (flowOf b f) m i ≡ true → 0 < scheduleOf rows f i t →
           sumTo (scheduleOf rows f m) t ≡ jobOf (flowOf b f) m .size)
           (λ n l i m t j. flow-precedence n l i m t (j .job-in)) (λ f z q i m t j. absurd (false≢true (sym q ∙ j .flow-among)));
+      releases = by-flow (λ f. (i t : ℕ) → IsJob b (amongFirst b k) f i → t < flowOf b f .release → scheduleOf rows f i t ≡ 0)
+          (λ n l i t j. flow-releases n l i t (j .job-in)) (λ f z q i t j c. z i t);
     }
 
     -- each of them ends within twice its deadline

@@ -16,7 +16,7 @@ use Rattle.rules.specs.Answers.{none, _andThen_, firstFault}
 use Rattle.rules.specs.Limits.{slots}
 use Rattle.rules.specs.Book.{Book, flowCount, jobCount, flowOf, jobOf, precedes}
 use Rattle.rules.specs.Rows.{Row, usedIn, totalOf, doneBefore, finishOf}
-use Rattle.rules.specs.Check.{noRow, rises, lacksPredecessor, rowFault, totalFault, statedFinish, finishFault, tableRows, tableHeadFault, tableFault}
+use Rattle.rules.specs.Check.{noRow, rises, beforeRelease, lacksPredecessor, rowFault, totalFault, statedFinish, finishFault, tableRows, tableHeadFault, tableFault}
 use Rattle.rules.proofs.Walks.{any-none, any-false}
 use Rattle.rules.proofs.Faults.{not-pass, both-pass, fault-pass, all-pass}
 use Rattle.rules.proofs.Passing.{test-passed, neither-true}
@@ -37,6 +37,7 @@ pub record RowPasses (b : Book) (rows : List Row) (k : ℕ) : Type 0 where
   pub comes-after : rises b rows k ≡ true
   pub cap-kept : getD rows k noRow .processors ≤ jobOf (flowOf b (getD rows k noRow .flow)) (getD rows k noRow .job) .cap
   pub processors-kept : usedIn (take k rows) (getD rows k noRow .slot) + getD rows k noRow .processors ≤ b .processors
+  pub released : flowOf b (getD rows k noRow .flow) .release ≤ getD rows k noRow .slot
   pub predecessors-done : PredecessorsDone b (take k rows) (getD rows k noRow)
 
 pub lacks-none : (b : Book) (soFar : List Row) (r : Row) → lacksPredecessor b soFar r ≡ false → PredecessorsDone b soFar r
@@ -63,14 +64,15 @@ positive : (n : ℕ) → (n ≡ 0 → ⊥) → 0 < n
 positive n h = omega arith
 
 pub row-passes : (b : Book) (rows : List Row) (k : ℕ) → rowFault b rows k ≡ Pass → RowPasses b rows k
-unfolding rowFault
+unfolding rowFault beforeRelease
 row-passes b rows k pass =
     let r = getD rows k noRow in
     let place = test-passed _ 15 (r .flow) (r .job) _ pass in
     let order = test-passed _ 16 (r .flow) (r .job) _ (place .1) in
     let cap = test-passed _ 17 (r .flow) (r .job) _ (order .1) in
     let used = test-passed _ 18 (r .flow) (r .job) _ (cap .1) in
-    let done = test-passed _ 19 (r .flow) (r .job) _ (used .1) in
+    let begun = test-passed _ 19 (r .flow) (r .job) _ (used .1) in
+    let done = neither-true _ _ (begun .0) in
     let takes = neither-true _ _ (place .0) in
     let job = neither-true _ _ (takes .0) in
     let flow = neither-true _ _ (job .0) in
@@ -82,11 +84,12 @@ row-passes b rows k pass =
       comes-after = not-false (rises b rows k) (order .0);
       cap-kept = ltb-false (jobOf (flowOf b (r .flow)) (r .job) .cap) (r .processors) (cap .0);
       processors-kept = ltb-false (b .processors) (usedIn (take k rows) (r .slot) + r .processors) (used .0);
-      predecessors-done = lacks-none b (take k rows) r (done .0);
+      released = ltb-false (r .slot) (flowOf b (r .flow) .release) (done .0);
+      predecessors-done = lacks-none b (take k rows) r (done .1);
     }
 
 pub passes-row : (b : Book) (rows : List Row) (k : ℕ) → RowPasses b rows k → rowFault b rows k ≡ Pass
-unfolding rowFault
+unfolding rowFault beforeRelease
 passes-row b rows k p =
     let r = getD rows k noRow in
     rw (
@@ -97,6 +100,7 @@ passes-row b rows k p =
       p .comes-after,
       le-ltb (jobOf (flowOf b (r .flow)) (r .job) .cap) (r .processors) (p .cap-kept),
       le-ltb (b .processors) (usedIn (take k rows) (r .slot) + r .processors) (p .processors-kept),
+      le-ltb (r .slot) (flowOf b (r .flow) .release) (p .released),
       none-lacks b (take k rows) r (p .predecessors-done),
     ) refl
 

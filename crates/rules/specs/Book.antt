@@ -12,9 +12,11 @@ pub record Job : Type 0 where
   pub cap : ℕ
   pub predecessors : ℕ
 
--- "each flow: deadline in slots (2), jobs (1), and each job"
+-- "each flow: deadline in slots (2), jobs (1), and each job"; "Book version 2 has a release (2 bytes) after the deadline of each flow" (02,
+-- Req 01). "release" is document 02's word: the slot before which nothing of the flow can run.
 pub record Flow : Type 0 where
   pub deadline : ℕ
+  pub release : ℕ
   pub jobs : List Job
 
 -- "processors P (2), flows (1); then each flow"
@@ -30,7 +32,7 @@ jobCount w = length (w .jobs)
 
 -- "Jobs and flows count from 0": flow f of a book and job i of a flow; past the last one, a flow without jobs and a job without size
 abbrev pub noFlow : Flow
-noFlow = record { deadline = 0; jobs = [] }
+noFlow = record { deadline = 0; release = 0; jobs = [] }
 
 abbrev pub noJob : Job
 noJob = record { size = 0; cap = 0; predecessors = 0 }
@@ -49,7 +51,7 @@ hasBit p k = eqb (p / 2 ^ k % 2) 1
 abbrev pub precedes : Flow → ℕ → ℕ → Bool
 precedes w k i = hasBit (jobOf w i .predecessors) k
 
--- ---- the ranges: what the tests 3, 4 and 6 to 10 leave
+-- ---- the ranges: what the tests 3, 4, 6 to 10 and 22 leave
 pub record JobInRange (P i : ℕ) (j : Job) : Type 0 where
   pub size-least : 1 ≤ j .size
   pub size-most : j .size ≤ mostSize
@@ -61,6 +63,7 @@ pub record JobInRange (P i : ℕ) (j : Job) : Type 0 where
 pub record FlowInRange (P : ℕ) (w : Flow) : Type 0 where
   pub deadline-least : 1 ≤ w .deadline
   pub deadline-most : w .deadline ≤ mostDeadline
+  pub release-below : w .release < w .deadline
   pub jobs-least : 1 ≤ jobCount w
   pub jobs-most : jobCount w ≤ mostJobs
   pub each-job : (i : ℕ) → i < jobCount w → JobInRange P i (jobOf w i)

@@ -55,6 +55,10 @@ lacksPredecessor b soFar r =
     anyTo (λ k. precedes (flowOf b (r .flow)) k (r .job)
     && ltb (doneBefore soFar (r .flow) k (r .slot)) (jobOf (flowOf b (r .flow)) k .size)) (r .job)
 
+-- "A valid schedule .. now has nothing before a flow's release; a row before it is a fault of 19" (02, Req 01)
+unfoldable pub beforeRelease : Book → Row → Bool
+beforeRelease b r = ltb (r .slot) (flowOf b (r .flow) .release)
+
 -- 15: "row's slot above 8,191, flow or job not in the book, or 0 processors"; 16: "row not after the one before it"; 17: "more than the
 -- cap"; 18: "more than P used in the slot by the rows so far, this one counted"; 19. The place is that of the row.
 unfoldable pub rowFault : Book → List Row → ℕ → Verdict
@@ -68,7 +72,7 @@ rowFault b rows k =
     else if not (rises b rows k) then Refused 16 (r .flow) (r .job)
     else if ltb (jobOf (flowOf b (r .flow)) (r .job) .cap) (r .processors) then Refused 17 (r .flow) (r .job)
     else if ltb (b .processors) (usedIn soFar (r .slot) + r .processors) then Refused 18 (r .flow) (r .job)
-    else if lacksPredecessor b soFar r then Refused 19 (r .flow) (r .job)
+    else if beforeRelease b r || lacksPredecessor b soFar r then Refused 19 (r .flow) (r .job)
     else Pass
 
 -- ---- 20 and 21
@@ -101,7 +105,7 @@ unfoldable pub checkOutcome : Book → List ℕ → List ℕ → Verdict → Che
 checkOutcome b s area (Refused n f j) = record { answer = checkRefused n f j; area = workZero slots area }
 checkOutcome b s area Pass = record { answer = checkAccepted (lateFlows b (tableRows b s)); area = workUsed slots (tableRows b s) area }
 
--- 1 to 10 by the reading, then 11, then the table
+-- 1 to 10 and 22 by the reading, then 11, then the table
 unfoldable pub checkReading : List ℕ → List ℕ → Reading → CheckOutcome
 checkReading s area (unread n f j) = record { answer = checkRefused n f j; area = area }
 checkReading s area (read b) =

@@ -2,15 +2,15 @@
 use mathlib.Core.Path.{_≡_}
 use mathlib.Core.Logic.{_⊎_}
 use Prim.Native.Nat.{ℕ, _*_, _≤_, _<_}
-use mathlib.Core.Bool.{Bool, true, _||_}
+use mathlib.Core.Bool.{Bool, true, false, _||_}
 use mathlib.Core.List.{List, _++_}
 use lib.ListN.{length, take, drop}
-use lib.Dec.{eqb}
+use lib.Dec.{leb, eqb}
 use Rattle.rules.specs.Fields.{AllBytes}
 use Rattle.rules.specs.Answers.{checkAccepted}
 use Rattle.rules.specs.Limits.{slots, workBytes}
 use Rattle.rules.specs.Book.{Book, flowCount, flowOf}
-use Rattle.rules.specs.Reading.{read, readBook, bookBytes}
+use Rattle.rules.specs.Reading.{versionOf, read, readBook, bookBytes}
 use Rattle.rules.specs.Service.{servedBefore}
 use Rattle.rules.specs.Rows.{Row, lateFlows, workZero}
 use Rattle.rules.specs.Placing.{planned, rowsOf, plan}
@@ -24,10 +24,14 @@ use Rattle.rules.specs.Cut.{cut}
 -- and the work area as the list says." (That both calls take every sequence of bytes and end is what their contracts without a `requires`
 -- say.)
 
+-- "A fault found before or by 11": a number up to 11, or 22, which is tested "directly after 6" (02, Req 01)
+abbrev pub byEleven : ℕ → Bool
+byEleven number = leb number 11 || eqb number 22
+
 -- "A fault found before or by 11 leaves the work area as it was; one found after 11 zeroes its first 16,384 bytes."
 pub record AreaAfterRefusal (number : ℕ) (before after : List ℕ) : Type 0 where
-  pub kept : number ≤ 11 → after ≡ before
-  pub zeroed : 12 ≤ number → after ≡ workZero slots before
+  pub kept : byEleven number ≡ true → after ≡ before
+  pub zeroed : byEleven number ≡ false → after ≡ workZero slots before
 
 -- "The output is never touched by a refusal, and every count, length or finish returned with it is 0."
 pub record PlannerRefusal (out area : List ℕ) (o : PlanOutcome) : Type 0 where
@@ -41,11 +45,11 @@ pub record CheckRefusal (area : List ℕ) (o : CheckOutcome) : Type 0 where
   pub area-left : AreaAfterRefusal (o .answer .number) area (o .area)
 
 pub record Demand1 : Type 0 where
-  -- the planner's numbers are 0 to 13, the check's 0 to 11 and 14 to 21
-  pub planner-number : (book out area : List ℕ) → planCall book out area .answer .number ≤ 13
+  -- the planner's numbers are 0 to 13 and 22, the check's 0 to 11 and 14 to 22
+  pub planner-number : (book out area : List ℕ) → (planCall book out area .answer .number ≤ 13) ⊎ (planCall book out area .answer .number ≡ 22)
   pub planner-refusal : (book out area : List ℕ) → 0 < planCall book out area .answer .number → PlannerRefusal out area (planCall book out area)
   pub check-number : (book table area : List ℕ) →
-      (checkCall book table area .answer .number ≤ 11) ⊎ ((14 ≤ checkCall book table area .answer .number) × (checkCall book table area .answer .number ≤ 21))
+      (checkCall book table area .answer .number ≤ 11) ⊎ ((14 ≤ checkCall book table area .answer .number) × (checkCall book table area .answer .number ≤ 22))
   pub check-refusal : (book table area : List ℕ) → 0 < checkCall book table area .answer .number → CheckRefusal area (checkCall book table area)
 
 -- ---- demand 2, first half: "The planner's table, its finishes and its count of late flows are those that the deadline-greedy rule on chains
@@ -93,7 +97,8 @@ pub record PlannedWell (b : Book) (rows : List Row) : Type 0 where
 abbrev pub upTo : Book → ℕ → ℕ → Bool
 upTo b f g = eqb g f || servedBefore b g f
 
--- "no whole-slot schedule of that flow and those before it, whoever made it, keeps the same rules and ends each of them by its own deadline"
+-- "no whole-slot schedule of that flow and those before it, whoever made it, keeps the same rules and ends each of them by its own deadline";
+-- "a refusal that means no schedule beginning at the releases could be on time" (02, Req 01): a valid schedule begins at the releases
 unfoldable pub NoneOnTime : Book → ℕ → Type 0
 NoneOnTime b f =
     (σ : Schedule) → Valid b (upTo b f) σ → ((g : ℕ) → g < flowCount b → upTo b f g ≡ true → EndsBy σ g (flowOf b g .deadline)) → ⊥
@@ -112,11 +117,12 @@ pub record PlannerOwes (b : Book) (out : List ℕ) (o : PlanOutcome) : Type 0 wh
   -- "One is refused as infeasible when the answer is 12: it is the flow named"
   pub infeasible-flow : o .answer .number ≡ 12 → (o .answer .flow < flowCount b) × NoneOnTime b (o .answer .flow)
 
--- "Cut after its first k flows in service order .. it .. is a book of its own. The planner is given that book."
+-- "Cut after its first k flows in service order .. it .. is a book of its own. The planner is given that book." It keeps its version, and
+-- with its flows their releases (02, Req 01).
 unfoldable pub Demand3 : Type 0
 Demand3 =
     (book : List ℕ) (b : Book) → readBook book ≡ read b → (k : ℕ) → k ≤ flowCount b → (out area : List ℕ) → workBytes ≤ length area →
-    PlannerOwes (cut b k) out (planCall (bookBytes (cut b k)) out area)
+    PlannerOwes (cut b k) out (planCall (bookBytes (versionOf book) (cut b k)) out area)
 
 -- ---- planner and check together: the check accepts every table that the planner writes, with the same number of late flows
 unfoldable pub AcceptsPlans : Type 0
@@ -125,6 +131,17 @@ AcceptsPlans =
     checkCall book (take (planCall book out area .answer .length) (planCall book out area .output)) other .answer
     ≡ checkAccepted (planCall book out area .answer .late)
 
+-- ---- "a version 1 book means release 0" (02, Req 01)
+
+-- every release is 0, and the outcome is that of the version 2 book with these values: answer, output and work area
+pub record AsVersion2 (book : List ℕ) (b : Book) : Type 0 where
+  pub release-zero : (f : ℕ) → f < flowCount b → flowOf b f .release ≡ 0
+  pub same-plan : (out area : List ℕ) → planCall book out area ≡ planCall (bookBytes 2 b) out area
+  pub same-check : (table area : List ℕ) → checkCall book table area ≡ checkCall (bookBytes 2 b) table area
+
+unfoldable pub Version1Kept : Type 0
+Version1Kept = (book : List ℕ) (b : Book) → readBook book ≡ read b → versionOf book ≡ 1 → AsVersion2 book b
+
 -- ---- all of it
 pub record Demands : Type 0 where
   pub refuses-by-the-list : Demand1
@@ -132,3 +149,4 @@ pub record Demands : Type 0 where
   pub accepts-exactly : AcceptsExactly
   pub planned-or-infeasible : Demand3
   pub accepts-plans : AcceptsPlans
+  pub version-1-kept : Version1Kept

@@ -1,8 +1,9 @@
 -- Rules 4 to 6: placing slot by slot, rows by units, infeasible books. Assumes nothing.
 use Prim.Native.Nat.{ℕ, zero, suc, _+_, _*_, _-_, min}
+use mathlib.Core.Bool.{Bool}
 use mathlib.Core.List.{List, [], _∷_, _++_}
 use lib.ListN.{take, drop, replicate, getD}
-use lib.Dec.{eqb}
+use lib.Dec.{leb, eqb}
 use Rattle.rules.specs.Walks.{if_then_else_, bit, joinFrom}
 use Rattle.rules.specs.Book.{Flow, Book, flowCount, jobCount, flowOf}
 use Rattle.rules.specs.Ideal.{takeOf}
@@ -50,18 +51,22 @@ unfoldable pub slotRows : Flow → ℕ → ℕ → List PseudoJob → ℕ → �
 slotRows w f t [] done free = []
 slotRows w f t (p ∷ ps) done free = joinFrom (λ i. rowFor t f i (share w p i done (given w p done free))) (jobCount w) 0
 
--- "each from slot 0": a flow's progress after its first t slots, with free u processors still free in slot u
+-- "each from slot 0": a flow's progress after the first t slots, with free u processors still free for it in slot u
 unfoldable pub progress : Flow → (ℕ → ℕ) → ℕ → Progress
 progress w free zero = record { left = chain w; done = 0 }
 progress w free (suc t) = let g = progress w free t in afterSlot w (g .left) (g .done) (free t)
 
--- the rows of flow f in its first n slots
+-- the rows of flow f in the first n slots
 unfoldable pub flowRows : Flow → ℕ → (ℕ → ℕ) → ℕ → List Row
 flowRows w f free n = joinFrom (λ t. let g = progress w free t in slotRows w f t (g .left) (g .done) (free t)) n 0
 
--- "the processors still free" in slot t beside the rows of the flows before
-unfoldable pub freeProcessors : Book → List Row → ℕ → ℕ
-freeProcessors b rows t = b .processors - usedIn rows t
+-- "Placing starts at the release" (02, Req 01): the slots that a flow can use
+unfoldable pub usable : Flow → ℕ → Bool
+usable w t = leb (w .release) t
+
+-- "the processors still free" in slot t for flow f, beside the rows of the flows before
+unfoldable pub freeProcessors : Book → ℕ → List Row → ℕ → ℕ
+freeProcessors b f rows t = if usable (flowOf b f) t then b .processors - usedIn rows t else 0
 
 -- ---- rule 6
 -- the slots in which a flow has to be finished: slot 2 × deadline − 1 is the last
@@ -81,8 +86,8 @@ settled f (p ∷ ps) rows = infeasible f
 -- flow f beside the rows of the flows before
 unfoldable pub placeFlow : Book → ℕ → List Row → Plan
 placeFlow b f rows =
-    settled f (progress (flowOf b f) (freeProcessors b rows) (slotsFor (flowOf b f)) .left)
-    (rows ++ flowRows (flowOf b f) f (freeProcessors b rows) (slotsFor (flowOf b f)))
+    settled f (progress (flowOf b f) (freeProcessors b f rows) (slotsFor (flowOf b f)) .left)
+    (rows ++ flowRows (flowOf b f) f (freeProcessors b f rows) (slotsFor (flowOf b f)))
 
 abbrev pub thenPlace : Plan → (List Row → Plan) → Plan
 thenPlace (planned rows) next = next rows

@@ -31,7 +31,7 @@ planOutcome b out area (planned rows) =
       area = workUsed slots rows area;
     }
 
--- 1 to 10 by the reading; then "work area too short", 11. "A fault found before or by 11 leaves the work area as it was"
+-- 1 to 10 and 22 by the reading; then "work area too short", 11. "A fault found before or by 11 leaves the work area as it was"
 unfoldable pub planReading : List ℕ → List ℕ → Reading → PlanOutcome
 planReading out area (unread n f j) = record { answer = planRefused n f j; output = out; area = area }
 planReading out area (read b) =

@@ -33,7 +33,7 @@ inUse b σ t = sumTo (λ f. sumTo (λ i. σ f i t) (jobCount (flowOf b f))) (flo
 
 -- "A valid schedule gives each job a whole number of processors from 0 to its cap in each slot, at most P together, its size in total, and
 -- nothing before each predecessor has its full size in earlier slots." "It keeps the rules when it is a valid schedule with their jobs and
--- no others."
+-- no others." "A valid schedule, whoever made it, now has nothing before a flow's release" (02, Req 01).
 pub record Valid (b : Book) (among : ℕ → Bool) (σ : Schedule) : Type 0 where
   pub no-others : (f i t : ℕ) → (IsJob b among f i → ⊥) → σ f i t ≡ 0
   pub caps : (f i t : ℕ) → IsJob b among f i → σ f i t ≤ jobOf (flowOf b f) i .cap
@@ -44,6 +44,7 @@ pub record Valid (b : Book) (among : ℕ → Bool) (σ : Schedule) : Type 0 wher
   pub sizes : (f i : ℕ) → IsJob b among f i → sumTo (σ f i) horizon ≡ jobOf (flowOf b f) i .size
   pub precedence : (f i k t : ℕ) → IsJob b among f i → precedes (flowOf b f) k i ≡ true → 0 < σ f i t →
       sumTo (σ f k) t ≡ jobOf (flowOf b f) k .size
+  pub releases : (f i t : ℕ) → IsJob b among f i → t < flowOf b f .release → σ f i t ≡ 0
 
 -- "A flow's finish is its last used slot plus 1 in any schedule. A flow ends by its deadline, or within twice its deadline, when its finish
 -- is at most that." The finish is at most d when nothing is given from slot d on.
