@@ -8,7 +8,7 @@ use Rattle.rules.specs.Rows.{isLate}
 
 -- rule 7 of a flow with this deadline
 unfoldable pub lateBy : ℕ → ℕ → Bool
-lateBy deadline finish = isLate (record { deadline = deadline; jobs = [] }) finish
+lateBy deadline finish = isLate (record { deadline = deadline; release = 0; jobs = [] }) finish
 
 -- how many of the first n flows are late
 unfoldable pub lateCount : List ℕ → List ℕ → ℕ → ℕ

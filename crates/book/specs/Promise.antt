@@ -37,6 +37,7 @@ pub record FlowStands (s : List ℕ) (f start : ℕ) : Type 0 where
 -- the head is that of flow f
 pub record HeadOf (s : List ℕ) (f : ℕ) (h : FlowHead) : Type 0 where
   pub deadline : h .deadline ≡ flowOf (bookOf s) f .deadline
+  pub release : h .release ≡ flowOf (bookOf s) f .release
   pub jobs : h .jobs ≡ jobCount (flowOf (bookOf s) f)
 
 -- a job's record as the specification's job
@@ -47,6 +48,7 @@ jobFrom r = record { size = r .size; cap = r .cap; predecessors = r .predecessor
 unfoldable pub flowFrom : FlowJobs → Flow
 flowFrom x = record {
   deadline = x .deadline;
+  release = x .release;
   jobs = listFrom (λ i. record { size = getD (x .size) i 0; cap = getD (x .cap) i 0; predecessors = getD (x .predecessors) i 0 }) (x .count) 0;
 }
 

@@ -1,14 +1,15 @@
 -- What reading one record of a book finds, and the faults of a job's record by itself. Assumes nothing.
 use Prim.Native.Nat.{ℕ, _+_, _^_}
+use mathlib.Core.Bool.{Bool}
 use mathlib.Core.List.{List}
 use lib.ListN.{length}
-use lib.Dec.{ltb, leb}
+use lib.Dec.{ltb, leb, eqb}
 use Rattle.rules.specs.declared.Verdict.{Verdict}
 use Rattle.rules.specs.declared.Verdict.the-variants.{Pass, Refused}
 use Rattle.rules.specs.Walks.{if_then_else_}
-use Rattle.rules.specs.Fields.{byte, field}
-use Rattle.rules.specs.Limits.{outside, mostSize}
-use Rattle.rules.specs.Reading.{flowHead, jobRecord}
+use Rattle.rules.specs.Fields.{field}
+use Rattle.rules.specs.Limits.{outside, mostDeadline, mostJobs, mostSize}
+use Rattle.rules.specs.Reading.{versionOf, flowHead, jobRecord, releaseAt, jobsAt}
 use Rattle.book.specs.declared.FlowHead.{FlowHead}
 use Rattle.book.specs.declared.HeadRead.{HeadRead}
 use Rattle.book.specs.declared.HeadRead.the-variants.{Whole as WholeHead, Short as ShortHead}
@@ -16,13 +17,31 @@ use Rattle.book.specs.declared.JobRecord.{JobRecord}
 use Rattle.book.specs.declared.JobRead.{JobRead}
 use Rattle.book.specs.declared.JobRead.the-variants.{Whole as WholeJob, Short as ShortJob}
 
+-- a head without a release: "a version 1 book means release 0" (02, Req 01)
+abbrev pub headAtOnce : ℕ → ℕ → FlowHead
+headAtOnce deadline jobs = record { deadline = deadline; release = 0; jobs = jobs }
+
 -- the values of the head at `at`
 abbrev pub headAt : List ℕ → ℕ → FlowHead
-headAt s at = record { deadline = field 2 s at; jobs = byte s (at + 2) }
+headAt s at = record { deadline = field 2 s at; release = releaseAt s at; jobs = jobsAt s at }
 
 -- the head of a flow at `at`: short where the bytes end before it does
 unfoldable pub headRead : List ℕ → ℕ → HeadRead
-headRead s at = if ltb (length s) (at + flowHead) then ShortHead else WholeHead (headAt s at)
+headRead s at = if ltb (length s) (at + flowHead (versionOf s)) then ShortHead else WholeHead (headAt s at)
+
+-- the number of a refusal where a test is met, and 0 where it is not
+unfoldable pub numberIf : Bool → ℕ → ℕ
+numberIf met n = if met then n else 0
+
+-- the first number that is not 0
+unfoldable pub firstNumber : ℕ → ℕ → ℕ
+firstNumber m n = if eqb m 0 then n else m
+
+-- "5, 6, 7 for the head", 22 "directly after 6" (02, Req 01): the number of a whole head, 0 where it passes
+unfoldable pub headNumber : FlowHead → ℕ
+headNumber h =
+    firstNumber (numberIf (outside 1 mostDeadline (h .deadline)) 6)
+    (firstNumber (numberIf (leb (h .deadline) (h .release)) 22) (numberIf (outside 1 mostJobs (h .jobs)) 7))
 
 -- the values of the record at `at`
 abbrev pub recordAt : List ℕ → ℕ → JobRecord
