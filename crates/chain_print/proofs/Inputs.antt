@@ -8,7 +8,7 @@ use Rattle.chain.specs.Jobs.{ChainInput}
 
 -- jobs of one size and cap
 pub equal-jobs : (deadline count size cap : ℕ) (predecessors : List ℕ) → count ≤ 64 → 1 ≤ size → size ≤ 1000000 → 1 ≤ cap → cap ≤ 4096 →
-    ChainInput (record { deadline = deadline; count = count; size = replicate 64 size; cap = replicate 64 cap; predecessors = predecessors })
+    ChainInput (record { deadline = deadline; release = 0; count = count; size = replicate 64 size; cap = replicate 64 cap; predecessors = predecessors })
 equal-jobs deadline count size cap predecessors most size-least size-most cap-least cap-most =
     record {
       count-most = most;

@@ -114,6 +114,7 @@ fn in_a_row(count: usize, size: u32, cap: u32) -> FlowJobs
     }
     FlowJobs {
         deadline: 4096,
+        release: 0,
         count,
         size: [size; 64],
         cap: [cap; 64],
@@ -135,6 +136,7 @@ fn equal_rates() -> FlowJobs
     predecessors[2] = 1;
     FlowJobs {
         deadline: 3,
+        release: 0,
         count: 3,
         size,
         cap,

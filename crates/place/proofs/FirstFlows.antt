@@ -115,7 +115,7 @@ module _ (b : Book) (k f : ℕ) (rows : List Row) (out area out′ area′ finis
       few = omega (arith, length-append rows new, d .next-within, d .put .place, s .first .few);
     };
     within = d .within;
-    behind = λ j m h. finish-stays rows (flowOf b f) f (freeProcessors b rows) (slotsFor (flowOf b f)) (servedAt b j) (no-other j (omega arith) h) ∙ s .behind j (omega arith) h;
+    behind = λ j m h. finish-stays rows (flowOf b f) f (freeProcessors b f rows) (slotsFor (flowOf b f)) (servedAt b j) (no-other j (omega arith) h) ∙ s .behind j (omega arith) h;
     size = length-set finishes f finish ∙ s .size;
   }
     where
@@ -131,12 +131,12 @@ module _ (b : Book) (k f : ℕ) (rows : List Row) (out area out′ area′ finis
           own : g ≡ f → getD (set finishes f finish) g 0 ≡ finishOf (rows ++ new) g
           own e =
               rw e (getD-set-same finishes f finish 0 room ∙ d .ends
-              ∙ sym (finish-own rows (flowOf b f) f (freeProcessors b rows) (slotsFor (flowOf b f)) (ap (finishOf rows) q ∙ s .behind k (omega arith) l)))
+              ∙ sym (finish-own rows (flowOf b f) f (freeProcessors b f rows) (slotsFor (flowOf b f)) (ap (finishOf rows) q ∙ s .behind k (omega arith) l)))
 
           other : (g ≡ f → ⊥) → getD (set finishes f finish) g 0 ≡ finishOf (rows ++ new) g
           other ne =
               getD-set-other finishes f g finish 0 ne ∙ s .first .finish g h
-              ∙ sym (finish-stays rows (flowOf b f) f (freeProcessors b rows) (slotsFor (flowOf b f)) g ne)
+              ∙ sym (finish-stays rows (flowOf b f) f (freeProcessors b f rows) (slotsFor (flowOf b f)) g ne)
 
           go : (g < f) ⊎ (f ≤ g) → (f < g) ⊎ (g ≤ f) → getD (set finishes f finish) g 0 ≡ finishOf (rows ++ new) g
           go (inl m) y = other (λ e. omega arith)

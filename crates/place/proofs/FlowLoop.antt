@@ -2,21 +2,24 @@
 -- limit of rule 6. Assumes nothing.
 use mathlib.Core.Path.{_≡_, refl, sym, ap, subst, _∙_}
 use Prim.Native.Nat.{ℕ, _+_, _*_, _-_, _≤_, _<_}
-use native.Mathlib.Nat.{sub-zero}
+use native.Mathlib.Nat.{sub-zero, le-trans}
 use native.Mathlib.Omega.{arith}
 use mathlib.Core.List.{List, [], _∷_, _++_, append-nil}
 use lib.ListN.{length, getD}
 use Rattle.rules.specs.Limits.{slots}
 use Rattle.rules.specs.declared.Verdict.the-variants.{Pass}
-use Rattle.rules.specs.Book.{Flow, Book, flowCount, jobCount, flowOf, FlowInRange}
+use Rattle.rules.specs.Book.{Flow, Book, flowCount, jobCount, flowOf, jobOf, FlowInRange}
 use Rattle.rules.specs.Reading.{bookOf, bookFault}
 use Rattle.rules.specs.Ideal.{path, takeOf}
 use Rattle.rules.specs.PseudoJobs.{PseudoJob, runs, chain, rate}
 use Rattle.rules.specs.Rows.{Row, usedIn, finishOf, workUsed}
 use Rattle.rules.specs.Placing.{Progress, progress, flowRows, freeProcessors, slotsFor, placeFlow}
 use Rattle.rules.proofs.Passing.{pass-in-range}
-use Rattle.rules.proofs.Ideal.{Sized, in-range-sized}
-use Rattle.rules.proofs.PseudoJobs.{slot-rate-positive}
+use Rattle.rules.proofs.Ideal.{Sized, in-range-sized, end-is-start-plus-duration, end-within-path, duration-positive}
+use Rattle.rules.proofs.PseudoJobs.{slot-rate-positive, chain-live}
+use Rattle.rules.proofs.Usable.{none-free-before, free-within}
+use Rattle.rules.proofs.Greedy.{not-begun}
+use Rattle.rules.proofs.PlannedRows.{no-rows-yet}
 use Rattle.rules.proofs.FlowRows.{used-append}
 use Rattle.book.specs.declared.FlowJobs.{FlowJobs}
 use Rattle.book.specs.Promise.{FlowStands, flowFrom, Loaded}
@@ -32,15 +35,14 @@ use Rattle.place.specs.declared.Placed.{Placed}
 use Rattle.place.specs.declared.Placed.the-variants.{To, Infeasible}
 use Rattle.place.specs.Service.{Packs, Serving, pseudoJob}
 use Rattle.place.specs.Flows.{standing, Beside, rowsUpTo, Underway, UnderwayBy, WorkLeft, RunPlaced, RunAnswer, newRows, FlowDone, FlowInfeasible, FlowHeld}
-use Rattle.place.proofs.OneSlot.{finish-nothing}
 use Rattle.place.proofs.Serving.{takes-within}
 use Rattle.place.proofs.Output.{put-none, put-same-length}
-use Rattle.place.proofs.Steps.{flow-rows-none, stays-finished, no-more-rows, own-rows-within-free}
+use Rattle.place.proofs.Steps.{stays-finished, no-more-rows, own-rows-within-free}
 
--- the flow when the runs before ideal slot t are placed, in the slots before `slot`
+-- the flow when the runs before ideal slot t are placed, in the slots from its release to `slot`
 pub record FlowSoFar (b : Book) (f : ℕ) (x : Beside) (t slot : ℕ) (out area : List ℕ) (next : ℕ) : Type 0 where
   pub under : Underway b f x slot (standing (runs (flowOf b f) (path (flowOf b f) - t) t) 0) out area next
-  pub finish : finishOf (rowsUpTo b f x slot) f ≡ slot
+  pub finish : 0 < t → finishOf (rowsUpTo b f x slot) f ≡ slot
 
 -- what flow f is placed beside by a call that is lent this output
 abbrev pub beside : List Row → List ℕ → List ℕ → ℕ → Beside
@@ -50,42 +52,49 @@ module _ (b : Book) (f : ℕ) where
   abbrev w : Flow
   w = flowOf b f
 
-  pub flow-begins : (rows : List Row) (bytes out area : List ℕ) (at : ℕ) → area ≡ workUsed slots rows bytes →
+  -- at its release it stands at its begin: before, nothing is free for it
+  pub flow-begins : Sized w → (rows : List Row) (bytes out area : List ℕ) (at : ℕ) → area ≡ workUsed slots rows bytes →
       ((u : ℕ) → usedIn rows u ≤ b .processors) →
-      FlowSoFar b f (beside rows bytes out at) 0 0 out area at
-  flow-begins rows bytes out area at e within = record {
+      FlowSoFar b f (beside rows bytes out at) 0 (w .release) out area at
+  flow-begins sized rows bytes out area at e within = record {
     under = record {
       within = within;
+      released = omega arith;
       stands = first-progress;
       area-used = e ∙ ap (λ all. workUsed slots all bytes) (sym (ap (rows ++_) no-rows ∙ append-nil rows));
       put = rw no-rows (put-none out at);
     };
-    finish = rw no-rows (finish-nothing f);
+    finish = λ l. absurd (omega arith);
   }
     where
-      no-rows : flowRows w f (freeProcessors b rows) 0 ≡ []
-      no-rows = flow-rows-none w f (freeProcessors b rows)
+      none-free : (t : ℕ) → t < w .release → freeProcessors b f rows t ≡ 0
+      none-free = none-free-before b f rows
 
-      first-progress : progress w (freeProcessors b rows) 0 ≡ standing (runs w (path w - 0) 0) 0
-      first-progress = unfold progress chain in ap (λ (n : ℕ). standing (runs w n 0) 0) (sym (sub-zero (path w)))
+      no-rows : flowRows w f (freeProcessors b f rows) (w .release) ≡ []
+      no-rows = no-rows-yet w f (freeProcessors b f rows) (w .release) none-free
+
+      first-progress : progress w (freeProcessors b f rows) (w .release) ≡ standing (runs w (path w - 0) 0) 0
+      first-progress =
+          not-begun w (freeProcessors b f rows) (chain-live w sized) (w .release) none-free
+          ∙ (unfold chain in ap (λ (n : ℕ). standing (runs w n 0) 0) (sym (sub-zero (path w))))
 
   -- all runs are placed
-  pub flow-done : (rows : List Row) (bytes out₀ out area : List ℕ) (at t slot next : ℕ) → Sized w → jobCount w ≤ 64 → path w ≤ t →
+  pub flow-done : (rows : List Row) (bytes out₀ out area : List ℕ) (at t slot next : ℕ) → Sized w → jobCount w ≤ 64 → 0 < path w → path w ≤ t →
       slot ≤ slotsFor w → slotsFor w ≤ 8192 →
       next ≤ at + 384 * slot → FlowSoFar b f (beside rows bytes out₀ at) t slot out area next →
       FlowDone b f rows bytes out₀ at out area slot next
-  flow-done rows bytes out₀ out area at t slot next sized few over l most room so-far =
+  flow-done rows bytes out₀ out area at t slot next sized few some over l most room so-far =
       record {
         placed = unfold placeFlow in rw (ap (λ (g : Progress). g .left) at-limit) refl;
         put = rw same (so-far .under .put);
         area-used = so-far .under .area-used ∙ ap (λ more. workUsed slots (rows ++ more) bytes) (sym same);
-        ends = sym (ap (λ more. finishOf more f) same ∙ so-far .finish);
+        ends = sym (ap (λ more. finishOf more f) same ∙ so-far .finish (omega arith));
         within = λ u. omega (arith, used-append rows (newRows b f rows) u, so-far .under .within u, own u);
         next-within = omega arith;
         finish-within = l;
       }
     where
-      nothing-left : progress w (freeProcessors b rows) slot ≡ standing [] 0
+      nothing-left : progress w (freeProcessors b f rows) slot ≡ standing [] 0
       nothing-left =
           let z : path w - t ≡ 0 = omega arith in
           so-far .under .stands ∙ ap (λ (n : ℕ). standing (runs w n t) 0) z ∙ (unfold runs in refl)
@@ -93,24 +102,24 @@ module _ (b : Book) (f : ℕ) where
       rest : slot + (slotsFor w - slot) ≡ slotsFor w
       rest = omega arith
 
-      at-limit : progress w (freeProcessors b rows) (slotsFor w) ≡ standing [] 0
-      at-limit = ap (progress w (freeProcessors b rows)) (sym rest) ∙ stays-finished w f (freeProcessors b rows) slot (slotsFor w - slot) 0
+      at-limit : progress w (freeProcessors b f rows) (slotsFor w) ≡ standing [] 0
+      at-limit = ap (progress w (freeProcessors b f rows)) (sym rest) ∙ stays-finished w f (freeProcessors b f rows) slot (slotsFor w - slot) 0
           nothing-left
 
-      same : newRows b f rows ≡ flowRows w f (freeProcessors b rows) slot
-      same = ap (flowRows w f (freeProcessors b rows)) (sym rest) ∙ no-more-rows w f (freeProcessors b rows) slot (slotsFor w - slot) 0
+      same : newRows b f rows ≡ flowRows w f (freeProcessors b f rows) slot
+      same = ap (flowRows w f (freeProcessors b f rows)) (sym rest) ∙ no-more-rows w f (freeProcessors b f rows) slot (slotsFor w - slot) 0
           nothing-left
 
       own : (u : ℕ) → usedIn (newRows b f rows) u ≤ b .processors - usedIn rows u
-      own u = unfold freeProcessors in own-rows-within-free w f (freeProcessors b rows) sized (slotsFor w) u
+      own u = le-trans (own-rows-within-free w f (freeProcessors b f rows) sized (slotsFor w) u) (free-within b f rows u)
 
   -- the limit is reached and work is left
   pub flow-stops : (rows : List Row) (bytes out₀ out area : List ℕ) (at limit : ℕ) → limit ≡ slotsFor w →
       WorkLeft b f (beside rows bytes out₀ at) limit out area → FlowInfeasible b f rows bytes out₀ out area
   flow-stops rows bytes out₀ out area at limit e left = record {
     refused = unfold placeFlow in rw
-        (ap (λ (g : Progress). g .left) (ap (progress w (freeProcessors b rows)) (sym e) ∙ left .under .stands)) refl;
-    others = rows ++ flowRows w f (freeProcessors b rows) limit;
+        (ap (λ (g : Progress). g .left) (ap (progress w (freeProcessors b f rows)) (sym e) ∙ left .under .stands)) refl;
+    others = rows ++ flowRows w f (freeProcessors b f rows) limit;
     area-used = left .under .area-used;
     length-kept = put-same-length out₀ out at (left .next) _ (left .under .put);
   }
@@ -125,16 +134,6 @@ pub record FlowKept (b : Book) (f at limit : ℕ) (out₀ area₀ out area : Lis
   pub so-far : (rows : List Row) (bytes : List ℕ) → area₀ ≡ workUsed slots rows bytes → ((u : ℕ) → usedIn rows u ≤ b .processors) →
       FlowSoFar b f (beside rows bytes out₀ at) t slot out area next
 
-pub flow-kept-first : (b : Book) (f at limit : ℕ) (out area : List ℕ) → FlowKept b f at limit out area out area 0 0 at
-flow-kept-first b f at limit out area = record {
-  cut-to = omega arith;
-  slot-to = omega arith;
-  next-to = omega arith;
-  out-length = refl;
-  area-length = refl;
-  so-far = λ rows bytes e within. flow-begins b f rows bytes out area at e within;
-}
-
 -- ---- a flow that is read out of its book, on endless processors
 flow-in-range : (s : List ℕ) (f : ℕ) → bookFault s ≡ Pass → f < flowCount (bookOf s) → FlowInRange (bookOf s .processors) (flowOf (bookOf s) f)
 flow-in-range s f passes flow-in = pass-in-range s passes .each-flow f flow-in
@@ -144,6 +143,9 @@ module _ (s : List ℕ) (f start : ℕ) (x : FlowJobs) (stands : FlowStands s f 
   chain-asked =
       input-of x (bookOf s .processors) (pass-in-range s (stands .passes) .processors-most)
       (rw (loaded .values) (flow-in-range s f (stands .passes) (stands .flow-in)))
+
+  pub release-held : (d : ℕ) → d ≡ x .release → d ≡ flowOf (bookOf s) f .release
+  release-held d e = e ∙ (unfold flowFrom in ap (λ (v : Flow). v .release) (loaded .values))
 
   pub limit-held : (d : ℕ) → d ≡ x .deadline → 2 * d ≡ slotsFor (flowOf (bookOf s) f)
   limit-held d e = ap (λ (n : ℕ). 2 * n) (e ∙ (unfold flowFrom in ap (λ (v : Flow). v .deadline) (loaded .values)))
@@ -192,6 +194,29 @@ module _ {s : List ℕ} {f : ℕ} {caps starts ends lasts firsts : List ℕ} {co
 
   pub path-held : most ≡ path (flowOf (bookOf s) f)
   path-held = h .held .path-is ∙ h .held .ideal .path ∙ ap path (h .loaded .values)
+
+  path-positive : 0 < path (flowOf (bookOf s) f)
+  path-positive =
+      let w = flowOf (bookOf s) f in
+      let j = in-range .each-job 0 (in-range .jobs-least) in
+      omega (
+        arith,
+        end-within-path w 0 (in-range .jobs-least),
+        end-is-start-plus-duration w 0,
+        duration-positive (jobOf w 0) (j .cap-least) (j .size-least),
+      )
+
+  -- the loop begins at the release, with no run placed
+  pub flow-kept-first : {limit slot : ℕ} (at : ℕ) (out area : List ℕ) → limit ≡ slotsFor (flowOf (bookOf s) f) → slot ≡ flowOf (bookOf s) f .release →
+      FlowKept (bookOf s) f at limit out area out area 0 slot at
+  flow-kept-first at out area e q = record {
+    cut-to = omega arith;
+    slot-to = omega (arith, in-range .release-below);
+    next-to = omega arith;
+    out-length = refl;
+    area-length = refl;
+    so-far = λ rows bytes used within. rw q (flow-begins (bookOf s) f flow-sized rows bytes out area at used within);
+  }
 
   -- what `run_at` asks
   pub some-flow : SomeFlow caps starts ends lasts firsts count most
@@ -252,7 +277,7 @@ module _ {s : List ℕ} {f : ℕ} {caps starts ends lasts firsts : List ℕ} {co
         area′ next′
     flow-goes-on P y slot at limit out area out′ area′ slot′ next′ so-far placed =
         let done = placed .finished y _ (at-cut-under P y slot out area at so-far) in
-        record { under = done .under; finish = done .finish }
+        record { under = done .under; finish = λ l. done .finish }
 
     pub flow-kept-next : {at limit : ℕ} {out₀ area₀ out area out′ area′ : List ℕ} {slot next slot′ next′ : ℕ} {q : Placed} (P : ℕ) →
         FlowKept (bookOf s) f at limit out₀ area₀ out area t slot next →
@@ -290,5 +315,5 @@ module _ {s : List ℕ} {f : ℕ} {caps starts ends lasts firsts : List ℕ} {co
       (rows : List Row) (bytes : List ℕ) → area₀ ≡ workUsed slots rows bytes → ((u : ℕ) → usedIn rows u ≤ bookOf s .processors) →
       FlowDone (bookOf s) f rows bytes out₀ at out area slot next
   flow-kept-done {at} {limit} {out₀} {area₀} {out} {area} {t} {slot} {next} e over k rows bytes q within =
-      flow-done (bookOf s) f rows bytes out₀ out area at t slot next flow-sized jobs-few over (omega (arith, k .slot-to))
+      flow-done (bookOf s) f rows bytes out₀ out area at t slot next flow-sized jobs-few path-positive over (omega (arith, k .slot-to))
       deadline-within (k .next-to) (k .so-far rows bytes q within)

@@ -38,7 +38,7 @@ module _ {s : List ℕ} {c : Current} {names takes rows : List ℕ} (v : Serving
   run-goes-on slot done out area out′ area′ next r inside left so-far served =
       let w = currentFlow s c in
       let p = pseudoJob c in
-      let free = freeProcessors (bookOf s) (x .rows) slot in
+      let free = freeProcessors (bookOf s) (c .flow) (x .rows) slot in
       let u = so-far .going-on left in
       let e : r .give ≡ given w p done free = served .gives x ps u in
       let later : slot + 1 ≡ suc slot = omega arith in

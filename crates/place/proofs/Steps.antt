@@ -58,7 +58,7 @@ module _ (w : Flow) (f t : ℕ) where
 
 -- ---- slot after slot
 module _ (w : Flow) (f : ℕ) (free : ℕ → ℕ) where
-  pub flow-rows-none : flowRows w f free 0 ≡ []
+  flow-rows-none : flowRows w f free 0 ≡ []
   unfolding flowRows joinFrom
   flow-rows-none = refl
 

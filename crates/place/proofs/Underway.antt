@@ -42,10 +42,10 @@ module _ (b : Book) (f : ℕ) (x : Beside) (t : ℕ) (p : PseudoJob) (ps : List 
   w = flowOf b f
 
   abbrev free : ℕ
-  free = freeProcessors b (x .rows) t
+  free = freeProcessors b f (x .rows) t
 
   used-so-far : usedIn (x .rows ++ rowsUpTo b f x t) t ≡ usedIn (x .rows) t
-  used-so-far = omega (arith, used-append (x .rows) (rowsUpTo b f x t) t, own-rows-earlier w f (freeProcessors b (x .rows)) t t (omega arith))
+  used-so-far = omega (arith, used-append (x .rows) (rowsUpTo b f x t) t, own-rows-earlier w f (freeProcessors b f (x .rows)) t t (omega arith))
 
   -- the area holds the use of the slot by the flows before
   pub used-before : field 2 area (2 * t) ≡ usedIn (x .rows) t
@@ -55,12 +55,12 @@ module _ (b : Book) (f : ℕ) (x : Beside) (t : ℕ) (p : PseudoJob) (ps : List 
 
   rows-next : rowsUpTo b f x (suc t) ≡ rowsUpTo b f x t ++ jobRows w f t p done (given w p done free)
   rows-next =
-      flow-rows-next w f (freeProcessors b (x .rows)) t
+      flow-rows-next w f (freeProcessors b f (x .rows)) t
       ∙ ap (rowsUpTo b f x t ++_)
-      (rows-in-standing w f (freeProcessors b (x .rows)) t (p ∷ ps) done (u .stands) ∙ slot-rows-served w f t p ps done free ∙
+      (rows-in-standing w f (freeProcessors b f (x .rows)) t (p ∷ ps) done (u .stands) ∙ slot-rows-served w f t p ps done free ∙
       rows-below-all w f t p done (given w p done free))
 
-  stands-next : progress w (freeProcessors b (x .rows)) (suc t) ≡ afterSlot w (p ∷ ps) done free
+  stands-next : progress w (freeProcessors b f (x .rows)) (suc t) ≡ afterSlot w (p ∷ ps) done free
   unfolding progress
   stands-next = rw (u .stands) refl
 
@@ -74,6 +74,7 @@ module _ (b : Book) (f : ℕ) (x : Beside) (t : ℕ) (p : PseudoJob) (ps : List 
       let all : rowsUpTo b f x (suc t) ≡ rowsUpTo b f x t ++ new = rw e rows-next in
       record {
         within = u .within;
+        released = omega (arith, u .released);
         stands = stands-next;
         area-used =
             stored
@@ -88,10 +89,10 @@ module _ (b : Book) (f : ℕ) (x : Beside) (t : ℕ) (p : PseudoJob) (ps : List 
   slot-passed e =
       let all : rowsUpTo b f x (suc t) ≡ rowsUpTo b f x t = rows-next ∙ rw (job-rows-nothing w f t p done (given w p done free) e)
       (append-nil (rowsUpTo b f x t)) in
-      record { within = u .within; stands = stands-next; area-used = rw all (u .area-used); put = rw all (u .put) }
+      record { within = u .within; released = omega (arith, u .released); stands = stands-next; area-used = rw all (u .area-used); put = rw all (u .put) }
 
   -- where the slot gives something, it is the flow's last used slot so far
   pub slot-finish : 0 < rate w p → done + given w p done free ≤ work w p → 0 < given w p done free → finishOf (rowsUpTo b f x (suc t)) f ≡ suc t
   slot-finish pos h l =
       rw (rows-next, finish-append (rowsUpTo b f x t) (jobRows w f t p done (given w p done free)) f)
-      (omega (arith, own-finish-le w f (freeProcessors b (x .rows)) t, job-rows-finish w f t p done (given w p done free) pos h l))
+      (omega (arith, own-finish-le w f (freeProcessors b f (x .rows)) t, job-rows-finish w f t p done (given w p done free) pos h l))

@@ -34,14 +34,15 @@ pub record Beside : Type 0 where
   pub output : List ℕ
   pub place : ℕ
 
--- the rows of its first t slots
+-- its rows in the first t slots
 abbrev pub rowsUpTo : Book → ℕ → Beside → ℕ → List Row
-rowsUpTo b f x t = flowRows (flowOf b f) f (freeProcessors b (x .rows)) t
+rowsUpTo b f x t = flowRows (flowOf b f) f (freeProcessors b f (x .rows)) t
 
--- after its first t slots the flow stands at g, the area holds the use of all rows so far, and its own rows are put
+-- after the first t slots, which reach its release, the flow stands at g, the area holds the use of all rows so far, and its own rows are put
 pub record Underway (b : Book) (f : ℕ) (x : Beside) (t : ℕ) (g : Progress) (out area : List ℕ) (next : ℕ) : Type 0 where
   pub within : (u : ℕ) → usedIn (x .rows) u ≤ b .processors
-  pub stands : progress (flowOf b f) (freeProcessors b (x .rows)) t ≡ g
+  pub released : flowOf b f .release ≤ t
+  pub stands : progress (flowOf b f) (freeProcessors b f (x .rows)) t ≡ g
   pub area-used : area ≡ workUsed slots (x .rows ++ rowsUpTo b f x t) (x .area)
   pub put : Put (x .output) (x .place) (rowsUpTo b f x t) out next
 
@@ -54,9 +55,9 @@ pub record SlotServed (s : List ℕ) (c : Current) (at done slot : ℕ) (out are
   pub give-within : done + r .give ≤ work (currentFlow s c) (pseudoJob c)
   pub next-within : r .next ≤ at + 384
   pub gives : (x : Beside) (ps : List PseudoJob) → UnderwayBy s c x slot (standing (pseudoJob c ∷ ps) done) out area at →
-      r .give ≡ given (currentFlow s c) (pseudoJob c) done (freeProcessors (bookOf s) (x .rows) slot)
+      r .give ≡ given (currentFlow s c) (pseudoJob c) done (freeProcessors (bookOf s) (c .flow) (x .rows) slot)
   pub serves : (x : Beside) (ps : List PseudoJob) → UnderwayBy s c x slot (standing (pseudoJob c ∷ ps) done) out area at →
-      UnderwayBy s c x (suc slot) (afterSlot (currentFlow s c) (pseudoJob c ∷ ps) done (freeProcessors (bookOf s) (x .rows) slot)) out′ area′ (r .next)
+      UnderwayBy s c x (suc slot) (afterSlot (currentFlow s c) (pseudoJob c ∷ ps) done (freeProcessors (bookOf s) (c .flow) (x .rows) slot)) out′ area′ (r .next)
 
 -- ---- one pseudo-job
 -- it is finished, and its last slot is the flow's last used slot so far
@@ -104,7 +105,7 @@ pub record FlowHeld (s : List ℕ) (f : ℕ) (caps starts ends lasts firsts : Li
 
 -- the rows of flow f beside those of the flows before it
 abbrev pub newRows : Book → ℕ → List Row → List Row
-newRows b f rows = flowRows (flowOf b f) f (freeProcessors b rows) (slotsFor (flowOf b f))
+newRows b f rows = flowRows (flowOf b f) f (freeProcessors b f rows) (slotsFor (flowOf b f))
 
 -- its rows are put and counted in
 pub record FlowDone (b : Book) (f : ℕ) (rows : List Row) (area out : List ℕ) (at : ℕ) (out′ area′ : List ℕ) (finish next : ℕ) : Type 0 where

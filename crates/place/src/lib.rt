@@ -275,7 +275,8 @@ pub fn place_run(
     Placed::To(slot, next)
 }
 
-// Rules 4 to 6 for flow f, which the lists hold: its pseudo-jobs one after the other, each from the slot after the one before it.
+// Rules 4 to 6 for flow f, which the lists hold: its pseudo-jobs one after the other, the first from the release on, each other from the slot
+// after the one before it.
 pub fn place_cuts(
     book: &[u8],
     caps: &[u32],
@@ -294,13 +295,14 @@ pub fn place_cuts(
     count: usize,
     path: u32,
     limit: usize,
+    release: usize,
 ) -> Placed
-    requires { ⌜ FlowHeld (now book) f (now caps) (now starts) (now ends) (now lasts) (now firsts) count path × (count ≤ length (now names)) × (count ≤ length (now takes)) × (count ≤ length (now rows)) × (processors ≡ bookOf (now book) .processors) × (limit ≡ slotsFor (flowOf (bookOf (now book)) f)) × (workBytes ≤ length (now area)) × (at + 3145728 < 4294967296) ⌝ }
+    requires { ⌜ FlowHeld (now book) f (now caps) (now starts) (now ends) (now lasts) (now firsts) count path × (count ≤ length (now names)) × (count ≤ length (now takes)) × (count ≤ length (now rows)) × (processors ≡ bookOf (now book) .processors) × (limit ≡ slotsFor (flowOf (bookOf (now book)) f)) × (release ≡ flowOf (bookOf (now book)) f .release) × (workBytes ≤ length (now area)) × (at + 3145728 < 4294967296) ⌝ }
     ensures { λ r. ⌜ ((rows : List Row) (bytes : List ℕ) → now (area .entry) ≡ workUsed slots rows bytes → ((t : ℕ) → usedIn rows t ≤ processors) → FlowPlaced (bookOf (now (book .entry))) f rows bytes (now (out .entry)) at (now (out .exit)) (now (area .exit)) r) ⌝ }
 {
     let mut from: usize = 0;
     let mut t: u32 = 0;
-    let mut slot: usize = 0;
+    let mut slot = release;
     let mut next = at;
     while t < path {
         from = chain::skip_ended(ends, count, from, t);
@@ -353,6 +355,7 @@ pub fn place_flow(
     let jobs = book::load_flow(book, start, f);
     let ideal = chain::ideal_of(jobs);
     let limit = 2 * bytes::wide16(jobs.deadline);
+    let release = bytes::wide16(jobs.release);
     let caps = jobs.cap;
     let starts = ideal.starts;
     let ends = ideal.ends;
@@ -379,5 +382,6 @@ pub fn place_flow(
         jobs.count,
         ideal.path,
         limit,
+        release,
     )
 }

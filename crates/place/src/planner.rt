@@ -30,7 +30,7 @@ pub struct Whole {
     pub finish: [u16; 64],
 }
 
-// The first `count` flows in service order, each from slot 0 beside those before it.
+// The first `count` flows in service order, each from its release on beside those before it.
 pub fn place_first(
     book: &[u8],
     out: &mut [u8],

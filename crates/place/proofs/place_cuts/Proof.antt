@@ -12,12 +12,12 @@ use Rattle.place.proofs.place_cuts.Statement.{statement}
 use Rattle.place.proofs.place_cuts.Tie as tie
 
 abbrev Inv-loop : tie.InvT-loop
-Inv-loop book caps starts ends lasts firsts names₀ takes₀ rows₀ out₀ area₀ at f processors count path limit from₀ t₀ slot₀ next₀ names takes rows out area from t slot next =
+Inv-loop book caps starts ends lasts firsts names₀ takes₀ rows₀ out₀ area₀ at f processors count path limit release from₀ t₀ slot₀ next₀ names takes rows out area from t slot next =
     FlowKept (bookOf book) f at limit out₀ area₀ out area t slot next × EndedBelow ends count from t ×
     (length names ≡ length names₀) × (length takes ≡ length takes₀) × (length rows ≡ length rows₀)
 
 abbrev μ-loop : tie.MeasureT-loop
-μ-loop book caps starts ends lasts firsts names₀ takes₀ rows₀ out₀ area₀ at f processors count path limit from₀ t₀ slot₀ next₀ names takes rows out area from t slot next =
+μ-loop book caps starts ends lasts firsts names₀ takes₀ rows₀ out₀ area₀ at f processors count path limit release from₀ t₀ slot₀ next₀ names takes rows out area from t slot next =
     path - t
 
 -- where the function begins, a turn, the run at the turn's cut, and its packed rows
@@ -35,8 +35,8 @@ packed c = c .before .before .before .before .before .before .before .before
 
 loop-holds : tie.Need-loop-holds Inv-loop μ-loop
 loop-holds c =
-    let a = c .before .before .before .before .before .before .before .before .before .before .before .args in
-    (flow-kept-first (bookOf (a .book .now)) (a .f) (a .at) _ (a .out .now) (a .area .now), ended-none _ _ _, refl, refl, refl)
+    let b = c .before .before .before .before .before .before .before .before .before .before .before in
+    (flow-kept-first (b .pre .0) (b .args .at) (b .args .out .now) (b .args .area .now) (b .pre .5) (b .pre .6), ended-none _ _ _, refl, refl, refl)
 
 skip-ended-requires : tie.Need-skip-ended-requires Inv-loop μ-loop
 skip-ended-requires c κs = (c .before .loop .inv .1 .within, start (c .before) .pre .0 .ends-whole)
@@ -78,10 +78,10 @@ place-run-requires c κs =
     let l = turn (made p) .loop in
     let v = start (turn (made p)) .pre in (
       serving-at (v .0) (made p .run-at .ensures) (v .4) (omega (arith, v .1, l .inv .2)) (omega (arith, v .2, l .inv .3)) (omega (arith, v .3, l .inv .4)) (p .pack-parts .ensures),
-      omega (arith, v .6, l .inv .0 .area-length),
+      omega (arith, v .7, l .inv .0 .area-length),
       l .inv .0 .slot-to,
       omega (arith, v .5, deadline-within (v .0)),
-      omega (arith, v .7, l .inv .0 .next-to, l .inv .0 .slot-to, v .5, deadline-within (v .0)),
+      omega (arith, v .8, l .inv .0 .next-to, l .inv .0 .slot-to, v .5, deadline-within (v .0)),
     )
 
 enum-known-s : tie.Need-enum-known-s Inv-loop μ-loop

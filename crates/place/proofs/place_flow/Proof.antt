@@ -1,10 +1,30 @@
 -- One flow: its values are read out, and its lists are those that the cuts are placed by. Assumes nothing.
-use mathlib.Core.Path.{_≡_}
+use mathlib.Core.Path.{_≡_, sym}
 use lib.ListN.{length}
-use Rattle.place.proofs.FlowLoop.{chain-asked, limit-held, flow-held}
+use Rattle.place.proofs.FlowLoop.{chain-asked, release-held, limit-held, flow-held}
 use borrow.Author.Needs.{needs}
 use Rattle.place.proofs.place_flow.Statement.{statement}
 use Rattle.place.proofs.place_flow.Tie as tie
+
+-- where all of the flow is read, before its lists are lent
+abbrev read : tie.After-firsts2 → tie.After-wide162
+read c = c .before .before .before .before .before .before .before .before .before .before
+
+-- the lists are as long as the arrays
+caps-long : (c : tie.After-ideal-of) → length (c .before .load-flow .result .cap) ≡ 64
+caps-long c = search needs
+
+starts-long : (c : tie.After-ideal-of) → length (c .ideal-of .result .starts) ≡ 64
+starts-long c = search needs
+
+ends-long : (c : tie.After-ideal-of) → length (c .ideal-of .result .ends) ≡ 64
+ends-long c = search needs
+
+lasts-long : (c : tie.After-ideal-of) → length (c .ideal-of .result .lasts) ≡ 64
+lasts-long c = search needs
+
+firsts-long : (c : tie.After-ideal-of) → length (c .ideal-of .result .firsts) ≡ 64
+firsts-long c = search needs
 
 load-flow-requires : tie.Need-load-flow-requires
 load-flow-requires c κs = search needs
@@ -20,6 +40,9 @@ wide16-requires c κs = search needs
 mul-limit : tie.Need-mul-limit
 mul-limit c = search needs
 
+wide16-requires-2 : tie.Need-wide16-requires-2
+wide16-requires-2 c κs = search needs
+
 slice-aggregate-place-cuts : tie.Need-slice-aggregate-place-cuts
 slice-aggregate-place-cuts c = search needs
 
@@ -33,7 +56,7 @@ slice-aggregate-place-cuts-4 : tie.Need-slice-aggregate-place-cuts-4
 slice-aggregate-place-cuts-4 c = search needs
 
 slice-aggregate-place-cuts-5 : tie.Need-slice-aggregate-place-cuts-5
-slice-aggregate-place-cuts-5 c = search needs
+slice-aggregate-place-cuts-5 c = sym (firsts-long (read c .before .before))
 
 slice-aggregate-place-cuts-6 : tie.Need-slice-aggregate-place-cuts-6
 slice-aggregate-place-cuts-6 c = search needs
@@ -46,24 +69,21 @@ slice-aggregate-place-cuts-8 c = search needs
 
 place-cuts-requires : tie.Need-place-cuts-requires
 place-cuts-requires c κs =
-    let a = c .before .before .before .before .before .before .before .before .before .before .before .before .before .before .before .before .before .before .before .before .before .args in
-    let v = c .before .before .before .before .before .before .before .before .before .before .before .before .before .before .before .before .before .before .before .before .before .pre in
-    let load = c .before .before .before .before .before .before .before .before .before .before .before .before .before .before .before .before .before .load-flow in
-    let ideal = c .before .before .before .before .before .before .before .before .before .before .before .before .before .before .before .before .ideal-of in
-    let caps : length (c .before .before .before .before .before .before .before .before .before .before .before .before .before .before .before .before .before .load-flow .result .cap) ≡ 64 = search needs in
-    let starts : length (c .before .before .before .before .before .before .before .before .before .before .before .before .before .before .before .before .ideal-of .result .starts) ≡ 64 = search needs in
-    let ends : length (c .before .before .before .before .before .before .before .before .before .before .before .before .before .before .before .before .ideal-of .result .ends) ≡ 64 = search needs in
-    let lasts : length (c .before .before .before .before .before .before .before .before .before .before .before .before .before .before .before .before .ideal-of .result .lasts) ≡ 64 = search needs in
-    let firsts : length (c .before .before .before .before .before .before .before .before .before .before .before .before .before .before .before .before .ideal-of .result .firsts) ≡ 64 = search needs in
+    let r = read (c .before .before .before .before .before) in
+    let h = r .before .before in
+    let load = h .before .load-flow in
+    let b = h .before .before .before .before .before in
     let few = load .ensures .few in (
-      flow-held (a .book .now) (a .f) (a .start) (load .result) (v .0) (load .ensures) (ideal .result) (ideal .ensures) caps starts ends lasts firsts,
+      flow-held (b .args .book .now) (b .args .f) (b .args .start) (load .result) (b .pre .0) (load .ensures) (h .ideal-of .result) (h .ideal-of .ensures)
+          (caps-long h) (starts-long h) (ends-long h) (lasts-long h) (firsts-long h),
       few,
       few,
       few,
-      v .1,
-      limit-held (a .book .now) (a .f) (a .start) (load .result) (v .0) (load .ensures) _ (c .before .before .before .before .before .before .before .before .before .before .before .before .before .before .before .wide16 .ensures .0),
-      v .2,
-      v .3,
+      b .pre .1,
+      limit-held (b .args .book .now) (b .args .f) (b .args .start) (load .result) (b .pre .0) (load .ensures) _ (r .before .wide16 .ensures .0),
+      release-held (b .args .book .now) (b .args .f) (b .args .start) (load .result) (b .pre .0) (load .ensures) _ (r .wide162 .ensures .0),
+      b .pre .2,
+      b .pre .3,
     )
 
 same-length : tie.Need-same-length
@@ -83,6 +103,7 @@ place-flow-spec =
     ideal-of-requires
     wide16-requires
     mul-limit
+    wide16-requires-2
     slice-aggregate-place-cuts
     slice-aggregate-place-cuts-2
     slice-aggregate-place-cuts-3
