@@ -1,5 +1,5 @@
--- A row that has passed 15 to 18: 19 by the bits of its predecessors, room to count it, and that the next turn begins with the row counted.
--- Assumes nothing.
+-- A row that has passed 15 to 18 and 19 by the release: 19 by the bits of its predecessors, room to count it, and that the next turn begins with
+-- the row counted. Assumes nothing.
 use mathlib.Core.Path.{_≡_, refl, sym, ap, _∙_}
 use Prim.Native.Nat.{ℕ, suc, _+_, _*_, _^_, _≤_, _<_}
 use mathlib.Core.Bool.{Bool, true, false, false≢true}

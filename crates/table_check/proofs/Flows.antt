@@ -26,7 +26,7 @@ use Rattle.rules.proofs.Faults.{not-pass, fault-stop, fault-ext}
 use Rattle.rules.proofs.Passing.{pass-in-range}
 use Rattle.rules.proofs.WorkArea.{used-none, used-over-cleared, cleared-twice, cleared-length}
 use Rattle.book.specs.declared.Index.{Index}
-use Rattle.book.specs.Promise.{Indexed}
+use Rattle.book.specs.Promise.{Indexed, FlowStands}
 use Rattle.table_check.specs.declared.row.Row.{Row}
 use Rattle.table_check.specs.declared.row.Current.{Current}
 use Rattle.table_check.specs.declared.walk.Stop.{Stop}
@@ -138,6 +138,14 @@ module _ {book table : List ℕ} {x : Index} {flows : ℕ} {work₀ work off fin
   pub flows-few : flows ≤ 64
   flows-few = omega (arith, between .flows-are, range .flows-most)
 
+  -- a flow of the book starts where the index says
+  pub flow-stands : {f start : ℕ} → f < flows → start ≡ getD (x .starts) f 0 → FlowStands book f start
+  flow-stands {f} in-book start-is = record {
+    passes = between .indexed .passes;
+    flow-in = omega (arith, between .flows-are);
+    start-at = start-is ∙ between .indexed .starts f (omega (arith, between .flows-are));
+  }
+
   -- a fault ends the walk
   module _ (entry : List ℕ) (from : work₀ ≡ workZero slots entry) where
     entry-cleared : (after : List ℕ) → workZero slots after ≡ workZero slots work → workZero slots after ≡ workZero slots entry
@@ -231,16 +239,14 @@ module _ {book table : List ℕ} {x : Index} {flows : ℕ} {work₀ work off fin
         key-least : least ≤ key
         key-least = leb-true least key (sym (order (early .fits)) ∙ le-leb (leastKey b rows k) (rowKey b (rowFrom r)) (early .after-least))
 
-        pub flow-begins : k ≡ rowsTo (bookOf book) at → {start processors : ℕ} → start ≡ getD (x .starts) f 0 → processors ≡ x .processors →
-            FlowBegins book table work (record { flow = f; start = start; jobs = jobs; processors = processors }) at
-        flow-begins k-is start-is processors-are = record {
+        pub flow-begins : k ≡ rowsTo (bookOf book) at → {start release processors : ℕ} → start ≡ getD (x .starts) f 0 →
+            release ≡ flowOf (bookOf book) f .release → processors ≡ x .processors →
+            FlowBegins book table work (record { flow = f; start = start; jobs = jobs; release = release; processors = processors }) at
+        flow-begins k-is start-is release-is processors-are = record {
           current = record {
-            stands = record {
-              passes = between .indexed .passes;
-              flow-in = omega (arith, flow-in, flow-is);
-              start-at = start-is ∙ between .indexed .starts f (omega (arith, between .flows-are));
-            };
+            stands = flow-stands in-book start-is;
             jobs = jobs-read ∙ between .indexed .jobs f (omega (arith, between .flows-are));
+            release = release-is;
             processors = processors-are ∙ between .indexed .processors;
           };
           headed = between .headed;

@@ -1,5 +1,5 @@
--- A row's verdict, test by test: what the tests in the walk say of it. The tests of 15 and 16, of 17 and 18, and of 19 stand one after the other,
--- each group counting where those before it pass. Assumes nothing.
+-- A row's verdict, test by test: what the tests in the walk say of it. The tests of 15 and 16, of 17, 18 and 19 by the release, and of 19 by the
+-- predecessors stand one after the other, each group counting where those before it pass. Assumes nothing.
 use mathlib.Core.Path.{_≡_, refl, sym, ap, _∙_, subst}
 use Prim.Native.Nat.{ℕ, _+_, _≤_, _<_}
 use mathlib.Core.Bool.{Bool, true, false, not, _&&_, _||_}
@@ -15,7 +15,7 @@ use Rattle.rules.specs.Limits.{slots}
 use Rattle.rules.specs.Answers.{firstFault}
 use Rattle.rules.specs.Book.{Book, flowCount, jobCount, flowOf, jobOf, hasBit, InRange}
 use Rattle.rules.specs.Rows.{Row, usedIn, doneBefore, finishOf}
-use Rattle.rules.specs.Check.{noRow, rises, lacksPredecessor, rowFault}
+use Rattle.rules.specs.Check.{noRow, rises, beforeRelease, lacksPredecessor, rowFault}
 use Rattle.rules.proofs.Walks.{any-ext}
 use Rattle.rules.proofs.Faults.{fault-pass}
 use Rattle.rules.proofs.Passing.{test-passed, neither-true}
@@ -23,19 +23,33 @@ use Rattle.table_check.specs.Tests.{rowKey, leastKey, earlyNumber, lateN
 use Rattle.table_check.specs.Tally.{FlowTally}
 use Rattle.table_check.proofs.Keys.{KeyFits, rises-key}
 
--- ---- the verdict by its five tests
-abbrev verdictBy : (out falls over crowded lacks : Bool) → ℕ → ℕ → Verdict
-verdictBy out falls over crowded lacks f j =
+-- ---- the verdict by its tests
+abbrev verdictBy : (out falls over crowded early lacks : Bool) → ℕ → ℕ → Verdict
+verdictBy out falls over crowded early lacks f j =
     if out then Refused 15 f j
     else if falls then Refused 16 f j
     else if over then Refused 17 f j
     else if crowded then Refused 18 f j
-    else if lacks then Refused 19 f j
+    else if early || lacks then Refused 19 f j
     else Pass
 
 -- "row's slot above 8,191, flow or job not in the book, or 0 processors"
 abbrev outOfBook : Book → Row → Bool
 outOfBook b r = leb slots (r .slot) || leb (flowCount b) (r .flow) || leb (jobCount (flowOf b (r .flow))) (r .job) || eqb (r .processors) 0
+
+-- "more than the cap"
+abbrev overCap : Book → Row → Bool
+overCap b r = ltb (jobOf (flowOf b (r .flow)) (r .job) .cap) (r .processors)
+
+-- "more than P used in the slot by the rows so far, this one counted"
+abbrev overUse : Book → List Row → Row → Bool
+overUse b soFar r = ltb (b .processors) (usedIn soFar (r .slot) + r .processors)
+
+-- of row k, which is r
+abbrev verdictAt : Book → List Row → ℕ → Row → Verdict
+verdictAt b rows k r =
+    verdictBy (outOfBook b r) (not (rises b rows k)) (overCap b r) (overUse b (take k rows) r) (beforeRelease b r) (lacksPredecessor b (take k rows) r)
+    (r .flow) (r .job)
 
 -- the tests of a row that is in the book
 or-false : (s : Bool) → (s || false) ≡ s
@@ -79,15 +93,14 @@ pub record EarlyPassed (b : Book) (rows : List Row) (k : ℕ) (r : Row) : Type 0
   pub rising : rises b rows k ≡ true
   pub after-least : leastKey b rows k ≤ rowKey b r
 
--- what 17 and 18 leave of it
+-- what 17, 18 and 19 by the release leave of it
 pub record LatePassed (b : Book) (soFar : List Row) (r : Row) : Type 0 where
-  pub cap-kept : ltb (jobOf (flowOf b (r .flow)) (r .job) .cap) (r .processors) ≡ false
-  pub room-kept : ltb (b .processors) (usedIn soFar (r .slot) + r .processors) ≡ false
+  pub cap-kept : overCap b r ≡ false
+  pub room-kept : overUse b soFar r ≡ false
+  pub released : beforeRelease b r ≡ false
 
 module _ (b : Book) (rows : List Row) (k : ℕ) (r : Row) (at-k : getD rows k noRow ≡ r) where
-  by-tests : rowFault b rows k
-      ≡ verdictBy (outOfBook b r) (not (rises b rows k)) (ltb (jobOf (flowOf b (r .flow)) (r .job) .cap) (r .processors))
-      (ltb (b .processors) (usedIn (take k rows) (r .slot) + r .processors)) (lacksPredecessor b (take k rows) r) (r .flow) (r .job)
+  by-tests : rowFault b rows k ≡ verdictAt b rows k r
   unfolding rowFault
   by-tests = rw (← at-k) refl
 
@@ -96,9 +109,7 @@ module _ (b : Book) (rows : List Row) (k : ℕ) (r : Row) (at-k : getD rows k no
   passed-fits h e = key-fits b r h (test-passed _ _ _ _ _ (sym by-tests ∙ e) .0)
 
 module _ (b : Book) (rows : List Row) (k : ℕ) (r : Row) (at-k : getD rows k noRow ≡ r) where
-  tests : rowFault b rows k
-      ≡ verdictBy (outOfBook b r) (not (rises b rows k)) (ltb (jobOf (flowOf b (r .flow)) (r .job) .cap) (r .processors))
-      (ltb (b .processors) (usedIn (take k rows) (r .slot) + r .processors)) (lacksPredecessor b (take k rows) r) (r .flow) (r .job)
+  tests : rowFault b rows k ≡ verdictAt b rows k r
   tests = by-tests b rows k r at-k
 
   pub flow-unknown : flowCount b ≤ r .flow → rowFault b rows k ≡ Refused 15 (r .flow) (r .job)
@@ -150,41 +161,40 @@ module _ (b : Book) (rows : List Row) (k : ℕ) (r : Row) (at-k : getD rows k no
               after-least = leb-true (leastKey b rows k) (rowKey b r) (order (key-fits b r range e) ∙ at-least);
             }
 
-  -- 17 and 18
-  module _ (early : EarlyPassed b rows k r) (used cap n : ℕ) (used-is : used ≡ usedIn (take k rows) (r .slot))
-      (cap-is : cap ≡ jobOf (flowOf b (r .flow)) (r .job) .cap) (n-is : n ≡ lateNumber cap used (b .processors) r) where
-    n-by-late : n ≡ (if ltb (jobOf (flowOf b (r .flow)) (r .job) .cap) (r .processors) then 17
-        else if ltb (b .processors) (usedIn (take k rows) (r .slot) + r .processors) then 18 else 0)
-    unfolding lateNumber
-    n-by-late = n-is ∙ rw (used-is, cap-is) refl
+  -- 17, 18, and 19 by the release
+  module _ (early : EarlyPassed b rows k r) (used cap release n : ℕ) (used-is : used ≡ usedIn (take k rows) (r .slot))
+      (cap-is : cap ≡ jobOf (flowOf b (r .flow)) (r .job) .cap) (release-is : release ≡ flowOf b (r .flow) .release)
+      (n-is : n ≡ lateNumber cap used (b .processors) release r) where
+    n-by-late : n ≡ (if overCap b r then 17 else if overUse b (take k rows) r then 18 else if beforeRelease b r then 19 else 0)
+    unfolding lateNumber beforeRelease
+    n-by-late = n-is ∙ rw (used-is, cap-is, release-is) refl
 
     pub late-fault : (n ≡ 0 → ⊥) → rowFault b rows k ≡ Refused n (r .flow) (r .job)
-    late-fault h = go (ltb (jobOf (flowOf b (r .flow)) (r .job) .cap) (r .processors)) refl
-        (ltb (b .processors) (usedIn (take k rows) (r .slot) + r .processors)) refl
+    late-fault h = go (overCap b r) refl (overUse b (take k rows) r) refl (beforeRelease b r) refl
       where
-        go : (t : Bool) → ltb (jobOf (flowOf b (r .flow)) (r .job) .cap) (r .processors) ≡ t →
-            (u : Bool) → ltb (b .processors) (usedIn (take k rows) (r .slot) + r .processors) ≡ u → rowFault b rows k ≡ Refused n (r .flow) (r .job)
-        go true e u d = tests ∙ rw (early .inside, early .rising, e, n-by-late, e) refl
-        go false e true d = tests ∙ rw (early .inside, early .rising, e, d, n-by-late, e, d) refl
-        go false e false d = absurd (h (n-by-late ∙ rw (e, d) refl))
+        go : (t : Bool) → overCap b r ≡ t → (u : Bool) → overUse b (take k rows) r ≡ u → (v : Bool) → beforeRelease b r ≡ v →
+            rowFault b rows k ≡ Refused n (r .flow) (r .job)
+        go true e u d v p = tests ∙ rw (early .inside, early .rising, e, n-by-late, e) refl
+        go false e true d v p = tests ∙ rw (early .inside, early .rising, e, d, n-by-late, e, d) refl
+        go false e false d true p = tests ∙ rw (early .inside, early .rising, e, d, p, n-by-late, e, d, p) refl
+        go false e false d false p = absurd (h (n-by-late ∙ rw (e, d, p) refl))
 
     pub late-passed : n ≡ 0 → LatePassed b (take k rows) r
-    late-passed h = go (ltb (jobOf (flowOf b (r .flow)) (r .job) .cap) (r .processors)) refl
-        (ltb (b .processors) (usedIn (take k rows) (r .slot) + r .processors)) refl
+    late-passed h = go (overCap b r) refl (overUse b (take k rows) r) refl (beforeRelease b r) refl
       where
-        go : (t : Bool) → ltb (jobOf (flowOf b (r .flow)) (r .job) .cap) (r .processors) ≡ t →
-            (u : Bool) → ltb (b .processors) (usedIn (take k rows) (r .slot) + r .processors) ≡ u → LatePassed b (take k rows) r
-        go true e u d = absurd (let z : n ≡ 17 = n-by-late ∙ rw e refl in omega arith)
-        go false e true d = absurd (let z : n ≡ 18 = n-by-late ∙ rw (e, d) refl in omega arith)
-        go false e false d = record { cap-kept = e; room-kept = d }
+        go : (t : Bool) → overCap b r ≡ t → (u : Bool) → overUse b (take k rows) r ≡ u → (v : Bool) → beforeRelease b r ≡ v → LatePassed b (take k rows) r
+        go true e u d v p = absurd (let z : n ≡ 17 = n-by-late ∙ rw e refl in omega arith)
+        go false e true d v p = absurd (let z : n ≡ 18 = n-by-late ∙ rw (e, d) refl in omega arith)
+        go false e false d true p = absurd (let z : n ≡ 19 = n-by-late ∙ rw (e, d, p) refl in omega arith)
+        go false e false d false p = record { cap-kept = e; room-kept = d; released = p }
 
-  -- 19
+  -- 19 by the predecessors
   module _ (early : EarlyPassed b rows k r) (late : LatePassed b (take k rows) r) where
     pub lacks-fault : lacksPredecessor b (take k rows) r ≡ true → rowFault b rows k ≡ Refused 19 (r .flow) (r .job)
-    lacks-fault e = tests ∙ rw (early .inside, early .rising, late .cap-kept, late .room-kept, e) refl
+    lacks-fault e = tests ∙ rw (early .inside, early .rising, late .cap-kept, late .room-kept, late .released, e) refl
 
     pub row-passes : lacksPredecessor b (take k rows) r ≡ false → rowFault b rows k ≡ Pass
-    row-passes e = tests ∙ rw (early .inside, early .rising, late .cap-kept, late .room-kept, e) refl
+    row-passes e = tests ∙ rw (early .inside, early .rising, late .cap-kept, late .room-kept, late .released, e) refl
 
 -- 19 as the walk tests it: by the slots from which jobs are complete
 pub lacks-by-ready : (b : Book) (f : ℕ) (soFar : List Row) (totals ready : List ℕ) (r : Row) → FlowTally b f soFar totals ready → r .flow ≡ f →

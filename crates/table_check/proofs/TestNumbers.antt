@@ -11,7 +11,8 @@ use Rattle.rules.specs.Limits.{slots}
 use Rattle.rules.specs.Fields.{field}
 use Rattle.rules.specs.Book.{Book, jobCount, flowOf}
 use Rattle.rules.specs.Rows.{Row}
-use Rattle.table_check.specs.Tests.{placeOf, earlyNumber, lateNumber, firstNumber, testNumber}
+use Rattle.book.specs.Records.{firstNumber}
+use Rattle.table_check.specs.Tests.{placeOf, earlyNumber, lateNumber, testNumber}
 use Rattle.table_check.specs.Tally.{JobsHeld, RowTested}
 
 pub first-stands : (m n : ℕ) → (m ≡ 0 → ⊥) → firstNumber m n ≡ m
@@ -60,16 +61,17 @@ module _ (b : Book) (f least jobs key early : ℕ) (r : Row) (jobs-are : jobs �
     pub tested-inside : (r .slot < slots) × (r .job < jobCount (flowOf b f))
     tested-inside = early-inside (jobCount (flowOf b f)) least (placeOf r) r (sym early-right ∙ none)
 
-    -- 17 and 18
-    pub tested-late : (work sizes caps : List ℕ) (used late processors i at : ℕ) → JobsHeld b f jobs sizes caps → processors ≡ b .processors → i ≡ r .job →
-        at ≡ r .slot → used ≡ field 2 work (2 * at) → late ≡ lateNumber (getD caps i 0) used processors r →
+    -- 17, 18, and 19 by the release
+    pub tested-late : (work sizes caps : List ℕ) (used late processors release i at : ℕ) → JobsHeld b f jobs sizes caps → processors ≡ b .processors →
+        release ≡ flowOf b f .release → i ≡ r .job → at ≡ r .slot → used ≡ field 2 work (2 * at) →
+        late ≡ lateNumber (getD caps i 0) used processors release r →
         RowTested b f work least r (record { number = late; used = used; size = getD sizes i 0 })
     unfolding testNumber
-    tested-late work sizes caps used late processors i at held p-is i-is at-is used-is late-is =
+    tested-late work sizes caps used late processors release i at held p-is release-is i-is at-is used-is late-is =
         let used-right : used ≡ field 2 work (2 * r .slot) = rw at-is at used-is in
         let inside : r .job < jobs = rw jobs-are (tested-inside .1) in
         record {
-          number = late-is ∙ rw (i-is, held .cap-of (r .job) inside, p-is, used-right)
+          number = late-is ∙ rw (i-is, held .cap-of (r .job) inside, p-is, release-is, used-right)
               (sym (first-passes (earlyNumber (jobCount (flowOf b f)) least (placeOf r) r) _ (sym early-right ∙ none)));
           used = λ e. used-right;
           size = λ e. rw i-is (held .size-of (r .job) inside);

@@ -25,6 +25,7 @@ use Rattle.table_check.specs.Tests.{testNumber, readyAfter}
 pub record CurrentFlow (book : List ℕ) (c : Current) : Type 0 where
   pub stands : FlowStands book (c .flow) (c .start)
   pub jobs : c .jobs ≡ jobCount (flowOf (bookOf book) (c .flow))
+  pub release : c .release ≡ flowOf (bookOf book) (c .flow) .release
   pub processors : c .processors ≡ bookOf book .processors
 
 -- size and cap of each of the first n jobs of flow f, read out
@@ -35,7 +36,7 @@ pub record JobsHeld (b : Book) (f n : ℕ) (sizes caps : List ℕ) : Type 0 wher
   pub cap-of : (i : ℕ) → i < n → getD caps i 0 ≡ jobOf (flowOf b f) i .cap
 
 -- ---- one row
--- 15 to 18 of a row of flow f, and what counting it needs
+-- 15 to 18, and 19 by the release, of a row of flow f, and what counting it needs
 pub record RowTested (b : Book) (f : ℕ) (work : List ℕ) (least : ℕ) (r : rules.Row) (t : Tested) : Type 0 where
   pub number : t .number ≡ testNumber b f (field 2 work (2 * r .slot)) least r
   pub used : t .number ≡ 0 → t .used ≡ field 2 work (2 * r .slot)

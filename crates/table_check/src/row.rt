@@ -1,4 +1,4 @@
-// One row of a table: read, tested by 15 to 18, asked for its predecessors, counted.
+// One row of a table: read, tested by 15 to 18 and 19 by the release, asked for its predecessors, counted.
 ghost use mathlib.Core.Path.{_≡_};
 ghost use Prim.Native.Nat.{_+_, _<_, _≤_};
 ghost use lib.ListN.{length, getD, set};
@@ -20,11 +20,12 @@ pub struct Row {
     pub processors: u16,
 }
 
-// The flow whose rows are walked: its number, where it starts in the book, its count of jobs, and P.
+// The flow whose rows are walked: its number, where it starts in the book, its count of jobs, its release, and P.
 pub struct Current {
     pub flow: usize,
     pub start: usize,
     pub jobs: u8,
+    pub release: u16,
     pub processors: u16,
 }
 
@@ -100,9 +101,9 @@ pub fn early_fault(jobs: u8, least: u32, key: u32, r: Row) -> u8
     0
 }
 
-// 17 and 18; 0 where the row passes.
-pub fn late_fault(cap: u16, used: u16, processors: u16, r: Row) -> u8
-    ensures { λ n. ⌜ n ≡ lateNumber cap used processors (rowFrom r) ⌝ }
+// 17, 18, and 19 by the release; 0 where the row passes.
+pub fn late_fault(cap: u16, used: u16, processors: u16, release: u16, r: Row) -> u8
+    ensures { λ n. ⌜ n ≡ lateNumber cap used processors release (rowFrom r) ⌝ }
 {
     if cap < r.processors {
         return 17;
@@ -110,10 +111,13 @@ pub fn late_fault(cap: u16, used: u16, processors: u16, r: Row) -> u8
     if (processors as u32) < used as u32 + r.processors as u32 {
         return 18;
     }
+    if r.slot < release {
+        return 19;
+    }
     0
 }
 
-// 15 to 18 of a row of the current flow, whose place is to be at least `least`.
+// 15 to 18, and 19 by the release, of a row of the current flow, whose place is to be at least `least`.
 pub fn test_row(
     book: &[u8],
     sizes: &[u32],
@@ -137,7 +141,7 @@ pub fn test_row(
     let i = bytes::wide(r.job);
     let used = bytes::read16(work, 2 * bytes::wide16(r.slot));
     Tested {
-        number: late_fault(caps[i], used, c.processors, r),
+        number: late_fault(caps[i], used, c.processors, c.release, r),
         used,
         size: sizes[i],
     }

@@ -172,10 +172,13 @@ pub fn walk_flows(book: &[u8], table: &[u8], x: Index, work: &mut [u8]) -> Walke
                 finish,
             };
         }
+        let start = x.starts[f];
+        let head = book::head_of(book, start, f);
         let c = Current {
             flow: f,
-            start: x.starts[f],
+            start,
             jobs,
+            release: head.release,
             processors: x.processors,
         };
         let w = walk_flow(book, table, work, c, at);
