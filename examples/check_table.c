@@ -8,7 +8,9 @@
  *
  * Without arguments it takes the marked book A and its table, which must be
  * accepted, then the same table with a row moved to a slot that is too full,
- * which must be refused. The exit status is 0 when both are answered so.
+ * which must be refused. So with the marked book G: its table, and then with a
+ * row moved to a slot before its flow's release. The exit status is 0 when all
+ * are answered so.
  */
 #include <stdint.h>
 #include <stdio.h>
@@ -41,6 +43,29 @@ static const uint8_t table_a[] = {
     0x00, 0x03, 0x00, 0x00, 0x00, 0x01,
     0x00, 0x04, 0x00, 0x01, 0x00, 0x03,
     0x00, 0x05, 0x00, 0x01, 0x00, 0x01
+};
+
+/* Version 2: flow 0 may not begin before slot 2. */
+static const uint8_t book_g[] = {
+    0x00, 0x00, 0x00, 0x2e, 0x02, 0x00, 0x03, 0x02, /* 46 bytes, P 3, 2 flows */
+    0x00, 0x06, 0x00, 0x02, 0x01,                   /* flow 0: deadline 6, release 2, 1 job */
+    0x00, 0x00, 0x00, 0x05, 0x00, 0x02,             /* size 5, cap 2 */
+    0x00, 0x00, 0x00, 0x00, 0x00, 0x00, 0x00, 0x00, /* free */
+    0x00, 0x04, 0x00, 0x00, 0x01,                   /* flow 1: deadline 4, release 0, 1 job */
+    0x00, 0x00, 0x00, 0x06, 0x00, 0x02,             /* size 6, cap 2 */
+    0x00, 0x00, 0x00, 0x00, 0x00, 0x00, 0x00, 0x00  /* free */
+};
+
+static const uint8_t table_g[] = {
+    0x00, 0x00, 0x00, 0x36, 0x01, 0x00, 0x03, 0x02, /* 54 bytes, P 3, 2 flows */
+    0x00, 0x06, 0x00, 0x03,                         /* finishes 6 and 3 */
+    0x00, 0x00, 0x01, 0x00, 0x00, 0x02,             /* slot, flow, job, take */
+    0x00, 0x01, 0x01, 0x00, 0x00, 0x02,
+    0x00, 0x02, 0x01, 0x00, 0x00, 0x02,
+    0x00, 0x02, 0x00, 0x00, 0x00, 0x01,
+    0x00, 0x03, 0x00, 0x00, 0x00, 0x02,
+    0x00, 0x04, 0x00, 0x00, 0x00, 0x01,
+    0x00, 0x05, 0x00, 0x00, 0x00, 0x01
 };
 
 /* Checks one table and prints what is answered; 0 when it is accepted. */
@@ -101,13 +126,17 @@ static uint8_t *read_file(const char *name, size_t *length)
 int main(int count, char **arguments)
 {
     if (count == 1) {
-        uint8_t moved[sizeof table_a];
+        uint8_t full[sizeof table_a], early[sizeof table_g];
 
-        memcpy(moved, table_a, sizeof moved);
-        moved[12 + 7 * 6 + 1] = 3; /* the eighth row to slot 3 */
-        int whole = check(book_a, sizeof book_a, table_a, sizeof table_a);
-        int damaged = check(book_a, sizeof book_a, moved, sizeof moved);
-        return whole == 0 && damaged == 1 ? 0 : 1;
+        memcpy(full, table_a, sizeof full);
+        full[12 + 7 * 6 + 1] = 3; /* the eighth row to slot 3 */
+        memcpy(early, table_g, sizeof early);
+        early[12 + 3 * 6 + 1] = 1; /* the fourth row to slot 1 */
+        int as_said = check(book_a, sizeof book_a, table_a, sizeof table_a) == 0;
+        as_said &= check(book_a, sizeof book_a, full, sizeof full) == 1;
+        as_said &= check(book_g, sizeof book_g, table_g, sizeof table_g) == 0;
+        as_said &= check(book_g, sizeof book_g, early, sizeof early) == 1;
+        return as_said ? 0 : 1;
     }
     if (count != 3) {
         fprintf(stderr, "usage: check_table [BOOK TABLE]\n");

@@ -3,8 +3,9 @@
  *
  *     dispatcher [BOOK]
  *
- * Without an argument it takes the marked book A. The exit status is 0 when the
- * book was planned, 1 when it was refused and 2 when something else failed.
+ * Without an argument it takes the marked books A and G, the second with a
+ * release. The exit status is 0 when each book was planned, 1 when one was
+ * refused and 2 when something else failed.
  */
 #include <stdint.h>
 #include <stdio.h>
@@ -21,6 +22,17 @@ static const uint8_t book_a[] = {
     0x00, 0x00, 0x00, 0x00, 0x00, 0x00, 0x00, 0x01, /* after job 0 */
     0x00, 0x03, 0x01,                               /* flow 1: deadline 3, 1 job */
     0x00, 0x00, 0x00, 0x05, 0x00, 0x02,             /* size 5, cap 2 */
+    0x00, 0x00, 0x00, 0x00, 0x00, 0x00, 0x00, 0x00  /* free */
+};
+
+/* Version 2: flow 0 may not begin before slot 2. */
+static const uint8_t book_g[] = {
+    0x00, 0x00, 0x00, 0x2e, 0x02, 0x00, 0x03, 0x02, /* 46 bytes, P 3, 2 flows */
+    0x00, 0x06, 0x00, 0x02, 0x01,                   /* flow 0: deadline 6, release 2, 1 job */
+    0x00, 0x00, 0x00, 0x05, 0x00, 0x02,             /* size 5, cap 2 */
+    0x00, 0x00, 0x00, 0x00, 0x00, 0x00, 0x00, 0x00, /* free */
+    0x00, 0x04, 0x00, 0x00, 0x01,                   /* flow 1: deadline 4, release 0, 1 job */
+    0x00, 0x00, 0x00, 0x06, 0x00, 0x02,             /* size 6, cap 2 */
     0x00, 0x00, 0x00, 0x00, 0x00, 0x00, 0x00, 0x00  /* free */
 };
 
@@ -115,8 +127,13 @@ int main(int count, char **arguments)
     /* One byte more than the longest book that passes its checks. */
     static uint8_t book[FLOWPLAN_LONGEST_BOOK + 1];
 
-    if (count == 1)
-        return dispatch(book_a, sizeof book_a);
+    if (count == 1) {
+        printf("book A\n");
+        int of_a = dispatch(book_a, sizeof book_a);
+        printf("book G\n");
+        int of_g = dispatch(book_g, sizeof book_g);
+        return of_a > of_g ? of_a : of_g;
+    }
     if (count != 2) {
         fprintf(stderr, "usage: dispatcher [BOOK]\n");
         return 2;

@@ -1,6 +1,12 @@
 /*
  * flowplan.h: flow planner and table check.
  *
+ * Version of this header, FLOWPLAN_HEADER_VERSION
+ *   1  the base: planner and table check
+ *   2  Req 01, releases: book version 2, so that number 2 is any other version;
+ *      number 22; number 19 also for a row before its flow's release; a larger
+ *      FLOWPLAN_LONGEST_BOOK
+ *
  * Every call takes every sequence of bytes, comes to an end on each, allocates
  * nothing and keeps nothing between calls.
  *
@@ -8,11 +14,14 @@
  *
  * Book
  *   length of the whole book in bytes    4
- *   version = 1                          1
+ *   version = 1 or 2                     1
  *   processors P                         2    1 to 4,096
  *   flows                                1    0 to 64
  *   then for each flow
  *     deadline in slots                  2    1 to 4,096
+ *     release in slots                   2    only in version 2: the first
+ *                                             slot that the flow may use, below
+ *                                             its deadline; in version 1 it is 0
  *     jobs                               1    1 to 64
  *     then for each job
  *       size in processor-slots          4    1 to 1,000,000
@@ -28,7 +37,7 @@
  *   flows                                1    as in the book
  *   finish of each flow, book order      2    last used slot plus 1
  *   then rows of 6 bytes, one for each slot and job with a processor
- *     slot                               2    0 to 8,191
+ *     slot                               2    the flow's release to 8,191
  *     flow                               1
  *     job                                1
  *     processors                         2    1 to the job's cap
@@ -58,6 +67,9 @@
 extern "C" {
 #endif
 
+/* What changed from version to version stands at the top. */
+#define FLOWPLAN_HEADER_VERSION 2
+
 /* Bytes of the work area that are used, and the slots that they stand for. */
 #define FLOWPLAN_WORK_BYTES 16384
 #define FLOWPLAN_SLOTS 8192
@@ -66,8 +78,8 @@ extern "C" {
 #define FLOWPLAN_CHECK_STACK 16384
 #define FLOWPLAN_PLAN_STACK 20480
 
-/* The longest book that passes its checks. */
-#define FLOWPLAN_LONGEST_BOOK 57544
+/* The longest book that passes its checks: version 2, 64 flows of 64 jobs. */
+#define FLOWPLAN_LONGEST_BOOK 57672
 
 /* Stands for the flow or the job where a place has none. */
 #define FLOWPLAN_NONE 255
@@ -76,13 +88,14 @@ extern "C" {
  * What a book or table is turned down by. The place that goes with each number
  * stands behind it; "-, -" is FLOWPLAN_NONE, FLOWPLAN_NONE.
  *
- * Numbers 1 to 4 are tested in that order; then for each flow 5, 6, 7 and for
- * each of its jobs 5, 8, 9, 10; then bytes left over; then 11. The planner goes
- * on with 12, 13; the check with 14, with 15 to 19 in order for each row, then
- * 20, 21. The first fault met is answered.
+ * Numbers 1 to 4 are tested in that order; then for each flow 5, 6, 22, 7 and
+ * for each of its jobs 5, 8, 9, 10; then bytes left over; then 11. The planner
+ * goes on with 12, 13; the check with 14, with 15 to 19 in order for each row,
+ * then 20, 21. The first fault met is answered. A flow head or job record must
+ * be there whole before any of its fields is looked at.
  *
- * Numbers 1 to 11 leave the work area as it was; the others leave its first
- * FLOWPLAN_WORK_BYTES bytes zero.
+ * Numbers 1 to 11 and 22 leave the work area as it was; the others leave its
+ * first FLOWPLAN_WORK_BYTES bytes zero.
  */
 enum flowplan_number {
     /* accepted; -, - */
@@ -90,7 +103,7 @@ enum flowplan_number {
     /* book under 8 bytes, or its length field differs from the bytes given;
        -, - */
     FLOWPLAN_BOOK_LENGTH = 1,
-    /* book version not 1; -, - */
+    /* book version neither 1 nor 2; -, - */
     FLOWPLAN_BOOK_VERSION = 2,
     /* P out of range; -, - */
     FLOWPLAN_PROCESSORS = 3,
@@ -129,13 +142,15 @@ enum flowplan_number {
     /* more than P used in the slot by the rows so far, this one counted; row's
        flow, job */
     FLOWPLAN_SLOT_FULL = 18,
-    /* a predecessor whose rows so far in earlier slots sum to less than its
-       size; row's flow, job */
+    /* a row before its flow's release, or with a predecessor whose rows so far
+       in earlier slots sum to less than its size; row's flow, job */
     FLOWPLAN_PRECEDENCE = 19,
     /* a job's total differs from its size; lowest flow, then job */
     FLOWPLAN_TOTAL = 20,
     /* a stated finish differs; lowest flow, - */
-    FLOWPLAN_FINISH = 21
+    FLOWPLAN_FINISH = 21,
+    /* release not below the deadline, tested directly after 6; flow, - */
+    FLOWPLAN_RELEASE = 22
 };
 
 /* ---- Table check ------------------------------------------------------- */
@@ -149,13 +164,14 @@ struct flowplan_check_answer {
 
 /*
  * Accepts a table exactly when it is a valid schedule of the book, written in
- * the stated order under the right head and finishes. A finish beyond twice the
- * deadline is accepted and counted as late.
+ * the stated order under the right head and finishes. A valid schedule has
+ * nothing before a flow's release. A finish beyond twice the deadline is
+ * accepted and counted as late.
  *
  * book, table: read only, any bytes, any length.
  * work:        accepted: the use of each slot by the table's rows. Number 1 to
- *              11: as it was. Any other number: its first FLOWPLAN_WORK_BYTES
- *              bytes are zero.
+ *              11 or 22: as it was. Any other number: its first
+ *              FLOWPLAN_WORK_BYTES bytes are zero.
  */
 struct flowplan_check_answer flowplan_check(const uint8_t *book, size_t book_len,
                                             const uint8_t *table, size_t table_len,
@@ -177,13 +193,16 @@ struct flowplan_plan_answer {
 };
 
 /*
- * Plans a book by the deadline-greedy rule on chains of pseudo-jobs.
+ * Plans a book by the deadline-greedy rule on chains of pseudo-jobs. Slots
+ * before a flow's release are not given to it. Service order, late flows and
+ * twice the deadline do not go by the release.
  *
  * book:   read only, any bytes, any length.
  * output: accepted: its first `length` bytes are the table, the bytes past them
  *         are as they were. Refused: as it was.
- * work:   accepted: the use of each slot by the table's rows. Number 1 to 11: as
- *         it was. Number 12 or 13: its first FLOWPLAN_WORK_BYTES bytes are zero.
+ * work:   accepted: the use of each slot by the table's rows. Number 1 to 11 or
+ *         22: as it was. Number 12 or 13: its first FLOWPLAN_WORK_BYTES bytes
+ *         are zero.
  */
 struct flowplan_plan_answer flowplan_plan(const uint8_t *book, size_t book_len,
                                           uint8_t *output, size_t output_len,

@@ -9,6 +9,9 @@ pub const WORK_BYTES: usize = 16_384;
 /// Slots that a table can name.
 pub const SLOTS: usize = 8_192;
 
+/// One more than the greatest number that is answered.
+pub const NUMBERS: usize = 23;
+
 /// A refusal number with its place.
 #[derive(Clone, Copy, Debug, PartialEq, Eq)]
 pub struct Refusal {

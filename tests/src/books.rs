@@ -1,22 +1,25 @@
 //! Encoders of books and tables, seeded generators of order books over every
-//! range, and damage to books.
+//! range and of releases, and damage to books of either version.
 
 use crate::reader::{
-    Book, Flow, Job, BOOK_HEAD, FLOW_HEAD, JOB_RECORD, MOST_DEADLINE, MOST_FLOWS, MOST_JOBS,
+    be16, Book, Flow, Job, Version, BOOK_HEAD, JOB_RECORD, MOST_DEADLINE, MOST_FLOWS, MOST_JOBS,
     MOST_PROCESSORS, MOST_SIZE,
 };
 use crate::rng::Rng;
 use crate::second_check::Row;
 use crate::second_planner::critical_path;
 
-/// The bytes of a book.
+/// The bytes of a book in its version. Version 1 has no field for the releases.
 pub fn encode_book(book: &Book) -> Vec<u8> {
     let mut bytes = vec![0; 4];
-    bytes.push(1);
+    bytes.push(book.version.byte());
     bytes.extend((book.processors as u16).to_be_bytes());
     bytes.push(book.flows.len() as u8);
     for flow in &book.flows {
         bytes.extend((flow.deadline as u16).to_be_bytes());
+        if book.version == Version::Two {
+            bytes.extend((flow.release as u16).to_be_bytes());
+        }
         bytes.push(flow.jobs.len() as u8);
         for job in &flow.jobs {
             bytes.extend(job.size.to_be_bytes());
@@ -61,8 +64,67 @@ pub fn cut(book: &Book, kept: usize) -> Book {
     stay.truncate(kept);
     stay.sort_unstable();
     Book {
-        processors: book.processors,
         flows: stay.into_iter().map(|k| book.flows[k].clone()).collect(),
+        ..*book
+    }
+}
+
+/// How the releases of a book are drawn.
+#[derive(Clone, Copy)]
+enum Releases {
+    /// Each by itself, edges often.
+    Any,
+    /// The same slot for all that it is possible for.
+    Together,
+    /// As late as possible.
+    Latest,
+    /// All 0.
+    AtOnce,
+}
+
+/// The flows of a book as version 2, with a release below the deadline of each.
+pub fn with_releases(rng: &mut Rng, mut book: Book) -> Book {
+    let how = match rng.below(8) {
+        0 => Releases::Together,
+        1 => Releases::Latest,
+        2 => Releases::AtOnce,
+        _ => Releases::Any,
+    };
+    let together = rng.skewed(0, u64::from(MOST_DEADLINE) - 1);
+    book.version = Version::Two;
+    for flow in &mut book.flows {
+        let most = u64::from(flow.deadline - 1);
+        let release = match how {
+            Releases::Any => match rng.below(6) {
+                0 => 0,
+                1 => 1,
+                2 => most,
+                3 => rng.skewed(0, most),
+                _ => rng.range(0, most),
+            },
+            Releases::Together => together,
+            Releases::Latest => most,
+            Releases::AtOnce => 0,
+        };
+        flow.release = release.min(most) as u32;
+    }
+    book
+}
+
+/// One of the ways below to draw a book.
+pub type Family = fn(&mut Rng) -> Book;
+
+/// A book of a family in a version.
+pub fn drawn(rng: &mut Rng, version: Version, family: Family) -> Book {
+    let book = family(rng);
+    in_version(rng, version, book)
+}
+
+/// A drawn book as one of the version: as it is, or with releases.
+pub fn in_version(rng: &mut Rng, version: Version, book: Book) -> Book {
+    match version {
+        Version::One => book,
+        Version::Two => with_releases(rng, book),
     }
 }
 
@@ -167,10 +229,7 @@ fn draw_flow(rng: &mut Rng, ranges: &Ranges, processors: u64) -> Flow {
         job.precedence = precedence(rng, shape, number, jobs);
         job
     });
-    Flow {
-        deadline: 1,
-        jobs: jobs.collect(),
-    }
+    Flow::new(1, jobs.collect())
 }
 
 fn draw_deadlines(rng: &mut Rng, book: &mut Book, how: Deadlines) {
@@ -233,12 +292,8 @@ fn draw_book(rng: &mut Rng, ranges: Ranges) -> Book {
         0 => ranges.flows,
         _ => rng.range(0, ranges.flows),
     };
-    let mut book = Book {
-        processors: processors as u32,
-        flows: (0..flows)
-            .map(|_| draw_flow(rng, &ranges, processors))
-            .collect(),
-    };
+    let flows = (0..flows).map(|_| draw_flow(rng, &ranges, processors));
+    let mut book = Book::new(processors as u32, flows.collect());
     match rng.below(8) {
         0 => draw_deadlines(rng, &mut book, Deadlines::Any),
         1 => draw_deadlines(rng, &mut book, Deadlines::Ties),
@@ -307,16 +362,13 @@ pub fn long_path_book(rng: &mut Rng) -> Book {
     let jobs = rng.range(1, MOST_JOBS as u64) as usize;
     let size = rng.pick(&[MOST_SIZE, MOST_SIZE - 1, 100_000, 8_193, 8_192]);
     let cap = rng.pick(&[1, 1, 1, book.processors]);
-    let long = Flow {
-        deadline: rng.range(1, u64::from(MOST_DEADLINE)) as u32,
-        jobs: (0..jobs)
-            .map(|job| Job {
-                size,
-                cap,
-                precedence: precedence(rng, Shape::Chain, job, jobs),
-            })
-            .collect(),
-    };
+    let deadline = rng.range(1, u64::from(MOST_DEADLINE)) as u32;
+    let jobs = (0..jobs).map(|job| Job {
+        size,
+        cap,
+        precedence: precedence(rng, Shape::Chain, job, jobs),
+    });
+    let long = Flow::new(deadline, jobs.collect());
     if book.flows.len() == MOST_FLOWS {
         book.flows.pop();
     }
@@ -329,27 +381,19 @@ pub fn long_path_book(rng: &mut Rng) -> Book {
 pub fn crowded_book(rng: &mut Rng) -> Book {
     let processors = rng.range(1, 40);
     let flows = rng.range(1, 4);
-    let mut book = Book {
-        processors: processors as u32,
-        flows: Vec::new(),
-    };
+    let mut book = Book::new(processors as u32, Vec::new());
     for _ in 0..flows {
         let jobs = rng.range(2, MOST_JOBS as u64) as usize;
         let shape = rng.pick(&[Shape::Free, Shape::Layers, Shape::Sparse, Shape::ForkJoin]);
-        let flow = Flow {
-            deadline: 1,
-            jobs: (0..jobs)
-                .map(|job| {
-                    let cap = rng.range(processors.div_ceil(2), processors);
-                    Job {
-                        size: rng.range(1, 4 * cap) as u32,
-                        cap: cap as u32,
-                        precedence: precedence(rng, shape, job, jobs),
-                    }
-                })
-                .collect(),
-        };
-        book.flows.push(flow);
+        let jobs = (0..jobs).map(|job| {
+            let cap = rng.range(processors.div_ceil(2), processors);
+            Job {
+                size: rng.range(1, 4 * cap) as u32,
+                cap: cap as u32,
+                precedence: precedence(rng, shape, job, jobs),
+            }
+        });
+        book.flows.push(Flow::new(1, jobs.collect()));
     }
     if rng.chance(1, 2) {
         draw_deadlines(rng, &mut book, Deadlines::Fair);
@@ -365,10 +409,7 @@ pub fn heavy_book(rng: &mut Rng) -> Book {
     let processors = rng.pick(&[1_000, 4_095, 4_096]);
     let flows = rng.range(1, 3);
     let room = processors * 8_192 * rng.range(1, 5) / 4 / flows;
-    let mut book = Book {
-        processors: processors as u32,
-        flows: Vec::new(),
-    };
+    let mut book = Book::new(processors as u32, Vec::new());
     for _ in 0..flows {
         let jobs = rng.range(8, MOST_JOBS as u64) as usize;
         let shape = rng.pick(&[Shape::Free, Shape::Free, Shape::Layers, Shape::ForkJoin]);
@@ -383,7 +424,7 @@ pub fn heavy_book(rng: &mut Rng) -> Book {
         });
         let jobs = jobs.collect();
         let deadline = rng.range(3_000, u64::from(MOST_DEADLINE)) as u32;
-        book.flows.push(Flow { deadline, jobs });
+        book.flows.push(Flow::new(deadline, jobs));
     }
     book
 }
@@ -391,10 +432,7 @@ pub fn heavy_book(rng: &mut Rng) -> Book {
 /// The most flows of the most jobs.
 pub fn full_book(rng: &mut Rng) -> Book {
     let processors = rng.pick(&[64, 100, 500, 1_000, 4_096]);
-    let mut book = Book {
-        processors,
-        flows: Vec::new(),
-    };
+    let mut book = Book::new(processors, Vec::new());
     for _ in 0..MOST_FLOWS {
         let shape = rng.pick(&SHAPES);
         let jobs = (0..MOST_JOBS).map(|job| {
@@ -405,11 +443,7 @@ pub fn full_book(rng: &mut Rng) -> Book {
                 precedence: precedence(rng, shape, job, MOST_JOBS),
             }
         });
-        let flow = Flow {
-            deadline: 1,
-            jobs: jobs.collect(),
-        };
-        book.flows.push(flow);
+        book.flows.push(Flow::new(1, jobs.collect()));
     }
     spread_deadlines(rng, &mut book);
     if rng.chance(3, 4) {
@@ -429,14 +463,12 @@ pub fn infeasible_book(rng: &mut Rng) -> Book {
         usual_book(rng)
     };
     if book.flows.is_empty() {
-        book.flows.push(Flow {
-            deadline: 1,
-            jobs: vec![Job {
-                size: 3,
-                cap: 1,
-                precedence: 0,
-            }],
-        });
+        let job = Job {
+            size: 3,
+            cap: 1,
+            precedence: 0,
+        };
+        book.flows.push(Flow::new(1, vec![job]));
     }
     for flow in &mut book.flows {
         flow.deadline = (flow.deadline * 2).min(MOST_DEADLINE);
@@ -469,14 +501,33 @@ pub fn layered_book(flows: usize, jobs: usize, slots: u32) -> Book {
         cap: 1,
         precedence: 0,
     };
-    let flow = Flow {
-        deadline: slots / 2,
-        jobs: vec![job; jobs],
-    };
-    Book {
-        processors: (flows * jobs) as u32,
-        flows: vec![flow; flows],
+    let flow = Flow::new(slots / 2, vec![job; jobs]);
+    Book::new((flows * jobs) as u32, vec![flow; flows])
+}
+
+/// The same as version 2, each flow released in the slot before its deadline and
+/// running in every slot from there on.
+pub fn late_layered_book(flows: usize, jobs: usize, slots: u32) -> Book {
+    let mut book = layered_book(flows, jobs, slots);
+    book.version = Version::Two;
+    for flow in &mut book.flows {
+        flow.release = flow.deadline - 1;
+        for job in &mut flow.jobs {
+            job.size = slots - flow.release;
+        }
     }
+    book
+}
+
+/// The most flows of the most jobs as version 2, each released in one of the last
+/// slots before its deadline: the longest book there is.
+pub fn late_full_book(rng: &mut Rng) -> Book {
+    let mut book = full_book(rng);
+    book.version = Version::Two;
+    for flow in &mut book.flows {
+        flow.release = flow.deadline.saturating_sub(rng.range(1, 8) as u32);
+    }
+    book
 }
 
 /// A book of any family that is quick to plan.
@@ -492,14 +543,22 @@ pub fn any_book(rng: &mut Rng) -> Book {
     }
 }
 
-/// Where the heads and records of a book start, as its own counts say.
+/// The version that a book says it has; any other is taken as version 1.
+fn version_of(bytes: &[u8]) -> Version {
+    let version = bytes.get(4).and_then(|&byte| Version::of_byte(byte));
+    version.unwrap_or(Version::One)
+}
+
+/// Where the heads and records of a book start, as its own version and counts
+/// say.
 fn marks(bytes: &[u8]) -> (Vec<usize>, Vec<usize>) {
+    let flow_head = version_of(bytes).flow_head();
     let (mut heads, mut records) = (Vec::new(), Vec::new());
     let mut at = BOOK_HEAD;
-    while at + FLOW_HEAD <= bytes.len() {
+    while at + flow_head <= bytes.len() {
         heads.push(at);
-        let jobs = bytes[at + 2] as usize;
-        at += FLOW_HEAD;
+        at += flow_head;
+        let jobs = bytes[at - 1] as usize;
         for _ in 0..jobs {
             if at + JOB_RECORD <= bytes.len() {
                 records.push(at);
@@ -524,11 +583,49 @@ fn put32(bytes: &mut [u8], at: usize, value: u64) {
     put(bytes, at, &(value as u32).to_be_bytes());
 }
 
+/// Damages the head of a flow in one field, in version 2 also in two, so that
+/// 22 stands beside 6 and 7.
+fn damage_head(rng: &mut Rng, version: Version, head: &mut [u8]) {
+    let (in_deadline, in_release, in_jobs) = match version {
+        Version::One => rng.pick(&[(true, false, false), (false, false, true)]),
+        Version::Two => rng.pick(&[
+            (true, false, false),
+            (false, true, false),
+            (false, true, false),
+            (false, false, true),
+            (true, true, false),
+            (false, true, true),
+        ]),
+    };
+    if in_deadline {
+        put16(head, 0, rng.pick(&[0, 4_097, 65_535, 4_096, 1]));
+    }
+    if in_release {
+        let deadline = u64::from(be16(head, 0));
+        let near = [deadline.wrapping_sub(1), deadline, deadline + 1];
+        let any = rng.below(65_536);
+        let far = [0, 1, 4_096, 65_535, any];
+        let value = if rng.chance(1, 2) {
+            rng.pick(&near)
+        } else {
+            rng.pick(&far)
+        };
+        put16(head, 2, value);
+    }
+    if in_jobs {
+        let at = head.len() - 1;
+        let now = head[at];
+        let value = rng.pick(&[0, 65, 255, 64, now.wrapping_add(1), now.wrapping_sub(1)]);
+        put(head, at, &[value]);
+    }
+}
+
 /// Damages a book in one place.
 pub fn damage_book_once(rng: &mut Rng, bytes: &mut Vec<u8>) {
+    let version = version_of(bytes);
     let (heads, records) = marks(bytes);
-    match rng.below(16) {
-        0 => put(bytes, 4, &[rng.pick(&[0, 2, 3, 255])]),
+    match rng.below(17) {
+        0 => put(bytes, 4, &[rng.pick(&[0, 1, 2, 3, 255])]),
         1 => {
             let value = rng.pick(&[0, 4_097, 65_535, 1, 2, 4_096, 256]);
             put16(bytes, 5, value);
@@ -540,14 +637,7 @@ pub fn damage_book_once(rng: &mut Rng, bytes: &mut Vec<u8>) {
         3 if bytes.len() > 7 => bytes[7] = bytes[7].wrapping_add(rng.pick(&[1, 255])),
         4 | 5 if !heads.is_empty() => {
             let at = rng.pick(&heads);
-            if rng.chance(1, 2) {
-                let value = rng.pick(&[0, 4_097, 65_535, 4_096, 1]);
-                put16(bytes, at, value);
-            } else {
-                let now = bytes[at + 2];
-                let value = rng.pick(&[0, 65, 255, 64, now.wrapping_add(1), now.wrapping_sub(1)]);
-                put(bytes, at + 2, &[value]);
-            }
+            damage_head(rng, version, &mut bytes[at..at + version.flow_head()]);
         }
         6 | 7 if !records.is_empty() => {
             let at = rng.pick(&records);
@@ -579,6 +669,11 @@ pub fn damage_book_once(rng: &mut Rng, bytes: &mut Vec<u8>) {
             // Cuts or lengthens by a few bytes at the end only.
             let length = bytes.len().saturating_sub(rng.range(1, 18) as usize);
             bytes.truncate(length);
+        }
+        15 if !heads.is_empty() => {
+            // Cuts within a flow's head.
+            let at = rng.pick(&heads);
+            bytes.truncate(at + rng.index(version.flow_head()));
         }
         _ => {
             if !bytes.is_empty() {
@@ -614,7 +709,8 @@ pub fn random_bytes(rng: &mut Rng, most: usize) -> Vec<u8> {
         fit_length(&mut bytes);
     }
     if rng.chance(3, 4) {
-        put(&mut bytes, 4, &[1]);
+        let version = rng.pick(&[1, 2]);
+        put(&mut bytes, 4, &[version]);
     }
     if rng.chance(1, 2) {
         put(&mut bytes, 5, &[0, 4]);

@@ -134,17 +134,19 @@ impl Rows for Write<'_> {
     }
 }
 
-/// Places one flow; its finish, or nothing where it is infeasible.
+/// Places one flow from its release on; its finish, or nothing where it is
+/// infeasible.
 fn place<R: Rows>(
-    processors: u32,
+    book: &Book,
     number: usize,
-    deadline: u32,
     chain: &[PseudoJob],
     used: &mut [u16; SLOTS],
     rows: &mut R,
 ) -> Option<u16> {
-    let limit = 2 * deadline as usize;
-    let mut slot = 0;
+    let processors = book.processors;
+    let flow = &book.flows[number];
+    let limit = 2 * flow.deadline as usize;
+    let mut slot = flow.release as usize;
     for pseudo_job in chain {
         let rate = pseudo_job.rate;
         let mut remaining = pseudo_job.work;
@@ -216,14 +218,7 @@ fn plan_read(
     for &number in &order {
         let flow = &book.flows[number];
         let chain = chain(flow);
-        let finish = place(
-            book.processors,
-            number,
-            flow.deadline,
-            &chain,
-            used,
-            &mut count,
-        );
+        let finish = place(book, number, &chain, used, &mut count);
         let finish = finish.ok_or(Refusal::new(12, number as u8, NONE))?;
         late += u8::from(u32::from(finish) > flow.deadline);
         finishes[number] = finish;
@@ -248,8 +243,7 @@ fn plan_read(
         rest: output[rows_from..length].chunks_exact_mut(ROW),
     };
     for (&number, chain) in order.iter().zip(&chains) {
-        let deadline = book.flows[number].deadline;
-        let placed = place(book.processors, number, deadline, chain, used, &mut rows);
+        let placed = place(book, number, chain, used, &mut rows);
         debug_assert_eq!(placed, Some(finishes[number]));
     }
     Ok(PlanAnswer::accepted(late, length as u32))

@@ -5,6 +5,7 @@
 pub mod answer;
 pub mod books;
 pub mod fast_planner;
+pub mod heads;
 pub mod lent;
 pub mod linked;
 pub mod linked_plan;
@@ -16,3 +17,4 @@ pub mod rng;
 pub mod second_check;
 pub mod second_planner;
 pub mod tables;
+pub mod twins;

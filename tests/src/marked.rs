@@ -1,8 +1,8 @@
-//! The marked plans A to F, held against any planner and any check.
+//! The marked plans A to G, held against any planner and any check.
 
 use crate::answer::{CheckAnswer, PlanAnswer, Refusal, WORK_BYTES};
 use crate::books::{encode_book, encode_table, fit_length};
-use crate::reader::{Book, Flow, Job};
+use crate::reader::{Book, Flow, Job, Version};
 use crate::second_check::Row;
 
 pub type Planner = fn(&[u8], &mut [u8], &mut [u8]) -> PlanAnswer;
@@ -48,6 +48,43 @@ const ROWS_B: [[u16; 4]; 8] = [
     [2, 1, 1, 1],
 ];
 
+/// Book G, of version 2.
+pub const BOOK_G: [u8; 46] = [
+    0x00, 0x00, 0x00, 0x2e, 0x02, 0x00, 0x03, 0x02, // 46 bytes, version 2, P 3, 2 flows
+    0x00, 0x06, 0x00, 0x02, 0x01, // flow 0: deadline 6, release 2, 1 job
+    0x00, 0x00, 0x00, 0x05, 0x00, 0x02, // size 5, cap 2
+    0x00, 0x00, 0x00, 0x00, 0x00, 0x00, 0x00, 0x00, // free
+    0x00, 0x04, 0x00, 0x00, 0x01, // flow 1: deadline 4, release 0, 1 job
+    0x00, 0x00, 0x00, 0x06, 0x00, 0x02, // size 6, cap 2
+    0x00, 0x00, 0x00, 0x00, 0x00, 0x00, 0x00, 0x00, // free
+];
+
+/// Slot, flow, job and take of the rows of plan G. Flow 0 waits for its release
+/// though slots 0 and 1 have a processor free; its chain is 2, 2 and then 1.
+const ROWS_G: [[u16; 4]; 7] = [
+    [0, 1, 0, 2],
+    [1, 1, 0, 2],
+    [2, 1, 0, 2],
+    [2, 0, 0, 1],
+    [3, 0, 0, 2],
+    [4, 0, 0, 1],
+    [5, 0, 0, 1],
+];
+
+/// What the program prints of plan G.
+pub const TEXT_G: &str = "\
+table 54 late 0
+finish 0 6
+finish 1 3
+slot 0 flow 1 job 0 take 2
+slot 1 flow 1 job 0 take 2
+slot 2 flow 1 job 0 take 2
+slot 2 flow 0 job 0 take 1
+slot 3 flow 0 job 0 take 2
+slot 4 flow 0 job 0 take 1
+slot 5 flow 0 job 0 take 1
+";
+
 fn rows(listed: &[[u16; 4]]) -> Vec<Row> {
     let row = |&[slot, flow, job, take]: &[u16; 4]| Row {
         slot,
@@ -71,19 +108,9 @@ pub fn table_a() -> Vec<u8> {
 }
 
 pub fn book_b() -> Vec<u8> {
-    encode_book(&Book {
-        processors: 3,
-        flows: vec![
-            Flow {
-                deadline: 3,
-                jobs: vec![free(3, 1)],
-            },
-            Flow {
-                deadline: 4,
-                jobs: vec![free(4, 2), free(2, 1)],
-            },
-        ],
-    })
+    let first = Flow::new(3, vec![free(3, 1)]);
+    let second = Flow::new(4, vec![free(4, 2), free(2, 1)]);
+    encode_book(&Book::new(3, vec![first, second]))
 }
 
 pub fn table_b() -> Vec<u8> {
@@ -91,13 +118,7 @@ pub fn table_b() -> Vec<u8> {
 }
 
 pub fn book_c(size: u32) -> Vec<u8> {
-    encode_book(&Book {
-        processors: 2,
-        flows: vec![Flow {
-            deadline: 2,
-            jobs: vec![free(size, 1)],
-        }],
-    })
+    encode_book(&Book::new(2, vec![Flow::new(2, vec![free(size, 1)])]))
 }
 
 /// The table of plan C for a size that can be planned.
@@ -107,10 +128,7 @@ pub fn table_c(size: u16) -> Vec<u8> {
 }
 
 pub fn book_d(processors: u32) -> Vec<u8> {
-    encode_book(&Book {
-        processors,
-        flows: Vec::new(),
-    })
+    encode_book(&Book::new(processors, Vec::new()))
 }
 
 pub fn table_d(processors: u16) -> Vec<u8> {
@@ -132,6 +150,35 @@ pub fn table_f(take: u16) -> Vec<u8> {
     encode_table(3, &[6, 3], &rows(&listed))
 }
 
+/// The values of book G with a release for flow 0, in a version.
+pub fn book_g(version: Version, release: u32) -> Vec<u8> {
+    let mut later = Flow::new(6, vec![free(5, 2)]);
+    later.release = release;
+    let flows = vec![later, Flow::new(4, vec![free(6, 2)])];
+    encode_book(&Book {
+        version,
+        ..Book::new(3, flows)
+    })
+}
+
+pub fn table_g() -> Vec<u8> {
+    encode_table(3, &[6, 3], &rows(&ROWS_G))
+}
+
+/// Table G with the first row of flow 0 in another slot and with another take.
+fn moved_g(slot: u16, take: u16) -> Vec<u8> {
+    let mut listed = ROWS_G;
+    listed[3][0] = slot;
+    listed[3][3] = take;
+    encode_table(3, &[6, 3], &rows(&listed))
+}
+
+/// The rows of flow 1 in plan G, and then these of flow 0.
+fn with_g(finish: u16, of_flow_0: &[[u16; 4]]) -> Vec<u8> {
+    let listed = [&ROWS_G[..3], of_flow_0].concat();
+    encode_table(3, &[finish, 3], &rows(&listed))
+}
+
 fn planned(plan: Planner, book: &[u8], table: &[u8], late: u8, used: &[u16]) {
     for room in [table.len(), table.len() + 1, table.len() + 100] {
         let mut output = vec![JUNK; room];
@@ -146,7 +193,7 @@ fn planned(plan: Planner, book: &[u8], table: &[u8], late: u8, used: &[u16]) {
     not_planned(plan, book, 0, Refusal::of_all(13));
 }
 
-fn not_planned(plan: Planner, book: &[u8], room: usize, refusal: Refusal) {
+pub fn not_planned(plan: Planner, book: &[u8], room: usize, refusal: Refusal) {
     let mut output = vec![JUNK; room];
     let mut work = vec![JUNK; WORK_BYTES + 3];
     let answer = plan(book, &mut output, &mut work);
@@ -162,7 +209,7 @@ fn checked(check: Check, book: &[u8], table: &[u8], late: u8, used: &[u16]) {
     holds_use(&work, used);
 }
 
-fn not_checked(check: Check, book: &[u8], table: &[u8], refusal: Refusal) {
+pub fn not_checked(check: Check, book: &[u8], table: &[u8], refusal: Refusal) {
     let mut work = vec![JUNK; WORK_BYTES + 3];
     let answer = check(book, table, &mut work);
     assert_eq!(answer, CheckAnswer::refused(refusal));
@@ -178,9 +225,12 @@ fn holds_use(work: &[u8], used: &[u16]) {
 }
 
 fn left_by(refusal: Refusal, work: &[u8]) {
-    let kept = if refusal.number <= 11 { 0 } else { WORK_BYTES };
-    assert!(work[..kept].iter().all(|&byte| byte == 0));
-    assert!(work[kept..].iter().all(|&byte| byte == JUNK));
+    let zeroed = match refusal.number {
+        ..=11 | 22 => 0,
+        _ => WORK_BYTES,
+    };
+    assert!(work[..zeroed].iter().all(|&byte| byte == 0));
+    assert!(work[zeroed..].iter().all(|&byte| byte == JUNK));
 }
 
 /// Holds the marked plans against a planner.
@@ -198,6 +248,20 @@ pub fn hold_planner(plan: Planner) {
         not_planned(plan, &book, 7, Refusal::of_all(13));
     }
     not_planned(plan, &book_e(), 100, Refusal::new(9, 0, 1));
+    planned(plan, &BOOK_G, &table_g(), 0, &[2, 2, 3, 2, 1, 1]);
+    // In version 1 the release is 0.
+    for book in [book_g(Version::One, 0), book_g(Version::Two, 0)] {
+        let at_once = [0, 1, 2, 3, 4].map(|slot| [slot, 0, 0, 1]);
+        planned(plan, &book, &with_g(5, &at_once), 0, &[3, 3, 3, 1, 1]);
+    }
+    // The latest release.
+    let latest = with_g(8, &[[5, 0, 0, 2], [6, 0, 0, 2], [7, 0, 0, 1]]);
+    let used = [2, 2, 2, 0, 0, 2, 2, 1];
+    planned(plan, &book_g(Version::Two, 5), &latest, 1, &used);
+    for release in [6, 7, 4_096, 65_535] {
+        let book = book_g(Version::Two, release);
+        not_planned(plan, &book, 100, Refusal::new(22, 0, 255));
+    }
 }
 
 /// Holds the marked plans and tables against a check.
@@ -220,4 +284,27 @@ pub fn hold_check(check: Check) {
     not_checked(check, &BOOK_A, &short, Refusal::of_all(14));
     fit_length(&mut short);
     not_checked(check, &BOOK_A, &short, Refusal::new(20, 0, 1));
+    checked(check, &BOOK_G, &table_g(), 0, &[2, 2, 3, 2, 1, 1]);
+    let later = with_g(6, &[[3, 0, 0, 2], [4, 0, 0, 2], [5, 0, 0, 1]]);
+    checked(check, &BOOK_G, &later, 0, &[2, 2, 2, 2, 2, 1]);
+    // Before the release: 17 and 18 are tested first.
+    for slot in [0, 1] {
+        let fault = |take, number| {
+            let refusal = Refusal::new(number, 0, 0);
+            not_checked(check, &BOOK_G, &moved_g(slot, take), refusal);
+        };
+        fault(1, 19);
+        fault(2, 18);
+        fault(3, 17);
+        fault(0, 15);
+    }
+    // Without a release the same row may stand there.
+    for book in [book_g(Version::One, 0), book_g(Version::Two, 0)] {
+        checked(check, &book, &moved_g(1, 1), 0, &[2, 3, 2, 2, 1, 1]);
+        checked(check, &book, &moved_g(0, 1), 0, &[3, 2, 2, 2, 1, 1]);
+    }
+    for release in [6, 7, 4_096, 65_535] {
+        let book = book_g(Version::Two, release);
+        not_checked(check, &book, &table_g(), Refusal::new(22, 0, 255));
+    }
 }

@@ -1,11 +1,10 @@
-//! Reads an order book from bytes into plain structs, or turns it down by one
-//! of the numbers 1 to 10 with its place.
+//! Reads an order book of either version from bytes into plain structs, or turns
+//! it down by one of the numbers 1 to 10 and 22 with its place.
 
 use crate::answer::{Refusal, NONE};
 
-/// Bytes of the book's head, of a flow's head and of a job record.
+/// Bytes of the book's head and of a job record.
 pub const BOOK_HEAD: usize = 8;
-pub const FLOW_HEAD: usize = 3;
 pub const JOB_RECORD: usize = 14;
 
 /// The most that each field may be; the least is 1 (0 for the flows).
@@ -23,21 +22,95 @@ pub struct Job {
     pub precedence: u64,
 }
 
-/// One flow: deadline in slots and its jobs.
+/// One flow: deadline and release in slots, and its jobs.
 #[derive(Clone, Debug, PartialEq, Eq)]
 pub struct Flow {
     pub deadline: u32,
+    pub release: u32,
     pub jobs: Vec<Job>,
+}
+
+impl Flow {
+    /// A flow that may begin at once, as every flow of a version 1 book.
+    pub fn new(deadline: u32, jobs: Vec<Job>) -> Flow {
+        Flow {
+            deadline,
+            release: 0,
+            jobs,
+        }
+    }
+}
+
+/// The versions of a book.
+#[derive(Clone, Copy, Debug, PartialEq, Eq)]
+pub enum Version {
+    /// No releases: each is 0.
+    One,
+    /// A release after the deadline of each flow.
+    Two,
+}
+
+pub const VERSIONS: [Version; 2] = [Version::One, Version::Two];
+
+impl Version {
+    pub fn of_byte(byte: u8) -> Option<Version> {
+        match byte {
+            1 => Some(Version::One),
+            2 => Some(Version::Two),
+            _ => None,
+        }
+    }
+
+    pub fn byte(self) -> u8 {
+        match self {
+            Version::One => 1,
+            Version::Two => 2,
+        }
+    }
+
+    /// The numbers by which a book of the version is turned down.
+    pub fn faults(self) -> &'static [u8] {
+        match self {
+            Version::One => &[1, 2, 3, 4, 5, 6, 7, 8, 9, 10],
+            Version::Two => &[1, 2, 3, 4, 5, 6, 7, 8, 9, 10, 22],
+        }
+    }
+
+    /// Bytes of a flow's head. The last of them is the job count.
+    pub fn flow_head(self) -> usize {
+        match self {
+            Version::One => 3,
+            Version::Two => 5,
+        }
+    }
+
+    /// The release that a flow's head stands for.
+    pub fn release(self, head: &[u8]) -> u32 {
+        match self {
+            Version::One => 0,
+            Version::Two => be16(head, 2),
+        }
+    }
 }
 
 /// An order book that passed its checks.
 #[derive(Clone, Debug, PartialEq, Eq)]
 pub struct Book {
+    pub version: Version,
     pub processors: u32,
     pub flows: Vec<Flow>,
 }
 
 impl Book {
+    /// A version 1 book.
+    pub fn new(processors: u32, flows: Vec<Flow>) -> Book {
+        Book {
+            version: Version::One,
+            processors,
+            flows,
+        }
+    }
+
     /// The flows by deadline, equal deadlines by place in the book.
     pub fn service_order(&self) -> Vec<usize> {
         let mut order: Vec<usize> = (0..self.flows.len()).collect();
@@ -80,9 +153,9 @@ pub fn read_book(bytes: &[u8]) -> Result<Book, Refusal> {
     if bytes.len() < BOOK_HEAD || be32(bytes, 0) as usize != bytes.len() {
         return Err(Refusal::of_all(1));
     }
-    if bytes[4] != 1 {
+    let Some(version) = Version::of_byte(bytes[4]) else {
         return Err(Refusal::of_all(2));
-    }
+    };
     let processors = be16(bytes, 5);
     if !(1..=MOST_PROCESSORS).contains(&processors) {
         return Err(Refusal::of_all(3));
@@ -94,14 +167,19 @@ pub fn read_book(bytes: &[u8]) -> Result<Book, Refusal> {
     let mut flows = Vec::with_capacity(flow_count as usize);
     let mut at = BOOK_HEAD;
     for flow in 0..flow_count {
-        if bytes.len() - at < FLOW_HEAD {
+        if bytes.len() - at < version.flow_head() {
             return Err(Refusal::new(5, flow, NONE));
         }
-        let deadline = be16(bytes, at);
-        let job_count = bytes[at + 2];
-        at += FLOW_HEAD;
+        let head = &bytes[at..at + version.flow_head()];
+        let deadline = be16(head, 0);
+        let release = version.release(head);
+        let job_count = head[head.len() - 1];
+        at += head.len();
         if !(1..=MOST_DEADLINE).contains(&deadline) {
             return Err(Refusal::new(6, flow, NONE));
+        }
+        if release >= deadline {
+            return Err(Refusal::new(22, flow, NONE));
         }
         if !(1..=MOST_JOBS).contains(&(job_count as usize)) {
             return Err(Refusal::new(7, flow, NONE));
@@ -130,10 +208,18 @@ pub fn read_book(bytes: &[u8]) -> Result<Book, Refusal> {
                 precedence,
             });
         }
-        flows.push(Flow { deadline, jobs });
+        flows.push(Flow {
+            deadline,
+            release,
+            jobs,
+        });
     }
     if at != bytes.len() {
         return Err(Refusal::of_all(5));
     }
-    Ok(Book { processors, flows })
+    Ok(Book {
+        version,
+        processors,
+        flows,
+    })
 }

@@ -5,7 +5,7 @@
 
 use crate::answer::{CheckAnswer, Refusal, NONE, SLOTS, WORK_BYTES};
 use crate::reader::{
-    be16, be32, be64, read_book, Book, BOOK_HEAD, FLOW_HEAD, JOB_RECORD, MOST_DEADLINE, MOST_FLOWS,
+    be16, be32, be64, read_book, Book, Version, BOOK_HEAD, JOB_RECORD, MOST_DEADLINE, MOST_FLOWS,
     MOST_JOBS, MOST_PROCESSORS, MOST_SIZE,
 };
 
@@ -36,11 +36,12 @@ type Records<'a> = &'a [[u8; JOB_RECORD]];
 type Rows<'a> = &'a [[u8; ROW]];
 type Use = [[u8; 2]; SLOTS];
 
-/// A book that passed 1 to 10, read where it lies.
+/// A book that passed 1 to 10 and 22, read where it lies.
 struct Index<'a> {
     processors: u32,
     flows: usize,
     deadlines: [u16; MOST_FLOWS],
+    releases: [u16; MOST_FLOWS],
     records: [Records<'a>; MOST_FLOWS],
 }
 
@@ -112,7 +113,7 @@ pub fn check(book: &[u8], table: &[u8], work: &mut [u8]) -> CheckAnswer {
     }
 }
 
-/// 1 to 10, and the index of a book that passes.
+/// 1 to 10 and 22, and the index of a book that passes.
 fn index(bytes: &[u8]) -> Result<Index<'_>, Refusal> {
     let Some((head, mut rest)) = bytes.split_first_chunk::<BOOK_HEAD>() else {
         return Err(Refusal::of_all(1));
@@ -120,9 +121,9 @@ fn index(bytes: &[u8]) -> Result<Index<'_>, Refusal> {
     if be32(head, 0) as usize != bytes.len() {
         return Err(Refusal::of_all(1));
     }
-    if head[4] != 1 {
+    let Some(version) = Version::of_byte(head[4]) else {
         return Err(Refusal::of_all(2));
-    }
+    };
     let processors = be16(head, 5);
     if !(1..=MOST_PROCESSORS).contains(&processors) {
         return Err(Refusal::of_all(3));
@@ -135,17 +136,22 @@ fn index(bytes: &[u8]) -> Result<Index<'_>, Refusal> {
         processors,
         flows,
         deadlines: [0; MOST_FLOWS],
+        releases: [0; MOST_FLOWS],
         records: [&[]; MOST_FLOWS],
     };
     for flow in 0..flows {
-        let Some((head, jobs)) = rest.split_first_chunk::<FLOW_HEAD>() else {
+        let Some((head, jobs)) = rest.split_at_checked(version.flow_head()) else {
             return Err(Refusal::new(5, flow as u8, NONE));
         };
         let deadline = be16(head, 0);
         if !(1..=MOST_DEADLINE).contains(&deadline) {
             return Err(Refusal::new(6, flow as u8, NONE));
         }
-        let count = head[2] as usize;
+        let release = version.release(head);
+        if release >= deadline {
+            return Err(Refusal::new(22, flow as u8, NONE));
+        }
+        let count = head[head.len() - 1] as usize;
         if !(1..=MOST_JOBS).contains(&count) {
             return Err(Refusal::new(7, flow as u8, NONE));
         }
@@ -156,6 +162,7 @@ fn index(bytes: &[u8]) -> Result<Index<'_>, Refusal> {
             return Err(Refusal::new(5, flow as u8, records.len() as u8));
         }
         book.deadlines[flow] = deadline as u16;
+        book.releases[flow] = release as u16;
         book.records[flow] = records;
         rest = &jobs[JOB_RECORD * count..];
     }
@@ -218,9 +225,10 @@ fn walk(book: &Index, table: &[u8], work: &mut [u8; WORK_BYTES]) -> Result<u8, R
         // A flow that is not after the one before it: 16 at its first row.
         let service = Some((book.deadlines[at], flow));
         let least = if service > before { 0 } else { u32::MAX };
+        let release = book.releases[at];
         let ledgers = open(records, &mut ledgers);
         let finish;
-        (finish, rows) = walk_flow(flow, least, book.processors, ledgers, used, rows)?;
+        (finish, rows) = walk_flow(flow, least, release, book.processors, ledgers, used, rows)?;
         tally.finishes[at] = finish;
         tally.off[at] = first_off(ledgers);
         before = service;
@@ -253,6 +261,7 @@ fn first_off(ledgers: &[Ledger]) -> Option<u8> {
 fn walk_flow<'a>(
     flow: u8,
     mut least: u32,
+    release: u16,
     processors: u32,
     ledgers: &mut [Ledger],
     used: &mut Use,
@@ -296,8 +305,10 @@ fn walk_flow<'a>(
         }
         *used = (in_use as u16).to_be_bytes();
 
-        // Asked at a job's first row only: what is complete then stays so.
-        if ledger.total == 0 && ledger.precedence & !complete.before(slot) != 0 {
+        // Asked at a job's first row only: what is complete or released then
+        // stays so.
+        if ledger.total == 0 && (slot < release || ledger.precedence & !complete.before(slot) != 0)
+        {
             return refuse(19);
         }
         let had = ledger.total;
@@ -399,6 +410,9 @@ fn judge(book: &Book, table: &[u8]) -> Result<(u8, Vec<Row>), Refusal> {
         }
         if use_of(so_far, row.slot) > book.processors {
             return refuse(18);
+        }
+        if u32::from(row.slot) < flow.release {
+            return refuse(19);
         }
         for earlier in 0..64u8 {
             if job.precedence >> earlier & 1 == 1 {

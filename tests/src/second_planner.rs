@@ -178,7 +178,7 @@ pub fn schedule(book: &Book) -> Result<Schedule, u8> {
 }
 
 /// Rules 4 to 6 for one flow: its finish, or nothing where it is not finished
-/// after slot 2 x deadline - 1.
+/// after slot 2 x deadline - 1. Slots before its release give it nothing.
 fn place(book: &Book, number: usize, used: &mut [u32], rows: &mut Vec<Row>) -> Option<u16> {
     let flow = &book.flows[number];
     let chain = chain(flow);
@@ -197,7 +197,11 @@ fn place(book: &Book, number: usize, used: &mut [u32], rows: &mut Vec<Row>) -> O
                 return None;
             }
             let free = u64::from(book.processors - used[slot]);
-            let gets = rate.min(remaining).min(free);
+            let gets = if slot < flow.release as usize {
+                0
+            } else {
+                rate.min(remaining).min(free)
+            };
             shares.fill(0);
             for _ in 0..gets {
                 shares[units.next_job()] += 1;
@@ -222,7 +226,7 @@ fn place(book: &Book, number: usize, used: &mut [u32], rows: &mut Vec<Row>) -> O
 
 /// What the planner makes of a book before output and work area are looked at.
 pub enum Outcome {
-    /// Refused by 1 to 10.
+    /// Refused by 1 to 10 or 22.
     Faulty(Refusal),
     /// Refused by 12 where the work area is long enough.
     Infeasible(u8),

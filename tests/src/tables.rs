@@ -1,11 +1,12 @@
 //! Valid tables that the planner would not make, and damage to tables such that
-//! every refusal of the check is met and several faults stand together.
+//! every refusal of the check is met and several faults stand together, also
+//! before and about a release.
 
 use crate::answer::SLOTS;
 use crate::books::{encode_table, fit_length};
-use crate::reader::{predecessors, Book, Flow, Job};
+use crate::reader::{be16, predecessors, Book, Flow, Job};
 use crate::rng::Rng;
-use crate::second_check::Row;
+use crate::second_check::{Row, FINISH, ROW, TABLE_HEAD};
 use crate::second_planner;
 
 /// A table before it is encoded.
@@ -79,7 +80,8 @@ pub fn delayed_table(rng: &mut Rng, book: &Book) -> Option<Table> {
         let rows_before = rows.len();
         for &(flow, job) in &jobs {
             let record = &book.flows[flow].jobs[job];
-            let ready = predecessors(record.precedence).all(|k| left[flow][k] == 0);
+            let released = slot >= book.flows[flow].release as usize;
+            let ready = released && predecessors(record.precedence).all(|k| left[flow][k] == 0);
             let most = record.cap.min(left[flow][job]).min(free);
             if !ready || most == 0 || rng.chance(skip, 8) {
                 continue;
@@ -127,13 +129,8 @@ pub fn surplus_table(size: u32, surplus: u32) -> (Book, Table) {
         cap: 4_096,
         precedence,
     };
-    let book = Book {
-        processors: 4_096,
-        flows: vec![Flow {
-            deadline: 4_096,
-            jobs: vec![job(size, 0), job(1, 1)],
-        }],
-    };
+    let flow = Flow::new(4_096, vec![job(size, 0), job(1, 1)]);
+    let book = Book::new(4_096, vec![flow]);
     let mut rows = Vec::new();
     let mut left = size + surplus;
     while left > 0 {
@@ -165,6 +162,36 @@ fn nudge(rng: &mut Rng, value: u16) -> u16 {
     }
 }
 
+/// Moves the first row of some row's flow to the slot before the flow's release,
+/// to that of the release, to the next, or to any before; its take stays, or is
+/// more than its cap or than a slot that is in use has left.
+fn near_release(rng: &mut Rng, book: &Book, rows: &mut [Row], at: usize) {
+    let number = rows[at].flow;
+    let Some(flow) = book.flows.get(number as usize) else {
+        return;
+    };
+    let Some(row) = rows.iter_mut().find(|row| row.flow == number) else {
+        return;
+    };
+    let release = flow.release as u16;
+    let earlier = rng.range(0, u64::from(release)) as u16;
+    row.slot = rng.pick(&[release.saturating_sub(1), release, release + 1, earlier]);
+    if rng.chance(1, 2) {
+        let job = flow.jobs.get(row.job as usize);
+        let cap = job.map_or(1, |job| job.cap as u16);
+        row.take = rng.pick(&[cap, cap + 1]);
+    }
+}
+
+/// Whether the first row of a flow stands before the flow's release.
+pub fn begins_early(book: &Book, table: &[u8], flow: u8) -> bool {
+    let rows = table.get(TABLE_HEAD + FINISH * book.flows.len()..);
+    let mut rows = rows.unwrap_or(&[]).chunks_exact(ROW);
+    let first = rows.find(|row| row[2] == flow);
+    let release = book.flows.get(flow as usize).map_or(0, |flow| flow.release);
+    first.is_some_and(|row| be16(row, 0) < release)
+}
+
 /// Damages the rows or the finishes in one place.
 fn damage_once(rng: &mut Rng, book: &Book, table: &mut Table) {
     let flows = book.flows.len() as u64;
@@ -182,7 +209,7 @@ fn damage_once(rng: &mut Rng, book: &Book, table: &mut Table) {
     }
     let at = rng.index(rows.len());
     let other = rng.index(rows.len());
-    match rng.below(16) {
+    match rng.below(18) {
         0 => rows[at].slot = nudge(rng, rows[at].slot),
         1 => rows[at].slot = rows[other].slot,
         2 => {
@@ -261,7 +288,8 @@ fn damage_once(rng: &mut Rng, book: &Book, table: &mut Table) {
             };
             rows.push(row);
         }
-        14 => {
+        14 | 15 => near_release(rng, book, rows, at),
+        16 => {
             // The same processors to another job of the flow.
             let take = rows[other].take;
             rows[at].job = rows[other].job;

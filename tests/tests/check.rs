@@ -1,36 +1,53 @@
 //! Differential test of the proved table check against the second one: the
 //! answer and every byte of every buffer, over valid and damaged tables and
-//! books, with work areas of every length class and junk everywhere first.
+//! books of both versions, with work areas of every length class and junk
+//! everywhere first.
 
-use flowplan_tests::answer::WORK_BYTES;
-use flowplan_tests::books::{self, encode_book};
+use flowplan_tests::answer::{CheckAnswer, NUMBERS, WORK_BYTES};
+use flowplan_tests::books::{self, encode_book, Family};
 use flowplan_tests::lent::{Junk, Lent};
-use flowplan_tests::reader::Book;
+use flowplan_tests::reader::{Book, Version};
 use flowplan_tests::rng::Rng;
 use flowplan_tests::tables::{self, Table};
-use flowplan_tests::{linked, marked, second_check};
+use flowplan_tests::{heads, linked, marked, second_check};
 
 #[test]
 fn marked_plans() {
     marked::hold_check(linked::check);
 }
 
-/// Draws cases, compares them and counts the numbers that were met.
+#[test]
+fn flow_heads() {
+    heads::hold_check(linked::check);
+}
+
+/// Draws cases of one version, compares them and counts the numbers that were
+/// met.
 struct Trial {
+    version: Version,
     rng: Rng,
     junk: Junk,
-    met: [u64; 22],
+    met: [u64; NUMBERS],
+    /// Those met at a flow whose first row stands before its release.
+    early: [u64; NUMBERS],
     beyond_twice: u64,
 }
 
 impl Trial {
-    fn new(seed: u64) -> Trial {
+    fn new(version: Version, seed: u64) -> Trial {
         Trial {
+            version,
             rng: Rng::new(seed),
             junk: Junk::new(!seed),
-            met: [0; 22],
+            met: [0; NUMBERS],
+            early: [0; NUMBERS],
             beyond_twice: 0,
         }
+    }
+
+    /// A book of a family, in the version of the trial.
+    fn draw(&mut self, family: Family) -> Book {
+        books::drawn(&mut self.rng, self.version, family)
     }
 
     fn work_length(&mut self) -> usize {
@@ -45,7 +62,7 @@ impl Trial {
     }
 
     /// One call of each check on equal buffers; all must end equal.
-    fn compare(&mut self, book: &[u8], table: &[u8]) {
+    fn compare(&mut self, book: &[u8], table: &[u8]) -> CheckAnswer {
         let length = self.work_length();
         let rng = &mut self.rng;
         let mut book = Lent::holding(rng, &self.junk, book);
@@ -69,6 +86,7 @@ impl Trial {
         assert!(book == book_before, "the book was changed");
         assert!(table == table_before, "the table was changed");
         self.met[expected.number as usize] += 1;
+        expected
     }
 
     /// A table with several damaged copies, and with damaged books.
@@ -82,7 +100,10 @@ impl Trial {
         self.compare(&bytes, &intact);
         for _ in 0..damaged {
             let table = tables::damaged(&mut self.rng, book, table);
-            self.compare(&bytes, &table);
+            let answer = self.compare(&bytes, &table);
+            if tables::begins_early(book, &table, answer.flow) {
+                self.early[answer.number as usize] += 1;
+            }
         }
         for _ in 0..damaged.div_ceil(3) {
             let mut bytes = bytes.clone();
@@ -104,27 +125,39 @@ impl Trial {
 
 #[test]
 fn proved_check_is_the_second_one() {
-    let mut trial = Trial::new(0x5eed_0001);
+    hold_trial(Version::One, 0x5eed_0001);
+}
+
+#[test]
+fn proved_check_is_the_second_one_with_releases() {
+    hold_trial(Version::Two, 0x5eed_0011);
+}
+
+fn hold_trial(version: Version, seed: u64) {
+    let mut trial = Trial::new(version, seed);
 
     for _ in 0..9_000 {
-        let book = books::tiny_book(&mut trial.rng);
+        let book = trial.draw(books::tiny_book);
         trial.compare_book(&book, 9);
     }
     for _ in 0..2_500 {
-        let book = books::any_book(&mut trial.rng);
+        let book = trial.draw(books::any_book);
         trial.compare_book(&book, 6);
     }
     for _ in 0..60 {
-        let book = books::wide_book(&mut trial.rng);
+        let book = trial.draw(books::wide_book);
         trial.compare_book(&book, 4);
     }
     for _ in 0..6 {
-        let book = books::full_book(&mut trial.rng);
+        let book = trial.draw(books::full_book);
         trial.compare_book(&book, 2);
     }
-    // Every slot of the work area in use, by every flow.
+    // Every slot of the work area in use from the release on, by every flow.
     for (flows, jobs, slots) in [(64, 1, 8_192), (1, 64, 8_192), (64, 64, 64)] {
-        let book = books::layered_book(flows, jobs, slots);
+        let book = match version {
+            Version::One => books::layered_book(flows, jobs, slots),
+            Version::Two => books::late_layered_book(flows, jobs, slots),
+        };
         let table = tables::planned_table(&book).expect("feasible");
         trial.compare_around(&book, &table, 3);
     }
@@ -139,7 +172,7 @@ fn proved_check_is_the_second_one() {
     // The table of one book with another.
     let mut last = marked::table_a();
     for _ in 0..20_000 {
-        let book = books::tiny_book(&mut trial.rng);
+        let book = trial.draw(books::tiny_book);
         trial.compare(&encode_book(&book), &last);
         if let Some(table) = tables::delayed_table(&mut trial.rng, &book) {
             last = table.encode(&book);
@@ -151,7 +184,7 @@ fn proved_check_is_the_second_one() {
         let book = if trial.rng.chance(1, 2) {
             books::random_bytes(&mut trial.rng, 80)
         } else {
-            let mut bytes = encode_book(&books::tiny_book(&mut trial.rng));
+            let mut bytes = encode_book(&trial.draw(books::tiny_book));
             books::damage_book(&mut trial.rng, &mut bytes);
             bytes
         };
@@ -159,16 +192,24 @@ fn proved_check_is_the_second_one() {
         trial.compare(&book, &table);
     }
 
-    println!("cases: {}", trial.met.iter().sum::<u64>());
+    println!("{version:?}, cases: {}", trial.met.iter().sum::<u64>());
     println!(
         "valid tables with a finish beyond twice the deadline: {}",
         trial.beyond_twice
     );
-    for (number, met) in trial.met.iter().enumerate() {
-        println!("number {number:2}: {met}");
+    for (number, (met, early)) in trial.met.iter().zip(&trial.early).enumerate() {
+        println!("number {number:2}: {met}, before a release: {early}");
     }
-    for number in (0..=11).chain(14..=21) {
-        assert!(trial.met[number] > 0, "number {number} was never met");
+    let faults = version.faults().iter().copied();
+    for number in faults.chain([0, 11]).chain(14..=21) {
+        let met = trial.met[number as usize];
+        assert!(met > 0, "number {number} was never met");
+    }
+    if version == Version::Two {
+        for number in [17, 18, 19] {
+            let met = trial.early[number];
+            assert!(met > 0, "number {number} was never met before a release");
+        }
     }
     assert!(trial.beyond_twice > 0);
 }

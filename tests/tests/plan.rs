@@ -1,15 +1,16 @@
 //! Differential test of the proved planner against the literal one: the answer
-//! and every byte of output and work area, over books of every family and
-//! damaged ones, with outputs and work areas of every length class and junk
-//! everywhere first. The planner's own tables go through the proved check.
+//! and every byte of output and work area, over books of every family in both
+//! versions and damaged ones, with outputs and work areas of every length class
+//! and junk everywhere first. The planner's own tables go through the proved
+//! check.
 
-use flowplan_tests::answer::{CheckAnswer, PlanAnswer, Refusal, WORK_BYTES};
-use flowplan_tests::books::{self, encode_book};
+use flowplan_tests::answer::{CheckAnswer, PlanAnswer, Refusal, NUMBERS, WORK_BYTES};
+use flowplan_tests::books::{self, encode_book, Family};
 use flowplan_tests::lent::{Junk, Lent};
-use flowplan_tests::reader::Book;
+use flowplan_tests::reader::{Book, Version, VERSIONS};
 use flowplan_tests::rng::Rng;
 use flowplan_tests::second_planner::{self, Outcome};
-use flowplan_tests::{linked, linked_plan, marked};
+use flowplan_tests::{heads, linked, linked_plan, marked, twins};
 
 #[test]
 fn marked_plans() {
@@ -17,11 +18,22 @@ fn marked_plans() {
     marked::hold_check(linked::check);
 }
 
+#[test]
+fn flow_heads() {
+    heads::hold_planner(linked_plan::plan);
+}
+
+/// Planner and check; the answer, the output and the work area.
+#[test]
+fn both_versions_without_releases_are_alike() {
+    twins::hold(linked_plan::plan, linked::check, 0x5eed_0013, 40_000);
+}
+
 /// Draws cases, compares them and counts the numbers that were met.
 struct Trial {
     rng: Rng,
     junk: Junk,
-    met: [u64; 14],
+    met: [u64; NUMBERS],
     books: u64,
     late: u64,
 }
@@ -31,7 +43,7 @@ impl Trial {
         Trial {
             rng: Rng::new(seed),
             junk: Junk::new(!seed),
-            met: [0; 14],
+            met: [0; NUMBERS],
             books: 0,
             late: 0,
         }
@@ -107,6 +119,11 @@ impl Trial {
         self.compare_bytes(&encode_book(book));
     }
 
+    fn compare_drawn(&mut self, version: Version, family: Family) {
+        let book = books::drawn(&mut self.rng, version, family);
+        self.compare_book(&book);
+    }
+
     fn print(&self) {
         let cases: u64 = self.met.iter().sum();
         println!("books: {}, calls: {cases}", self.books);
@@ -119,62 +136,88 @@ impl Trial {
 
 #[test]
 fn proved_planner_is_the_literal_one() {
-    let mut trial = Trial::new(0x5eed_0002);
+    hold_trial(Version::One, 0x5eed_0002);
+}
+
+#[test]
+fn proved_planner_is_the_literal_one_with_releases() {
+    hold_trial(Version::Two, 0x5eed_0012);
+}
+
+fn hold_trial(version: Version, seed: u64) {
+    let mut trial = Trial::new(seed);
 
     for _ in 0..20_000 {
-        let book = books::tiny_book(&mut trial.rng);
-        trial.compare_book(&book);
+        trial.compare_drawn(version, books::tiny_book);
     }
     for _ in 0..12_000 {
-        let book = books::any_book(&mut trial.rng);
-        trial.compare_book(&book);
+        trial.compare_drawn(version, books::any_book);
     }
     for _ in 0..1_500 {
-        let book = books::crowded_book(&mut trial.rng);
-        trial.compare_book(&book);
-        let book = books::infeasible_book(&mut trial.rng);
-        trial.compare_book(&book);
+        trial.compare_drawn(version, books::crowded_book);
+        trial.compare_drawn(version, books::infeasible_book);
     }
     for _ in 0..100 {
-        let book = books::wide_book(&mut trial.rng);
-        trial.compare_book(&book);
-        let book = books::edge_book(&mut trial.rng);
-        trial.compare_book(&book);
-        let book = books::long_path_book(&mut trial.rng);
-        trial.compare_book(&book);
+        trial.compare_drawn(version, books::wide_book);
+        trial.compare_drawn(version, books::edge_book);
+        trial.compare_drawn(version, books::long_path_book);
     }
     for _ in 0..12 {
-        let book = books::full_book(&mut trial.rng);
-        trial.compare_book(&book);
+        trial.compare_drawn(version, books::full_book);
     }
     for _ in 0..40 {
-        let book = books::heavy_book(&mut trial.rng);
-        trial.compare_book(&book);
+        trial.compare_drawn(version, books::heavy_book);
     }
-    // Every slot in use, by every flow or by one.
+    // Every slot in use from the release on, by every flow or by one.
     for (flows, jobs, slots) in [(64, 1, 8_192), (1, 64, 8_192), (64, 64, 128)] {
-        trial.compare_book(&books::layered_book(flows, jobs, slots));
+        trial.compare_book(&match version {
+            Version::One => books::layered_book(flows, jobs, slots),
+            Version::Two => books::late_layered_book(flows, jobs, slots),
+        });
     }
 
     // Books cut at any point of the service order.
     for _ in 0..1_500 {
-        let book = books::any_book(&mut trial.rng);
+        let book = books::drawn(&mut trial.rng, version, books::any_book);
         let kept = trial.rng.index(book.flows.len() + 1);
         trial.compare_book(&books::cut(&book, kept));
     }
 
     // Damaged books of every family.
     for _ in 0..20_000 {
-        let mut bytes = encode_book(&books::any_book(&mut trial.rng));
+        let mut bytes = encode_book(&books::drawn(&mut trial.rng, version, books::any_book));
         books::damage_book(&mut trial.rng, &mut bytes);
         trial.compare_bytes(&bytes);
     }
 
+    println!("version {version:?}");
     trial.print();
-    for (number, &met) in trial.met.iter().enumerate() {
+    let faults = version.faults().iter().copied();
+    for number in faults.chain([0, 11, 12, 13]) {
+        let met = trial.met[number as usize];
         assert!(met > 0, "number {number} was never met");
     }
     assert!(trial.late > 0);
+}
+
+/// The longest book of each version, planned and checked.
+#[test]
+fn longest_books() {
+    let mut trial = Trial::new(0x5eed_0014);
+    let families = [books::full_book, books::late_full_book];
+    for (length, family) in [57_544, 57_672].into_iter().zip(families) {
+        trial.met[0] = 0;
+        for _ in 0..10 {
+            let book = encode_book(&family(&mut trial.rng));
+            assert_eq!(book.len(), length);
+            let outcome = second_planner::outcome(&book);
+            if let Outcome::Planned(plan) = &outcome {
+                trial.compare(&book, &outcome, plan.table.len(), WORK_BYTES);
+            }
+        }
+        println!("planned and checked with {length} bytes: {}", trial.met[0]);
+        assert!(trial.met[0] > 2);
+    }
 }
 
 /// The longest table of all, 64 flows of 64 jobs in 8,192 slots.
@@ -205,19 +248,22 @@ fn largest_table() {
     assert!(checked == work);
 }
 
-/// A million short inputs: damaged small books and bytes that are hardly one.
+/// Two million short inputs: damaged small books of both versions and bytes that
+/// are hardly one.
 #[test]
 fn short_and_damaged_inputs() {
     let mut trial = Trial::new(0x5eed_0003);
     let mut pool: Vec<Vec<u8>> = Vec::new();
-    while pool.len() < 2_000 {
-        let bytes = encode_book(&books::tiny_book(&mut trial.rng));
+    while pool.len() < 4_000 {
+        let version = VERSIONS[pool.len() % 2];
+        let bytes = encode_book(&books::drawn(&mut trial.rng, version, books::tiny_book));
         if bytes.len() <= 130 {
             pool.push(bytes);
         }
     }
     pool.push(marked::BOOK_A.to_vec());
-    for case in 0..1_000_000 {
+    pool.push(marked::BOOK_G.to_vec());
+    for case in 0..2_000_000 {
         let bytes = if case % 2 == 0 {
             books::random_bytes(&mut trial.rng, 60)
         } else {

@@ -1,17 +1,16 @@
 //! The second implementations held against the marked plans and against each
 //! other, before they are held against the proved library.
 
-use flowplan_tests::answer::{CheckAnswer, PlanAnswer, WORK_BYTES};
+use flowplan_tests::answer::{CheckAnswer, PlanAnswer, NUMBERS, WORK_BYTES};
 use flowplan_tests::books::{self, encode_book};
-use flowplan_tests::marked;
-use flowplan_tests::reader::{read_book, Book};
+use flowplan_tests::reader::{read_book, Book, Version, MOST_DEADLINE, VERSIONS};
 use flowplan_tests::rng::Rng;
 use flowplan_tests::second_check::Row;
 use flowplan_tests::second_planner::{
     chain, chain_by_change_points, chain_by_slots, critical_path, schedule, PseudoJob,
 };
 use flowplan_tests::tables::{self, Table};
-use flowplan_tests::{fast_planner, second_check, second_planner};
+use flowplan_tests::{fast_planner, heads, marked, second_check, second_planner, twins};
 
 #[test]
 fn marked_plans() {
@@ -22,19 +21,67 @@ fn marked_plans() {
 }
 
 #[test]
+fn flow_heads() {
+    heads::hold_planner(second_planner::plan);
+    heads::hold_planner(fast_planner::plan);
+    heads::hold_check(second_check::check);
+    heads::hold_check(second_check::check_by_definition);
+}
+
+#[test]
+fn both_versions_without_releases_are_alike() {
+    twins::hold(second_planner::plan, second_check::check, 9, 5_000);
+    twins::hold(fast_planner::plan, second_check::check, 10, 5_000);
+}
+
+#[test]
 fn books_are_read_as_written() {
     let mut rng = Rng::new(1);
-    for _ in 0..5_000 {
-        let book = books::any_book(&mut rng);
-        let bytes = encode_book(&book);
-        assert_eq!(read_book(&bytes), Ok(book));
+    for version in VERSIONS {
+        for _ in 0..5_000 {
+            let book = books::drawn(&mut rng, version, books::any_book);
+            let bytes = encode_book(&book);
+            assert_eq!(bytes[4], version.byte());
+            assert_eq!(read_book(&bytes), Ok(book));
+        }
     }
-    assert_eq!(
-        encode_book(&read_book(&marked::BOOK_A).unwrap()),
-        marked::BOOK_A
-    );
+    for book in [&marked::BOOK_A[..], &marked::BOOK_G] {
+        assert_eq!(encode_book(&read_book(book).unwrap()), book);
+    }
     let largest = encode_book(&books::full_book(&mut rng));
     assert_eq!(largest.len(), 57_544);
+    let largest = encode_book(&books::late_full_book(&mut rng));
+    assert_eq!(largest.len(), 57_672);
+}
+
+/// What releases are drawn: the edges, others, and none in version 1.
+#[test]
+fn releases_of_every_kind_are_drawn() {
+    let mut rng = Rng::new(11);
+    let (mut none, mut one, mut latest, mut between, mut alike) = (0, 0, 0, 0, 0);
+    for _ in 0..2_000 {
+        let book = books::any_book(&mut rng);
+        assert!(book.version == Version::One);
+        assert!(book.flows.iter().all(|flow| flow.release == 0));
+        let book = books::with_releases(&mut rng, book);
+        assert!(book.version == Version::Two);
+        for flow in &book.flows {
+            match flow.release {
+                0 => none += 1,
+                1 => one += 1,
+                release if release + 1 == flow.deadline => latest += 1,
+                release => {
+                    assert!(release < flow.deadline);
+                    between += 1;
+                }
+            }
+        }
+        let mut pairs = book.flows.windows(2);
+        alike += usize::from(pairs.any(|pair| pair[0].release == pair[1].release));
+    }
+    for drawn in [none, one, latest, between, alike] {
+        assert!(drawn > 500);
+    }
 }
 
 #[test]
@@ -80,8 +127,8 @@ fn numbered_units(pseudo_job: &PseudoJob) -> Vec<u8> {
 fn units_are_used_in_their_order() {
     let mut rng = Rng::new(3);
     let mut planned = 0;
-    for _ in 0..20_000 {
-        let book = books::tiny_book(&mut rng);
+    for case in 0..40_000 {
+        let book = books::drawn(&mut rng, VERSIONS[case % 2], books::tiny_book);
         let Ok(schedule) = schedule(&book) else {
             continue;
         };
@@ -113,13 +160,38 @@ fn units_are_used_in_their_order() {
             assert!(pending.is_none());
         }
     }
-    assert!(planned > 5_000);
+    assert!(planned > 10_000);
+}
+
+/// Without other flows there is nothing but the release that a flow waits for.
+#[test]
+fn a_lone_flow_is_moved_by_its_release() {
+    let mut rng = Rng::new(12);
+    for _ in 0..5_000 {
+        let mut book = books::usual_book(&mut rng);
+        book.flows.truncate(1);
+        for flow in &mut book.flows {
+            flow.deadline = MOST_DEADLINE;
+        }
+        let Ok(at_once) = schedule(&book) else {
+            continue;
+        };
+        let mut later = books::with_releases(&mut rng, book);
+        later.flows.iter_mut().for_each(|flow| flow.release /= 2);
+        let release = later.flows.first().map_or(0, |flow| flow.release as u16);
+        let moved = schedule(&later).expect("it has half its slots left");
+        let rows = at_once.rows.iter().map(|&row| Row {
+            slot: row.slot + release,
+            ..row
+        });
+        assert!(moved.rows.iter().copied().eq(rows));
+    }
 }
 
 #[test]
 fn fast_planner_is_the_literal_one() {
     let mut rng = Rng::new(4);
-    let mut met = [0u32; 14];
+    let mut met = [0u32; NUMBERS];
     let mut output = vec![0; 1 << 20];
     let mut one = |book: &[u8], room: usize, work: usize| {
         let mut work = [vec![7; work], vec![7; work]];
@@ -134,12 +206,13 @@ fn fast_planner_is_the_literal_one() {
         met[literal.number as usize] += 1;
         literal
     };
-    for case in 0..12_000 {
-        let book = match case % 1_000 {
-            0 => books::full_book(&mut rng),
-            1 => books::heavy_book(&mut rng),
-            _ => books::any_book(&mut rng),
+    for case in 0..24_000 {
+        let family = match case % 2_000 {
+            0 | 1 => books::full_book,
+            2 | 3 => books::heavy_book,
+            _ => books::any_book,
         };
+        let book = books::drawn(&mut rng, VERSIONS[case % 2], family);
         let mut bytes = encode_book(&book);
         if rng.chance(1, 8) {
             books::damage_book(&mut rng, &mut bytes);
@@ -147,12 +220,17 @@ fn fast_planner_is_the_literal_one() {
         let work = WORK_BYTES + rng.index(3) - 1;
         let room = rng.skewed(0, 1 << 14) as usize;
         one(&bytes, room, work);
-        if case % 1_000 <= 1 {
+        if case % 2_000 <= 3 {
             one(&bytes, 1 << 20, work);
         }
     }
     println!("numbers met by the planners: {met:?}");
-    assert!(met[0] > 1_000 && met[11] > 0 && met[12] > 1_000 && met[13] > 1_000);
+    for number in [0, 12, 13] {
+        assert!(met[number] > 2_000, "number {number} was rarely met");
+    }
+    for number in (1..=11).chain([22]) {
+        assert!(met[number] > 0, "number {number} was never met");
+    }
 }
 
 /// Every accepted plan is a valid schedule and ends within twice the deadline;
@@ -162,8 +240,8 @@ fn plans_are_valid_and_cuts_agree() {
     let mut rng = Rng::new(5);
     let mut work = vec![0; WORK_BYTES];
     let (mut planned, mut refused) = (0, 0);
-    for _ in 0..8_000 {
-        let book = books::any_book(&mut rng);
+    for case in 0..16_000 {
+        let book = books::drawn(&mut rng, VERSIONS[case % 2], books::any_book);
         let order = book.service_order();
         match schedule(&book) {
             Ok(schedule) => {
@@ -187,15 +265,16 @@ fn plans_are_valid_and_cuts_agree() {
             }
         }
     }
-    assert!(planned > 1_000 && refused > 1_000);
+    assert!(planned > 2_000 && refused > 2_000);
 }
 
 #[test]
 fn one_pass_check_is_the_one_by_definition() {
     let mut rng = Rng::new(6);
-    let mut met = [0u32; 22];
-    for _ in 0..4_000 {
-        let book: Book = books::tiny_book(&mut rng);
+    let mut met = [0u32; NUMBERS];
+    let mut early = [0u32; NUMBERS];
+    for case in 0..8_000 {
+        let book = books::drawn(&mut rng, VERSIONS[case % 2], books::tiny_book);
         let table = if rng.chance(1, 2) {
             tables::planned_table(&book)
         } else {
@@ -218,12 +297,20 @@ fn one_pass_check_is_the_one_by_definition() {
                 _ => tables::damaged(&mut rng, &book, &table),
             };
             let room = WORK_BYTES + rng.index(9) - usize::from(rng.chance(1, 32));
-            met[number_of_both(&bytes, &table, room) as usize] += 1;
+            let answer = answer_of_both(&bytes, &table, room);
+            met[answer.number as usize] += 1;
+            if tables::begins_early(&book, &table, answer.flow) {
+                early[answer.number as usize] += 1;
+            }
         }
     }
     println!("numbers met by the checks: {met:?}");
-    for number in [0, 11, 14, 15, 16, 17, 18, 19, 20, 21] {
+    println!("of them at a flow that begins before its release: {early:?}");
+    for number in (0..=11).chain(14..=22) {
         assert!(met[number] > 0, "number {number} was never met");
+    }
+    for number in [17, 18, 19] {
+        assert!(early[number] > 0, "number {number} was never met early");
     }
 }
 
@@ -233,10 +320,10 @@ fn one_pass_check_is_the_one_by_definition() {
 #[test]
 fn one_pass_check_of_rows_out_of_place() {
     let mut rng = Rng::new(8);
-    let mut met = [0u32; 22];
+    let mut met = [0u32; NUMBERS];
     let mut tables = 0;
-    while tables < 40 {
-        let book = books::tiny_book(&mut rng);
+    while tables < 80 {
+        let book = books::drawn(&mut rng, VERSIONS[tables % 2], books::tiny_book);
         let Some(table) = tables::delayed_table(&mut rng, &book) else {
             continue;
         };
@@ -248,7 +335,7 @@ fn one_pass_check_of_rows_out_of_place() {
         let mut hold = |rows: Vec<Row>| {
             let finishes = table.finishes.clone();
             let table = Table { finishes, rows }.encode(&book);
-            met[number_of_both(&bytes, &table, WORK_BYTES) as usize] += 1;
+            met[answer_of_both(&bytes, &table, WORK_BYTES).number as usize] += 1;
         };
         for (from, &row) in table.rows.iter().enumerate() {
             let mut others = table.rows.clone();
@@ -286,14 +373,14 @@ fn one_pass_check_of_rows_out_of_place() {
     }
 }
 
-/// The number that both checks answer; all else must be equal too.
-fn number_of_both(book: &[u8], table: &[u8], room: usize) -> u8 {
+/// What both checks answer; the work areas must be equal too.
+fn answer_of_both(book: &[u8], table: &[u8], room: usize) -> CheckAnswer {
     let mut work = [vec![5; room], vec![5; room]];
     let one_pass = second_check::check(book, table, &mut work[0]);
     let literal = second_check::check_by_definition(book, table, &mut work[1]);
     assert_eq!(one_pass, literal);
     assert!(work[0] == work[1]);
-    one_pass.number
+    one_pass
 }
 
 /// On tiny books every valid schedule that ends each flow by its deadline is
@@ -301,6 +388,12 @@ fn number_of_both(book: &[u8], table: &[u8], room: usize) -> u8 {
 /// that it names.
 #[test]
 fn a_refused_book_has_no_schedule_in_time() {
+    for version in VERSIONS {
+        hold_refusals(version);
+    }
+}
+
+fn hold_refusals(version: Version) {
     let mut rng = Rng::new(7);
     let (mut none, mut some) = (0, 0);
     for _ in 0..60_000 {
@@ -308,6 +401,7 @@ fn a_refused_book_has_no_schedule_in_time() {
         for flow in &mut book.flows {
             flow.deadline = flow.deadline.min(rng.range(1, 6) as u32);
         }
+        let book = books::in_version(&mut rng, version, book);
         let work: u32 = book
             .flows
             .iter()
@@ -333,7 +427,7 @@ fn a_refused_book_has_no_schedule_in_time() {
             some += 1;
         }
     }
-    println!("refused without a schedule in time: {none}, planned with one: {some}");
+    println!("{version:?}: refused without a schedule in time: {none}, planned with one: {some}");
     assert!(none > 500 && some > 500);
 }
 
@@ -359,7 +453,8 @@ fn search(book: &Book, slot: u32, left: &[(usize, usize, u32)]) -> bool {
     }
     let overdue = |&(flow, _, size): &(usize, usize, u32)| {
         size > 0 && {
-            let slots = book.flows[flow].deadline.saturating_sub(slot);
+            let from = slot.max(book.flows[flow].release);
+            let slots = book.flows[flow].deadline.saturating_sub(from);
             size > slots * book.processors
         }
     };
@@ -373,7 +468,7 @@ fn search(book: &Book, slot: u32, left: &[(usize, usize, u32)]) -> bool {
             let open = left
                 .iter()
                 .any(|&(f, j, size)| f == flow && record.precedence >> j & 1 == 1 && size > 0);
-            if open {
+            if open || slot < book.flows[flow].release {
                 0
             } else {
                 size.min(record.cap)

@@ -1,5 +1,5 @@
-//! How much stack one call takes: on a full book, on book A, and on either
-//! damaged so that each of the numbers refuses it.
+//! How much stack one call takes: on full books of both versions, on books A and
+//! G, and on each of them damaged so that each of the numbers refuses it.
 
 use flowplan_tests::answer::WORK_BYTES;
 use flowplan_tests::books::{self, encode_book};
@@ -9,7 +9,6 @@ use flowplan_tests::rng::Rng;
 use flowplan_tests::tables::{self, Table};
 use flowplan_tests::{fast_planner, linked, linked_plan, marked, second_check};
 use std::hint::black_box;
-use std::ops::RangeInclusive;
 
 /// The bytes that a call may take.
 const CHECK_STACK: usize = 16 * 1024;
@@ -22,24 +21,28 @@ struct Case {
     table: Table,
 }
 
-/// A full book, with jobs that wait for each other, and book A.
-fn cases(rng: &mut Rng) -> [Case; 2] {
+/// A full book of each version, with jobs that wait for each other, and books A
+/// and G.
+fn cases(rng: &mut Rng) -> [Case; 4] {
     let case = |name, book| {
         let table = tables::planned_table(&book)?;
         Some(Case { name, book, table })
     };
     let full = (0..100).find_map(|_| case("full book", books::full_book(rng)));
+    let late = |_| case("full book with releases", books::late_full_book(rng));
+    let late = (0..100).find_map(late);
     let book_a = case("book A", read_book(&marked::BOOK_A).expect("book A"));
-    [full.expect("feasible"), book_a.expect("feasible")]
+    let book_g = case("book G", read_book(&marked::BOOK_G).expect("book G"));
+    [full, book_a, late, book_g].map(|case| case.expect("feasible"))
 }
 
 /// One drawn input for each of the numbers that it may be refused by.
 fn one_of_each(
-    numbers: RangeInclusive<u8>,
+    numbers: &[u8],
     mut draw: impl FnMut() -> Vec<u8>,
     mut number_of: impl FnMut(&[u8]) -> u8,
 ) -> Vec<Vec<u8>> {
-    let mut missing: Vec<u8> = numbers.collect();
+    let mut missing = numbers.to_vec();
     let mut inputs = Vec::new();
     for _ in 0..20_000 {
         let input = draw();
@@ -55,7 +58,7 @@ fn one_of_each(
     panic!("numbers {missing:?} were never met");
 }
 
-/// Damaged copies of the book, refused by 1 to 10.
+/// Damaged copies of the book, refused by 1 to 10 and in version 2 by 22.
 fn damaged_books(rng: &mut Rng, case: &Case) -> Vec<Vec<u8>> {
     let intact = encode_book(&case.book);
     let draw = || {
@@ -64,7 +67,7 @@ fn damaged_books(rng: &mut Rng, case: &Case) -> Vec<Vec<u8>> {
         bytes
     };
     let number_of = |bytes: &[u8]| read_book(bytes).map_or_else(|refusal| refusal.number, |_| 0);
-    one_of_each(1..=10, draw, number_of)
+    one_of_each(case.book.version.faults(), draw, number_of)
 }
 
 /// Damaged copies of the table, refused by 14 to 21.
@@ -73,7 +76,7 @@ fn damaged_tables(rng: &mut Rng, case: &Case) -> Vec<Vec<u8>> {
     let mut work = vec![0; WORK_BYTES];
     let draw = || tables::damaged(rng, &case.book, &case.table);
     let number_of = |table: &[u8]| second_check::check(&book, table, &mut work).number;
-    one_of_each(14..=21, draw, number_of)
+    one_of_each(&[14, 15, 16, 17, 18, 19, 20, 21], draw, number_of)
 }
 
 /// The book with a flow that is infeasible, the last in service order.
@@ -110,16 +113,29 @@ fn plan(book: &[u8], output: usize, work: usize) -> Seen {
     (expected.number, stack)
 }
 
-/// Prints what the calls on one book took and gives the most. Each number must
-/// have been answered once.
-fn most_of(call: &str, mut seen: Vec<Seen>, numbers: impl Iterator<Item = u8>) -> usize {
+/// Prints what the calls on one book took and gives the most. Each number by
+/// which the book can be refused must have been answered once, and so each of
+/// the others.
+fn most_of(
+    call: &str,
+    case: &Case,
+    mut seen: Vec<Seen>,
+    others: impl Iterator<Item = u8>,
+) -> usize {
+    let mut numbers: Vec<u8> = others.collect();
+    numbers.extend(case.book.version.faults());
+    numbers.sort_unstable();
     seen.sort_unstable();
     assert!(seen.iter().map(|&(number, _)| number).eq(numbers));
     let listed: Vec<String> = seen
         .iter()
         .map(|(n, stack)| format!("{n}: {stack}"))
         .collect();
-    println!("{call}, bytes of stack by number: {}", listed.join(", "));
+    let listed = listed.join(", ");
+    println!(
+        "{call} of {}, bytes of stack by number: {listed}",
+        case.name
+    );
     seen.iter().map(|&(_, stack)| stack).max().expect("calls")
 }
 
@@ -140,8 +156,8 @@ fn check_in_little_stack() {
         for damaged in damaged_tables(&mut rng, &case) {
             seen.push(check(&book, &damaged, WORK_BYTES));
         }
-        let call = format!("check of {}", case.name);
-        most = most.max(most_of(&call, seen, (0..=11).chain(14..=21)));
+        let others = [0, 11].into_iter().chain(14..=21);
+        most = most.max(most_of("check", &case, seen, others));
     }
     println!("check: at most {most} bytes of stack");
     assert!(most <= CHECK_STACK, "{most} is above {CHECK_STACK}");
@@ -163,8 +179,8 @@ fn planner_in_little_stack() {
         for damaged in damaged_books(&mut rng, &case) {
             seen.push(plan(&damaged, length, WORK_BYTES));
         }
-        let call = format!("plan of {}", case.name);
-        most = most.max(most_of(&call, seen, 0..=13));
+        let others = [0, 11, 12, 13].into_iter();
+        most = most.max(most_of("plan", &case, seen, others));
     }
     println!("plan: at most {most} bytes of stack");
     assert!(most <= PLAN_STACK, "{most} is above {PLAN_STACK}");

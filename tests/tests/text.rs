@@ -1,6 +1,6 @@
 //! The program's text against the literal planner: what `plan` prints for a
-//! book on its standard input, over plans, refusals, long tables, and inputs
-//! around the 65,536 bytes that the program lends.
+//! book on its standard input, over plans of both versions, refusals, long
+//! tables, and inputs around the 65,536 bytes that the program lends.
 
 use std::fmt::Write as _;
 use std::io::Write as _;
@@ -10,6 +10,7 @@ use std::process::{Command, Stdio};
 use flowplan_tests::answer::WORK_BYTES;
 use flowplan_tests::books::{self, encode_book};
 use flowplan_tests::marked;
+use flowplan_tests::reader::{Version, VERSIONS};
 use flowplan_tests::rng::Rng;
 use flowplan_tests::second_planner;
 
@@ -61,11 +62,20 @@ fn printed(input: &[u8]) -> String {
     String::from_utf8(output.stdout).unwrap()
 }
 
+/// Plan G as it is listed.
+#[test]
+fn program_prints_plan_g() {
+    assert_eq!(expected(&marked::BOOK_G), marked::TEXT_G);
+    assert_eq!(printed(&marked::BOOK_G), marked::TEXT_G);
+}
+
 #[test]
 fn program_prints_plans_and_refusals() {
     let mut rng = Rng::new(0x7E87);
     let mut inputs: Vec<Vec<u8>> = vec![
         marked::BOOK_A.to_vec(),
+        marked::BOOK_G.to_vec(),
+        marked::book_g(Version::Two, 6),
         marked::book_b(),
         marked::book_c(2),
         marked::book_c(4),
@@ -74,14 +84,17 @@ fn program_prints_plans_and_refusals() {
         marked::book_e(),
         Vec::new(),
     ];
-    for _ in 0..4 {
-        inputs.push(encode_book(&books::usual_book(&mut rng)));
-        inputs.push(encode_book(&books::crowded_book(&mut rng)));
-        inputs.push(encode_book(&books::full_book(&mut rng)));
-        inputs.push(encode_book(&books::infeasible_book(&mut rng)));
-        let mut damaged = encode_book(&books::usual_book(&mut rng));
-        books::damage_book(&mut rng, &mut damaged);
-        inputs.push(damaged);
+    for version in VERSIONS {
+        for _ in 0..4 {
+            let mut draw = |family| encode_book(&books::drawn(&mut rng, version, family));
+            inputs.push(draw(books::usual_book));
+            inputs.push(draw(books::crowded_book));
+            inputs.push(draw(books::full_book));
+            inputs.push(draw(books::infeasible_book));
+            let mut damaged = draw(books::usual_book);
+            books::damage_book(&mut rng, &mut damaged);
+            inputs.push(damaged);
+        }
     }
     // A plan that fills much of the lent table, and one that is longer than it.
     inputs.push(encode_book(&books::layered_book(16, 8, 64)));
@@ -104,5 +117,5 @@ fn program_prints_plans_and_refusals() {
         assert_eq!(printed(input), text, "input of {} bytes", input.len());
         plans += usize::from(text.starts_with("table"));
     }
-    assert!(plans >= 12, "only {plans} plans were printed");
+    assert!(plans >= 20, "only {plans} plans were printed");
 }

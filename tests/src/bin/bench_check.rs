@@ -28,14 +28,9 @@ fn waiting_book(flows: usize, layers: usize, width: usize, slots: u32) -> Book {
             precedence: before,
         }
     };
-    let flow = Flow {
-        deadline: slots * layers as u32,
-        jobs: (0..layers * width).map(job).collect(),
-    };
-    Book {
-        processors: (flows * width) as u32,
-        flows: vec![flow; flows],
-    }
+    let jobs = (0..layers * width).map(job).collect();
+    let flow = Flow::new(slots * layers as u32, jobs);
+    Book::new((flows * width) as u32, vec![flow; flows])
 }
 
 /// A drawn book of several flows, with jobs that wait for others, whose table
@@ -47,6 +42,16 @@ fn usual_book(rng: &mut Rng) -> Book {
         let waits = jobs.any(|job| job.precedence != 0);
         let rows = tables::planned_table(&book).map_or(0, |table| table.rows.len());
         if book.flows.len() > 3 && waits && (100..=500).contains(&rows) {
+            return book;
+        }
+    }
+}
+
+/// The first of these books that can be planned.
+fn planned_book(rng: &mut Rng, draw: fn(&mut Rng) -> Book) -> Book {
+    loop {
+        let book = draw(rng);
+        if tables::planned_table(&book).is_some() {
             return book;
         }
     }
@@ -115,6 +120,10 @@ fn main() {
         measure("  usual book", &usual_book(&mut rng), 31, 500);
     }
     println!("large tables:");
+    let full = planned_book(&mut rng, books::full_book);
+    measure("  full book, 64 flows of 64 jobs", &full, 31, 20);
+    let late = planned_book(&mut rng, books::late_full_book);
+    measure("  version 2, full book with late releases", &late, 31, 20);
     measure(
         "  free jobs, a million rows",
         &layered_book(64, 16, 1_024),

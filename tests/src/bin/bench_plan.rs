@@ -4,7 +4,9 @@
 //! Output and work area are not cleared between calls.
 
 use flowplan_tests::answer::WORK_BYTES;
-use flowplan_tests::books::{encode_book, full_book, largest_book, layered_book};
+use flowplan_tests::books::{
+    encode_book, full_book, largest_book, late_full_book, layered_book, Family,
+};
 use flowplan_tests::measure::in_turn;
 use flowplan_tests::reader::{Book, Flow, Job};
 use flowplan_tests::rng::Rng;
@@ -48,20 +50,15 @@ fn measure(outputs: &mut Outputs, name: &str, book: &Book, rounds: usize, calls:
 /// 20 flows of 10 jobs on 100 processors, as a shift has them.
 fn usual_book() -> Book {
     let mut rng = Rng::new(20);
-    let mut book = Book {
-        processors: 100,
-        flows: Vec::new(),
-    };
+    let mut book = Book::new(100, Vec::new());
     for number in 0..20 {
         let jobs = (0..10).map(|job| Job {
             size: rng.range(20, 400) as u32,
             cap: rng.range(2, 30) as u32,
             precedence: rng.draw() & rng.draw() & ((1 << job) - 1),
         });
-        book.flows.push(Flow {
-            deadline: 60 + 25 * number,
-            jobs: jobs.collect(),
-        });
+        let flow = Flow::new(60 + 25 * number, jobs.collect());
+        book.flows.push(flow);
     }
     book
 }
@@ -74,19 +71,21 @@ fn queue_book(slots: u32) -> Book {
         cap,
         precedence: 0,
     };
-    let mut flows = vec![Flow {
-        deadline: slots,
-        jobs: vec![job(slots * 100, 100)],
-    }];
-    for _ in 0..63 {
-        flows.push(Flow {
-            deadline: slots,
-            jobs: vec![job(1, 1)],
-        });
-    }
-    Book {
-        processors: 100,
-        flows,
+    let mut flows = vec![Flow::new(slots, vec![job(slots * 100, 100)])];
+    flows.resize(64, Flow::new(slots, vec![job(1, 1)]));
+    Book::new(100, flows)
+}
+
+/// The first book of a family that can be planned.
+fn planned(outputs: &mut Outputs, family: Family) -> Book {
+    let mut rng = Rng::new(64);
+    let mut work = vec![0; WORK_BYTES];
+    loop {
+        let book = family(&mut rng);
+        let answer = fast_planner::plan(&encode_book(&book), &mut outputs.0[1], &mut work);
+        if answer.number == 0 {
+            return book;
+        }
     }
 }
 
@@ -94,15 +93,8 @@ fn main() {
     println!("planner, proved beside fast; ratio above 1: the proved one takes longer");
     println!("medians of calls in turn; output and work area are not cleared between calls");
     let mut outputs = Outputs([vec![0; 201_326_728], vec![0; 201_326_728]]);
-    let mut rng = Rng::new(64);
-    let full = loop {
-        let book = full_book(&mut rng);
-        let mut work = vec![0; WORK_BYTES];
-        let answer = fast_planner::plan(&encode_book(&book), &mut outputs.0[1], &mut work);
-        if answer.number == 0 {
-            break book;
-        }
-    };
+    let full = planned(&mut outputs, full_book);
+    let late = planned(&mut outputs, late_full_book);
     measure(
         &mut outputs,
         "usual book, 20 flows of 10 jobs",
@@ -111,6 +103,13 @@ fn main() {
         200,
     );
     measure(&mut outputs, "full book, 64 flows of 64 jobs", &full, 15, 5);
+    measure(
+        &mut outputs,
+        "version 2, full book with late releases",
+        &late,
+        15,
+        5,
+    );
     measure(&mut outputs, "largest table", &largest_book(), 5, 1);
     println!("growth with rows, 64 flows of 64 jobs over more slots:");
     for slots in [64, 256, 1_024, 4_096] {
