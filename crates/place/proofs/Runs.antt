@@ -79,31 +79,32 @@ module _ {s : List ℕ} {c : Current} {names takes rows : List ℕ} (v : Serving
   some-work : 0 < work (currentFlow s c) (pseudoJob c)
   some-work = omega (arith, work-held v, mul-le-mul-right {m = 1} {n = c .width} (c .rate) (v .width-positive), v .rate-positive)
 
-  pub run-kept-first : {from limit at : ℕ} {out₀ area₀ : List ℕ} → from ≤ limit → RunKept s c from limit at out₀ area₀ out₀ area₀ 0 from at
-  run-kept-first {from} {limit} {at} {out₀} {area₀} l = record {
+  pub run-kept-first : {from limit at done : ℕ} {out₀ area₀ : List ℕ} → from ≤ limit → done ≡ 0 →
+      RunKept s c from limit at out₀ area₀ out₀ area₀ done from at
+  run-kept-first {from} {limit} {at} {done} {out₀} {area₀} l none = record {
     slot-from = omega arith;
     slot-to = l;
     done-to = omega arith;
     next-to = omega arith;
-    nothing-yet = λ e. refl;
+    nothing-yet = λ e. none;
     out-length = refl;
     area-length = refl;
-    so-far = λ x ps u. run-begins v x ps from out₀ area₀ at some-work u;
+    so-far = λ x ps u. rw none (run-begins v x ps from out₀ area₀ at some-work u);
   }
 
   module _ {from limit at done slot next : ℕ} {out₀ area₀ out area : List ℕ} (k : RunKept s c from limit at out₀ area₀ out area done slot next) where
-    pub run-kept-next : {out′ area′ : List ℕ} {r : Served} → limit ≤ slots → slot < limit → done < work (currentFlow s c) (pseudoJob c) →
-        SlotServed s c next done slot out area out′ area′ r → length out′ ≡ length out → length area′ ≡ length area →
-        RunKept s c from limit at out₀ area₀ out′ area′ (done + r .give) (slot + 1) (r .next)
-    run-kept-next {out′} {area′} {r} most inside left served same-out same-area = record {
+    pub run-kept-next : {out′ area′ : List ℕ} {r : Served} {done′ : ℕ} → limit ≤ slots → slot < limit → done < work (currentFlow s c) (pseudoJob c) →
+        SlotServed s c next done slot out area out′ area′ r → done′ ≡ done + r .give → length out′ ≡ length out → length area′ ≡ length area →
+        RunKept s c from limit at out₀ area₀ out′ area′ done′ (slot + 1) (r .next)
+    run-kept-next {out′} {area′} {r} {done′} most inside left served more same-out same-area = record {
       slot-from = omega (arith, k .slot-from);
       slot-to = omega arith;
-      done-to = served .give-within;
+      done-to = rw more (served .give-within);
       next-to = omega (arith, served .next-within, k .next-to, k .slot-from);
       nothing-yet = λ e. absurd (omega (arith, k .slot-from));
       out-length = same-out ∙ k .out-length;
       area-length = same-area ∙ k .area-length;
-      so-far = λ x ps u. run-goes-on v x ps slot done out area out′ area′ next r (omega arith) left (k .so-far x ps u) served;
+      so-far = λ x ps u. rw more (run-goes-on v x ps slot done out area out′ area′ next r (omega arith) left (k .so-far x ps u) served);
     }
 
     pub run-kept-stops : limit ≤ slot → done < work (currentFlow s c) (pseudoJob c) →

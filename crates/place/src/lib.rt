@@ -260,16 +260,27 @@ pub fn place_run(
     ensures { λ r. ⌜ RunAnswer (now (book .entry)) c from at limit (now (out .entry)) (now (area .entry)) (now (out .exit)) (now (area .exit)) r ⌝ }
 {
     let total = work_of(c.width, c.rate);
-    let mut done: u64 = 0;
+    let mut left = total;
     let mut slot = from;
     let mut next = at;
-    while done < total {
+    while 0 < left {
         if limit <= slot {
             return Placed::Infeasible;
         }
-        let served = serve_slot(book, names, takes, rows, out, area, next, c, done, slot);
+        let served = serve_slot(
+            book,
+            names,
+            takes,
+            rows,
+            out,
+            area,
+            next,
+            c,
+            total - left,
+            slot,
+        );
         next = served.next;
-        done = done + served.give as u64;
+        left = left - served.give as u64;
         slot = slot + 1;
     }
     Placed::To(slot, next)

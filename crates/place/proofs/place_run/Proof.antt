@@ -1,5 +1,6 @@
--- One pseudo-job, slot after slot. The invariant is `RunKept`; the measure is what is left of the slots before the limit. Assumes nothing.
-use Prim.Native.Nat.{_-_}
+-- One pseudo-job, slot after slot. The invariant is `RunKept` at the work done, which is `total` without what is left, and
+-- that no more than `total` is left; the measure is what is left of the slots before the limit. Assumes nothing.
+use Prim.Native.Nat.{_-_, _≤_}
 use borrow.Author.Needs.{needs}
 use native.Mathlib.Omega.{arith}
 use Rattle.place.proofs.Given.{work-held}
@@ -8,11 +9,11 @@ use Rattle.place.proofs.place_run.Statement.{statement}
 use Rattle.place.proofs.place_run.Tie as tie
 
 abbrev Inv-loop : tie.InvT-loop
-Inv-loop book names takes rows out₀ area₀ at c from limit total done₀ slot₀ next₀ out area done slot next =
-    RunKept book c from limit at out₀ area₀ out area done slot next
+Inv-loop book names takes rows out₀ area₀ at c from limit total left₀ slot₀ next₀ out area left slot next =
+    RunKept book c from limit at out₀ area₀ out area (total - left) slot next × (left ≤ total)
 
 abbrev μ-loop : tie.MeasureT-loop
-μ-loop book names takes rows out₀ area₀ at c from limit total done₀ slot₀ next₀ out area done slot next = limit - slot
+μ-loop book names takes rows out₀ area₀ at c from limit total left₀ slot₀ next₀ out area left slot next = limit - slot
 
 work-of-requires : tie.Need-work-of-requires Inv-loop μ-loop
 work-of-requires c κs = tt
@@ -20,35 +21,41 @@ work-of-requires c κs = tt
 loop-holds : tie.Need-loop-holds Inv-loop μ-loop
 loop-holds c =
     let v = c .before .before .before .before .before .before .before .pre in
-    run-kept-first (v .0) (v .2)
+    (run-kept-first (v .0) (v .2) (omega arith), omega arith)
 
 same-length : tie.Need-same-length Inv-loop μ-loop
-same-length c = c .before .before .loop .inv .out-length
+same-length c = c .before .before .loop .inv .0 .out-length
 
 same-length-2 : tie.Need-same-length-2 Inv-loop μ-loop
-same-length-2 c = c .before .before .loop .inv .area-length
+same-length-2 c = c .before .before .loop .inv .0 .area-length
 
 returns : tie.Need-returns Inv-loop μ-loop
 returns c =
     let v = c .before .before .before .before .before .before .before .before .before .before .pre in
     let l = c .before .before .loop in
-    run-kept-stops (v .0) (l .inv) (c .if1 .taken) (omega (arith, c .before .loop-test .taken, work-held (v .0)))
+    run-kept-stops (v .0) (l .inv .0) (c .if1 .taken)
+    (omega (arith, c .before .before .before .work-of .ensures, c .before .loop-test .taken, work-held (v .0)))
+
+sub-serve-slot : tie.Need-sub-serve-slot Inv-loop μ-loop
+sub-serve-slot c = omega arith
 
 serve-slot-requires : tie.Need-serve-slot-requires Inv-loop μ-loop
 serve-slot-requires c κs =
     let v = c .before .before .before .before .before .before .before .before .before .before .before .before .pre in
     let l = c .before .before .before .before .loop in
     let inside = c .before .before .if1 .left in
-    (v .0, omega (arith, v .1, l .inv .area-length), l .inv .done-to, omega (arith, inside), omega (arith, inside, l .inv .next-to, l .inv .slot-from))
+    let kept = l .inv .0 in
+    (v .0, omega (arith, v .1, kept .area-length), kept .done-to, omega (arith, inside), omega (arith, inside, kept .next-to, kept .slot-from))
 
-cast-done : tie.Need-cast-done Inv-loop μ-loop
-cast-done c = search needs
+cast-left : tie.Need-cast-left Inv-loop μ-loop
+cast-left c = search needs
 
-add-done : tie.Need-add-done Inv-loop μ-loop
-add-done c =
+sub-left : tie.Need-sub-left Inv-loop μ-loop
+sub-left c =
     let looped = c .before .before .before .before .before .before .before .before .before .before in
     let v = looped .before .before .before .before .before .before .before .before .pre in
-    omega (arith, looped .before .work-of .ensures, c .before .before .before .before .before .serve-slot .ensures .give-within, work-held (v .0))
+    let served = c .before .before .before .before .before .serve-slot .ensures in
+    omega (arith, looped .before .work-of .ensures, served .give-within, work-held (v .0))
 
 add-slot : tie.Need-add-slot Inv-loop μ-loop
 add-slot c =
@@ -64,21 +71,22 @@ loop-again c =
     let looped = inside .before .before in
     let v = looped .before .before .before .before .before .before .before .before .pre in
     let l = looped .loop in
-    run-kept-next (v .0) (l .inv) (v .3) (inside .if1 .left)
-    (omega (arith, looped .before .work-of .ensures, inside .before .loop-test .taken, work-held (v .0)))
-    (c .before .before .before .before .before .serve-slot .ensures) (omega arith) (omega arith)
+    let served = c .before .before .before .before .before .serve-slot .ensures in
+    let all = looped .before .work-of .ensures in
+    let more = run-kept-next (v .0) (l .inv .0) (v .3) (inside .if1 .left) (omega (arith, all, inside .before .loop-test .taken, work-held (v .0))) served in
+    (more (omega (arith, all, served .give-within, work-held (v .0))) (omega arith) (omega arith), omega arith)
 
 same-length-3 : tie.Need-same-length-3 Inv-loop μ-loop
-same-length-3 c = c .before .loop .inv .out-length
+same-length-3 c = c .before .loop .inv .0 .out-length
 
 same-length-4 : tie.Need-same-length-4 Inv-loop μ-loop
-same-length-4 c = c .before .loop .inv .area-length
+same-length-4 c = c .before .loop .inv .0 .area-length
 
 returns-2 : tie.Need-returns-2 Inv-loop μ-loop
 returns-2 c =
     let v = c .before .before .before .before .before .before .before .before .before .pre in
     let l = c .before .loop in
-    run-kept-done (v .0) (l .inv) (omega (arith, c .loop-test .left, work-held (v .0)))
+    run-kept-done (v .0) (l .inv .0) (omega (arith, c .before .before .work-of .ensures, c .loop-test .left, work-held (v .0)))
 
 pub place-run-spec : {M : Type 1} → statement M
 place-run-spec =
@@ -91,9 +99,10 @@ place-run-spec =
     same-length
     same-length-2
     returns
+    sub-serve-slot
     serve-slot-requires
-    cast-done
-    add-done
+    cast-left
+    sub-left
     add-slot
     loop-less
     loop-again
