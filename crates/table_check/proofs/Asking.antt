@@ -12,7 +12,7 @@ use Rattle.rules.specs.declared.Verdict.{Verdict}
 use Rattle.rules.specs.declared.Verdict.the-variants.{Refused}
 use Rattle.rules.specs.Book.{flowOf, jobOf}
 use Rattle.rules.specs.Reading.{bookOf}
-use Rattle.rules.specs.Check.{tableRows, lacksPredecessor, rowFault}
+use Rattle.rules.specs.Check.{tableRows, beforeRelease, lacksPredecessor, rowFault}
 use Rattle.rules.proofs.Division.{lt-or-ge}
 use Rattle.rules.proofs.Walks.{last-or}
 use Rattle.rules.proofs.Bits.{bit-of-left, left-next, no-bit-left, left-below}
@@ -30,6 +30,7 @@ pub record Asking (book table sizes caps : List ℕ) (c : Current) (from : ℕ) 
   pub going : Going book table sizes caps c from totals ready work bad least finish at (rowsTo (bookOf book) at)
   pub turn : Turn (bookOf book) table (c .flow) (rowsTo (bookOf book) at) (rowFrom r) t
   pub here : at < length table
+  pub released : beforeRelease (bookOf book) (rowFrom r) ≡ false
   pub all : ℕ
   pub all-are : all ≡ asked (getD totals (r .job) 0) (jobOf (flowOf (bookOf book) (c .flow)) (r .job) .predecessors)
   pub left : bits ≡ all / 2 ^ j
@@ -44,12 +45,14 @@ module _ {book table sizes caps : List ℕ} {c : Current} {from : ℕ} {totals r
     {bits : ℕ} where
   pub asking-first : Going book table sizes caps c from totals ready work bad least finish at (rowsTo (bookOf book) at) →
       Turn (bookOf book) table (c .flow) (rowsTo (bookOf book) at) (rowFrom r) t → at < length table →
+      beforeRelease (bookOf book) (rowFrom r) ≡ false →
       bits ≡ asked (getD totals (r .job) 0) (jobOf (flowOf (bookOf book) (c .flow)) (r .job) .predecessors) →
       Asking book table sizes caps c from totals ready work bad least finish at r t bits 0
-  asking-first going turn here bits-are = record {
+  asking-first going turn here released bits-are = record {
     going = going;
     turn = turn;
     here = here;
+    released = released;
     all = bits;
     all-are = bits-are;
     left = sym (div-one bits);
@@ -72,6 +75,7 @@ module _ {book table sizes caps : List ℕ} {c : Current} {from : ℕ} {totals r
         going = asking .going;
         turn = asking .turn;
         here = asking .here;
+        released = asking .released;
         all = asking .all;
         all-are = asking .all-are;
         left = left-next (asking .all) bits j (asking .left);
@@ -81,7 +85,7 @@ module _ {book table sizes caps : List ℕ} {c : Current} {from : ℕ} {totals r
       pub asking-stops : (bits ≡ 0 → ⊥) → lacking ≡ true →
           rowFault (bookOf book) (tableRows (bookOf book) table) (rowsTo (bookOf book) at) ≡ Refused 19 (r .flow) (r .job)
       asking-stops some lacks =
-          lacks-stops (asking .going) (asking .turn) (asking .all) (asking .all-are) j (below-job some) (sym here ∙ lacks)
+          lacks-stops (asking .going) (asking .turn) (asking .all) (asking .all-are) (asking .released) j (below-job some) (sym here ∙ lacks)
 
     pub asking-ends : bits ≡ 0 → lacksPredecessor (bookOf book) (take (rowsTo (bookOf book) at) (tableRows (bookOf book) table)) (rowFrom r) ≡ false
     asking-ends none =

@@ -1,5 +1,5 @@
--- A row that has passed 15 to 18 and 19 by the release: 19 by the bits of its predecessors, room to count it, and that the next turn begins with
--- the row counted. Assumes nothing.
+-- A row that has passed 15 to 18: 19 by its release and by the bits of its predecessors, room to count it, and that the next turn begins with the
+-- row counted. Assumes nothing.
 use mathlib.Core.Path.{_≡_, refl, sym, ap, _∙_}
 use Prim.Native.Nat.{ℕ, suc, _+_, _*_, _^_, _≤_, _<_}
 use mathlib.Core.Bool.{Bool, true, false, false≢true}
@@ -20,7 +20,7 @@ use Rattle.rules.specs.Book.{Book, jobCount, flowOf, jobOf, hasBit}
 use Rattle.rules.specs.Reading.{bookOf}
 use Rattle.rules.specs.Rows as rules
 use Rattle.rules.specs.Rows.{usedIn, finishOf, workUsed, workZero}
-use Rattle.rules.specs.Check.{noRow, tableRows, lacksPredecessor, rowFault}
+use Rattle.rules.specs.Check.{noRow, tableRows, beforeRelease, lacksPredecessor, rowFault}
 use Rattle.rules.proofs.Division.{lt-or-ge}
 use Rattle.rules.proofs.Faults.{fault-next}
 use Rattle.rules.proofs.Walks.{any-true, any-false}
@@ -29,15 +29,15 @@ use Rattle.rules.proofs.WorkArea.{used-row, used-rest, used-cleared}
 use Rattle.table_check.specs.declared.row.Row.{Row}
 use Rattle.table_check.specs.declared.row.Current.{Current}
 use Rattle.table_check.specs.declared.row.Tested.{Tested}
-use Rattle.table_check.specs.Tests.{rowFrom, serviceKey, placeOf, places, rowKey, leastKey, lacksAt, asked}
+use Rattle.table_check.specs.Tests.{rowFrom, serviceKey, placeOf, places, rowKey, leastKey, lacksAt, askedEarly, asked}
 use Rattle.table_check.specs.Tally.{Countable, RowCounted, rowsTo, Reached, FlowTally}
 use Rattle.table_check.proofs.TableRows.{rows-to}
 use Rattle.table_check.proofs.Keys.{place-below}
 use Rattle.table_check.proofs.SoFar.{finish-here, finish-there}
 use Rattle.table_check.proofs.Tallies.{tally-next, total-others}
-use Rattle.table_check.proofs.Started.{started-lacks-none}
+use Rattle.table_check.proofs.Started.{started}
 use Rattle.table_check.proofs.Turns.{Going, Lent, Turn, range, known}
-use Rattle.table_check.proofs.RowFaults.{in-book-of, lacks-fault, row-passes, lacks-by-ready}
+use Rattle.table_check.proofs.RowFaults.{in-book-of, release-fault, lacks-fault, row-passes, lacks-by-ready}
 
 -- the use of each slot does not depend on what the area was
 used-self : (n : ℕ) (rows : List rules.Row) (area s : List ℕ) → s ≡ workUsed n rows area → s ≡ workUsed n rows s
@@ -92,6 +92,31 @@ module _ {book table sizes caps : List ℕ} {c : Current} {from : ℕ} {totals r
     predecessors-few : jobOf (flowOf (bookOf book) (c .flow)) (r .job) .predecessors < 2 ^ r .job
     predecessors-few = range going .each-flow (c .flow) (going .current .stands .flow-in) .each-job (r .job) job-in .predecessors-below
 
+    -- once the job has a total, nothing is left of 19
+    settled : 0 < getD totals (r .job) 0 →
+        (beforeRelease (bookOf book) (rowFrom r) ≡ false) × (lacksPredecessor (bookOf book) (take k (tableRows (bookOf book) table)) (rowFrom r) ≡ false)
+    settled some =
+        started b rows k (going .reached .within) (going .reached .passed) (rowFrom r) (rw (turn .own) latest)
+        (rw (turn .own) (omega (arith, some, going .tally .total (r .job) job-few)))
+
+    -- the release, as it is asked
+    module _ {early : Bool} (early-is : early ≡ askedEarly (getD totals (r .job) 0) (flowOf (bookOf book) (c .flow) .release) (r .slot)) where
+      pub early-stops : early ≡ true → rowFault (bookOf book) (tableRows (bookOf book) table) k ≡ Refused 19 (r .flow) (r .job)
+      unfolding askedEarly beforeRelease
+      early-stops e = go (ltb 0 (getD totals (r .job) 0)) refl
+        where
+          go : (u : Bool) → ltb 0 (getD totals (r .job) 0) ≡ u → rowFault (bookOf book) (tableRows (bookOf book) table) k ≡ Refused 19 (r .flow) (r .job)
+          go true d = absurd (false≢true (sym (early-is ∙ rw d refl) ∙ e))
+          go false d = release-fault b rows k (rowFrom r) (turn .row-is) (turn .early) (turn .late) (rw (turn .own) (sym (early-is ∙ rw d refl) ∙ e))
+
+      pub not-early : early ≡ false → beforeRelease (bookOf book) (rowFrom r) ≡ false
+      unfolding askedEarly beforeRelease
+      not-early e = go (ltb 0 (getD totals (r .job) 0)) refl
+        where
+          go : (u : Bool) → ltb 0 (getD totals (r .job) 0) ≡ u → beforeRelease (bookOf book) (rowFrom r) ≡ false
+          go true d = settled (ltb-true 0 (getD totals (r .job) 0) d) .0
+          go false d = rw (turn .own) (sym (early-is ∙ rw d refl) ∙ e)
+
     -- the bits that are asked: those of the predecessors, or none where the job has a total
     module _ (bits : ℕ) (bits-are : bits ≡ asked (getD totals (r .job) 0) (jobOf (flowOf (bookOf book) (c .flow)) (r .job) .predecessors)) where
       first-or-none : ((bits ≡ 0) × (0 < getD totals (r .job) 0)) ⊎ (bits ≡ jobOf (flowOf (bookOf book) (c .flow)) (r .job) .predecessors)
@@ -111,15 +136,15 @@ module _ {book table sizes caps : List ℕ} {c : Current} {from : ℕ} {totals r
           go (inr all) = omega (arith, all, predecessors-few)
 
       -- a bit that is lacking
-      pub lacks-stops : (m : ℕ) → m < r .job → lacksAt bits m (r .slot) (getD ready m 0) ≡ true →
+      pub lacks-stops : beforeRelease (bookOf book) (rowFrom r) ≡ false → (m : ℕ) → m < r .job → lacksAt bits m (r .slot) (getD ready m 0) ≡ true →
           rowFault (bookOf book) (tableRows (bookOf book) table) k ≡ Refused 19 (r .flow) (r .job)
-      lacks-stops m h e = go first-or-none
+      lacks-stops released m h e = go first-or-none
         where
           go : ((bits ≡ 0) × (0 < getD totals (r .job) 0)) ⊎ (bits ≡ jobOf (flowOf (bookOf book) (c .flow)) (r .job) .predecessors) →
               rowFault (bookOf book) (tableRows (bookOf book) table) k ≡ Refused 19 (r .flow) (r .job)
           go (inl none) = absurd (false≢true (sym (unset-lacks bits m (r .slot) (getD ready m 0) (no-bit bits (none .0) m)) ∙ e))
           go (inr all) =
-              lacks-fault b rows k (rowFrom r) (turn .row-is) (turn .early) (turn .late)
+              lacks-fault b rows k (rowFrom r) (turn .row-is) (turn .early) (turn .late) released
               (tests ∙ any-true (λ m. lacksAt predecessors m (r .slot) (getD ready m 0)) (r .job) m h (ap (λ (p : ℕ). lacksAt p m (r .slot) (getD ready m 0)) (sym all) ∙ e))
 
       -- none is lacking: at the job's first row all were asked, and later none lacks since its first row was asked
@@ -129,9 +154,7 @@ module _ {book table sizes caps : List ℕ} {c : Current} {from : ℕ} {totals r
         where
           go : ((bits ≡ 0) × (0 < getD totals (r .job) 0)) ⊎ (bits ≡ jobOf (flowOf (bookOf book) (c .flow)) (r .job) .predecessors) →
               lacksPredecessor (bookOf book) (take k (tableRows (bookOf book) table)) (rowFrom r) ≡ false
-          go (inl some) =
-              started-lacks-none b rows k (going .reached .within) (going .reached .passed) (rowFrom r) (rw (turn .own) latest)
-              (rw (turn .own) (omega (arith, some .1, going .tally .total (r .job) job-few)))
+          go (inl some) = settled (some .1) .1
           go (inr all) =
               tests ∙ any-false (λ m. lacksAt predecessors m (r .slot) (getD ready m 0)) (r .job) (λ m h. ap (λ (p : ℕ). lacksAt p m (r .slot) (getD ready m 0)) (sym all) ∙ none m h)
 
@@ -155,7 +178,8 @@ module _ {book table sizes caps : List ℕ} {c : Current} {from : ℕ} {totals r
     }
 
     -- the row passes, and it is counted
-    module _ (none : lacksPredecessor (bookOf book) (take k (tableRows (bookOf book) table)) (rowFrom r) ≡ false)
+    module _ (released : beforeRelease (bookOf book) (rowFrom r) ≡ false)
+        (none : lacksPredecessor (bookOf book) (take k (tableRows (bookOf book) table)) (rowFrom r) ≡ false)
         {totals′ ready′ work′ : List ℕ} (counted : RowCounted t (rowFrom r) totals ready work totals′ ready′ work′) where
       abbrev soFar : List rules.Row
       soFar = take k (tableRows (bookOf book) table)
@@ -181,7 +205,7 @@ module _ {book table sizes caps : List ℕ} {c : Current} {from : ℕ} {totals r
       reached-next = record {
         at-is = omega (arith, going .reached .at-is);
         within = turn .more;
-        passed = fault-next (rowFault b rows) k (going .reached .passed) (row-passes b rows k (rowFrom r) (turn .row-is) (turn .early) (turn .late) none);
+        passed = fault-next (rowFault b rows) k (going .reached .passed) (row-passes b rows k (rowFrom r) (turn .row-is) (turn .early) (turn .late) released none);
         use-of = rw one (used-self slots (soFar ++ rowFrom r ∷ []) work work′ work-right);
       }
 

@@ -1,4 +1,4 @@
--- A row's verdict, test by test: what the tests in the walk say of it. The tests of 15 and 16, of 17, 18 and 19 by the release, and of 19 by the
+-- A row's verdict, test by test: what the tests in the walk say of it. The tests of 15 and 16, of 17 and 18, of 19 by the release and of 19 by the
 -- predecessors stand one after the other, each group counting where those before it pass. Assumes nothing.
 use mathlib.Core.Path.{_≡_, refl, sym, ap, _∙_, subst}
 use Prim.Native.Nat.{ℕ, _+_, _≤_, _<_}
@@ -93,11 +93,10 @@ pub record EarlyPassed (b : Book) (rows : List Row) (k : ℕ) (r : Row) : Type 0
   pub rising : rises b rows k ≡ true
   pub after-least : leastKey b rows k ≤ rowKey b r
 
--- what 17, 18 and 19 by the release leave of it
+-- what 17 and 18 leave of it
 pub record LatePassed (b : Book) (soFar : List Row) (r : Row) : Type 0 where
   pub cap-kept : overCap b r ≡ false
   pub room-kept : overUse b soFar r ≡ false
-  pub released : beforeRelease b r ≡ false
 
 module _ (b : Book) (rows : List Row) (k : ℕ) (r : Row) (at-k : getD rows k noRow ≡ r) where
   by-tests : rowFault b rows k ≡ verdictAt b rows k r
@@ -161,40 +160,40 @@ module _ (b : Book) (rows : List Row) (k : ℕ) (r : Row) (at-k : getD rows k no
               after-least = leb-true (leastKey b rows k) (rowKey b r) (order (key-fits b r range e) ∙ at-least);
             }
 
-  -- 17, 18, and 19 by the release
-  module _ (early : EarlyPassed b rows k r) (used cap release n : ℕ) (used-is : used ≡ usedIn (take k rows) (r .slot))
-      (cap-is : cap ≡ jobOf (flowOf b (r .flow)) (r .job) .cap) (release-is : release ≡ flowOf b (r .flow) .release)
-      (n-is : n ≡ lateNumber cap used (b .processors) release r) where
-    n-by-late : n ≡ (if overCap b r then 17 else if overUse b (take k rows) r then 18 else if beforeRelease b r then 19 else 0)
-    unfolding lateNumber beforeRelease
-    n-by-late = n-is ∙ rw (used-is, cap-is, release-is) refl
+  -- 17 and 18
+  module _ (early : EarlyPassed b rows k r) (used cap n : ℕ) (used-is : used ≡ usedIn (take k rows) (r .slot))
+      (cap-is : cap ≡ jobOf (flowOf b (r .flow)) (r .job) .cap) (n-is : n ≡ lateNumber cap used (b .processors) r) where
+    n-by-late : n ≡ (if overCap b r then 17 else if overUse b (take k rows) r then 18 else 0)
+    unfolding lateNumber
+    n-by-late = n-is ∙ rw (used-is, cap-is) refl
 
     pub late-fault : (n ≡ 0 → ⊥) → rowFault b rows k ≡ Refused n (r .flow) (r .job)
-    late-fault h = go (overCap b r) refl (overUse b (take k rows) r) refl (beforeRelease b r) refl
+    late-fault h = go (overCap b r) refl (overUse b (take k rows) r) refl
       where
-        go : (t : Bool) → overCap b r ≡ t → (u : Bool) → overUse b (take k rows) r ≡ u → (v : Bool) → beforeRelease b r ≡ v →
-            rowFault b rows k ≡ Refused n (r .flow) (r .job)
-        go true e u d v p = tests ∙ rw (early .inside, early .rising, e, n-by-late, e) refl
-        go false e true d v p = tests ∙ rw (early .inside, early .rising, e, d, n-by-late, e, d) refl
-        go false e false d true p = tests ∙ rw (early .inside, early .rising, e, d, p, n-by-late, e, d, p) refl
-        go false e false d false p = absurd (h (n-by-late ∙ rw (e, d, p) refl))
+        go : (t : Bool) → overCap b r ≡ t → (u : Bool) → overUse b (take k rows) r ≡ u → rowFault b rows k ≡ Refused n (r .flow) (r .job)
+        go true e u d = tests ∙ rw (early .inside, early .rising, e, n-by-late, e) refl
+        go false e true d = tests ∙ rw (early .inside, early .rising, e, d, n-by-late, e, d) refl
+        go false e false d = absurd (h (n-by-late ∙ rw (e, d) refl))
 
     pub late-passed : n ≡ 0 → LatePassed b (take k rows) r
-    late-passed h = go (overCap b r) refl (overUse b (take k rows) r) refl (beforeRelease b r) refl
+    late-passed h = go (overCap b r) refl (overUse b (take k rows) r) refl
       where
-        go : (t : Bool) → overCap b r ≡ t → (u : Bool) → overUse b (take k rows) r ≡ u → (v : Bool) → beforeRelease b r ≡ v → LatePassed b (take k rows) r
-        go true e u d v p = absurd (let z : n ≡ 17 = n-by-late ∙ rw e refl in omega arith)
-        go false e true d v p = absurd (let z : n ≡ 18 = n-by-late ∙ rw (e, d) refl in omega arith)
-        go false e false d true p = absurd (let z : n ≡ 19 = n-by-late ∙ rw (e, d, p) refl in omega arith)
-        go false e false d false p = record { cap-kept = e; room-kept = d; released = p }
+        go : (t : Bool) → overCap b r ≡ t → (u : Bool) → overUse b (take k rows) r ≡ u → LatePassed b (take k rows) r
+        go true e u d = absurd (let z : n ≡ 17 = n-by-late ∙ rw e refl in omega arith)
+        go false e true d = absurd (let z : n ≡ 18 = n-by-late ∙ rw (e, d) refl in omega arith)
+        go false e false d = record { cap-kept = e; room-kept = d }
 
-  -- 19 by the predecessors
+  -- 19 by the release, then by the predecessors
   module _ (early : EarlyPassed b rows k r) (late : LatePassed b (take k rows) r) where
-    pub lacks-fault : lacksPredecessor b (take k rows) r ≡ true → rowFault b rows k ≡ Refused 19 (r .flow) (r .job)
-    lacks-fault e = tests ∙ rw (early .inside, early .rising, late .cap-kept, late .room-kept, late .released, e) refl
+    pub release-fault : beforeRelease b r ≡ true → rowFault b rows k ≡ Refused 19 (r .flow) (r .job)
+    release-fault e = tests ∙ rw (early .inside, early .rising, late .cap-kept, late .room-kept, e) refl
 
-    pub row-passes : lacksPredecessor b (take k rows) r ≡ false → rowFault b rows k ≡ Pass
-    row-passes e = tests ∙ rw (early .inside, early .rising, late .cap-kept, late .room-kept, late .released, e) refl
+    module _ (released : beforeRelease b r ≡ false) where
+      pub lacks-fault : lacksPredecessor b (take k rows) r ≡ true → rowFault b rows k ≡ Refused 19 (r .flow) (r .job)
+      lacks-fault e = tests ∙ rw (early .inside, early .rising, late .cap-kept, late .room-kept, released, e) refl
+
+      pub row-passes : lacksPredecessor b (take k rows) r ≡ false → rowFault b rows k ≡ Pass
+      row-passes e = tests ∙ rw (early .inside, early .rising, late .cap-kept, late .room-kept, released, e) refl
 
 -- 19 as the walk tests it: by the slots from which jobs are complete
 pub lacks-by-ready : (b : Book) (f : ℕ) (soFar : List Row) (totals ready : List ℕ) (r : Row) → FlowTally b f soFar totals ready → r .flow ≡ f →

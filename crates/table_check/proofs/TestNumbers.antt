@@ -1,19 +1,18 @@
--- Laws of the tests of a row as numbers: the first that is not 0 counts. Assumes nothing.
+-- Laws of the tests of a row as numbers: the first that is not 0 counts; and of what 19 asks. Assumes nothing.
 use mathlib.Core.Path.{_≡_, refl, sym, _∙_}
-use Prim.Native.Nat.{ℕ, _*_, _<_}
+use Prim.Native.Nat.{ℕ, _*_, _≤_, _<_}
 use mathlib.Core.Bool.{Bool, true, false}
 use mathlib.Core.List.{List}
 use native.Mathlib.Omega.{arith}
 use lib.ListN.{getD}
-use lib.Dec.{leb, eqb}
-use borrow.Author.Tests.{eq-eqb, ne-eqb, eqb-true, eqb-false, leb-false}
+use lib.Dec.{ltb, leb, eqb}
+use borrow.Author.Tests.{lt-ltb, le-ltb, eq-eqb, ne-eqb, eqb-true, eqb-false, leb-false}
 use Rattle.rules.specs.Limits.{slots}
 use Rattle.rules.specs.Fields.{field}
-use Rattle.rules.specs.Book.{Book, jobCount, flowOf}
+use Rattle.rules.specs.Book.{Book, jobCount, flowOf, jobOf}
 use Rattle.rules.specs.Rows.{Row}
-use Rattle.book.specs.Records.{firstNumber}
-use Rattle.table_check.specs.Tests.{placeOf, earlyNumber, lateNumber, testNumber}
-use Rattle.table_check.specs.Tally.{JobsHeld, RowTested}
+use Rattle.table_check.specs.Tests.{placeOf, earlyNumber, lateNumber, firstNumber, testNumber, askedEarly, asked}
+use Rattle.table_check.specs.Tally.{JobsHeld, RowTested, AskedAt}
 
 pub first-stands : (m n : ℕ) → (m ≡ 0 → ⊥) → firstNumber m n ≡ m
 unfolding firstNumber
@@ -61,18 +60,30 @@ module _ (b : Book) (f least jobs key early : ℕ) (r : Row) (jobs-are : jobs �
     pub tested-inside : (r .slot < slots) × (r .job < jobCount (flowOf b f))
     tested-inside = early-inside (jobCount (flowOf b f)) least (placeOf r) r (sym early-right ∙ none)
 
-    -- 17, 18, and 19 by the release
-    pub tested-late : (work sizes caps : List ℕ) (used late processors release i at : ℕ) → JobsHeld b f jobs sizes caps → processors ≡ b .processors →
-        release ≡ flowOf b f .release → i ≡ r .job → at ≡ r .slot → used ≡ field 2 work (2 * at) →
-        late ≡ lateNumber (getD caps i 0) used processors release r →
+    -- 17 and 18
+    pub tested-late : (work sizes caps : List ℕ) (used late processors i at : ℕ) → JobsHeld b f jobs sizes caps → processors ≡ b .processors → i ≡ r .job →
+        at ≡ r .slot → used ≡ field 2 work (2 * at) → late ≡ lateNumber (getD caps i 0) used processors r →
         RowTested b f work least r (record { number = late; used = used; size = getD sizes i 0 })
     unfolding testNumber
-    tested-late work sizes caps used late processors release i at held p-is release-is i-is at-is used-is late-is =
+    tested-late work sizes caps used late processors i at held p-is i-is at-is used-is late-is =
         let used-right : used ≡ field 2 work (2 * r .slot) = rw at-is at used-is in
         let inside : r .job < jobs = rw jobs-are (tested-inside .1) in
         record {
-          number = late-is ∙ rw (i-is, held .cap-of (r .job) inside, p-is, release-is, used-right)
+          number = late-is ∙ rw (i-is, held .cap-of (r .job) inside, p-is, used-right)
               (sym (first-passes (earlyNumber (jobCount (flowOf b f)) least (placeOf r) r) _ (sym early-right ∙ none)));
           used = λ e. used-right;
           size = λ e. rw i-is (held .size-of (r .job) inside);
         }
+
+-- ---- what 19 asks at a row of flow f: nothing once its job has a total, else all
+pub asked-nothing : (b : Book) (f total : ℕ) (r : Row) → 0 < total → AskedAt b f total r (record { early = false; bits = 0 })
+unfolding askedEarly asked
+asked-nothing b f total r some = record { early = rw (lt-ltb 0 total some) refl; bits = rw (lt-ltb 0 total some) refl }
+
+pub asked-whole : (b : Book) (f total : ℕ) (r : Row) (release bits : ℕ) → total ≤ 0 → release ≡ flowOf b f .release →
+    bits ≡ jobOf (flowOf b f) (r .job) .predecessors → AskedAt b f total r (record { early = ltb (r .slot) release; bits = bits })
+unfolding askedEarly asked
+asked-whole b f total r release bits none release-is bits-are = record {
+  early = rw (le-ltb 0 total none, release-is) refl;
+  bits = rw (le-ltb 0 total none) bits-are;
+}

@@ -1,5 +1,5 @@
--- One turn of the walk over a flow's rows: what holds as it begins, that it holds at the flow's first row, and what the tests 15 to 18 and 19 by
--- the release leave of the row that is read. Assumes nothing.
+-- One turn of the walk over a flow's rows: what holds as it begins, that it holds at the flow's first row, and what the tests 15 to 18 leave of the
+-- row that is read. Assumes nothing.
 use mathlib.Core.Path.{_≡_, refl, sym, _∙_}
 use Prim.Native.Nat.{ℕ, _+_, _*_, _≤_, _<_}
 use mathlib.Core.Bool.{Bool, true, false}
@@ -66,7 +66,7 @@ pub record Lent (totals₀ ready₀ work₀ totals ready work : List ℕ) : Type
 pub lent-first : (totals ready work : List ℕ) → Lent totals ready work totals ready work
 lent-first totals ready work = record { totals-kept = refl; ready-kept = refl; work-kept = refl; cleared = refl }
 
--- what is known of row k, which is r, once 15 to 18 and 19 by the release have passed
+-- what is known of row k, which is r, once 15 to 18 have passed
 pub record Turn (b : Book) (table : List ℕ) (f k : ℕ) (r : rules.Row) (t : Tested) : Type 0 where
   pub more : k < length (tableRows b table)
   pub row-is : getD (tableRows b table) k noRow ≡ r
@@ -139,8 +139,7 @@ module _ {book table sizes caps : List ℕ} {c : Current} {from : ℕ} {totals r
       first = earlyNumber (jobCount (flowOf (bookOf book) (c .flow))) least (placeOf (rowFrom r)) (rowFrom r)
 
       abbrev second : ℕ
-      second = lateNumber (jobOf (flowOf (bookOf book) (c .flow)) (r .job) .cap) (field 2 work (2 * r .slot)) (bookOf book .processors)
-          (flowOf (bookOf book) (c .flow) .release) (rowFrom r)
+      second = lateNumber (jobOf (flowOf (bookOf book) (c .flow)) (r .job) .cap) (field 2 work (2 * r .slot)) (bookOf book .processors) (rowFrom r)
 
       first-right : earlyNumber (jobCount (flowOf (bookOf book) (c .flow))) least (placeOf (rowFrom r)) (rowFrom r)
           ≡ earlyNumber (jobCount (flowOf (bookOf book) (r .flow))) least (placeOf (rowFrom r)) (rowFrom r)
@@ -162,9 +161,6 @@ module _ {book table sizes caps : List ℕ} {c : Current} {from : ℕ} {totals r
         cap-right : jobOf (flowOf (bookOf book) (c .flow)) (r .job) .cap ≡ jobOf (flowOf (bookOf book) (r .flow)) (r .job) .cap
         cap-right = rw own refl
 
-        release-right : flowOf (bookOf book) (c .flow) .release ≡ flowOf (bookOf book) (r .flow) .release
-        release-right = rw own refl
-
       pub test-stops : (t .number ≡ 0 → ⊥) → rowFault (bookOf book) (tableRows (bookOf book) table) k ≡ Refused (t .number) (r .flow) (r .job)
       unfolding testNumber
       test-stops n = go (eqb first 0) refl
@@ -173,7 +169,7 @@ module _ {book table sizes caps : List ℕ} {c : Current} {from : ℕ} {totals r
           go true e =
               let none : first ≡ 0 = eqb-true first 0 e in
               late-fault b rows k (rowFrom r) row-here (early-row none) (field 2 work (2 * r .slot)) (jobOf (flowOf (bookOf book) (c .flow)) (r .job) .cap)
-              (flowOf (bookOf book) (c .flow) .release) (t .number) (used-right none) (cap-right none) (release-right none) (number-is ∙ first-passes first second none) n
+              (t .number) (used-right none) (cap-right none) (number-is ∙ first-passes first second none) n
           go false e =
               early-fault b rows k (rowFrom r) row-here range (going .reached .passed) least (placeOf (rowFrom r)) (t .number) by-place flow-in
               (number-is ∙ first-stands first second (eqb-false first 0 e) ∙ first-right) n
@@ -188,8 +184,7 @@ module _ {book table sizes caps : List ℕ} {c : Current} {from : ℕ} {totals r
             own = own;
             early = early-row (both .0);
             late = late-passed b rows k (rowFrom r) row-here (early-row (both .0)) (field 2 work (2 * r .slot))
-                (jobOf (flowOf (bookOf book) (c .flow)) (r .job) .cap) (flowOf (bookOf book) (c .flow) .release) second (used-right (both .0))
-                (cap-right (both .0)) (release-right (both .0)) refl (both .1);
+                (jobOf (flowOf (bookOf book) (c .flow)) (r .job) .cap) second (used-right (both .0)) (cap-right (both .0)) refl (both .1);
             used-is = tested .used e ∙ used-right (both .0);
             size-is = tested .size e;
           }

@@ -19,7 +19,8 @@ use Rattle.rules.specs.Check.{tableRows, rowFault}
 use Rattle.book.specs.Promise.{FlowStands}
 use Rattle.table_check.specs.declared.row.Current.{Current}
 use Rattle.table_check.specs.declared.row.Tested.{Tested}
-use Rattle.table_check.specs.Tests.{testNumber, readyAfter}
+use Rattle.table_check.specs.declared.row.Asks.{Asks}
+use Rattle.table_check.specs.Tests.{testNumber, askedEarly, asked, readyAfter}
 
 -- what the code holds of the flow whose rows are walked
 pub record CurrentFlow (book : List ℕ) (c : Current) : Type 0 where
@@ -36,11 +37,16 @@ pub record JobsHeld (b : Book) (f n : ℕ) (sizes caps : List ℕ) : Type 0 wher
   pub cap-of : (i : ℕ) → i < n → getD caps i 0 ≡ jobOf (flowOf b f) i .cap
 
 -- ---- one row
--- 15 to 18, and 19 by the release, of a row of flow f, and what counting it needs
+-- 15 to 18 of a row of flow f, and what counting it needs
 pub record RowTested (b : Book) (f : ℕ) (work : List ℕ) (least : ℕ) (r : rules.Row) (t : Tested) : Type 0 where
   pub number : t .number ≡ testNumber b f (field 2 work (2 * r .slot)) least r
   pub used : t .number ≡ 0 → t .used ≡ field 2 work (2 * r .slot)
   pub size : t .number ≡ 0 → t .size ≡ jobOf (flowOf b f) (r .job) .size
+
+-- what 19 asks at a row of flow f whose job has this total so far
+pub record AskedAt (b : Book) (f total : ℕ) (r : rules.Row) (a : Asks) : Type 0 where
+  pub early : a .early ≡ askedEarly total (flowOf b f .release) (r .slot)
+  pub bits : a .bits ≡ asked total (jobOf (flowOf b f) (r .job) .predecessors)
 
 -- there is room to count the row
 pub record Countable (totals ready work : List ℕ) (t : Tested) (r : rules.Row) : Type 0 where

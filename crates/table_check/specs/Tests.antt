@@ -1,7 +1,7 @@
--- What the code tests of a row, in the numbers that it holds: where the row stands in the order, the tests 15 to 18 and 19 by the release by
--- their number, and 19 by the slot from which a predecessor is complete. Assumes nothing.
+-- What the code tests of a row, in the numbers that it holds: where the row stands in the order, the tests 15 to 18 by their number, and 19 by
+-- the release and by the slot from which a predecessor is complete. Assumes nothing.
 use Prim.Native.Nat.{ℕ, zero, suc, _+_, _*_, _-_, _%_}
-use mathlib.Core.Bool.{Bool, not, _&&_, _||_}
+use mathlib.Core.Bool.{Bool, false, not, _&&_, _||_}
 use mathlib.Core.List.{List}
 use lib.ListN.{length, getD}
 use lib.Dec.{ltb, leb, eqb}
@@ -14,7 +14,6 @@ use Rattle.rules.specs.Limits.{slots}
 use Rattle.rules.specs.Book.{Book, jobCount, flowOf, jobOf, hasBit}
 use Rattle.rules.specs.Rows as rules
 use Rattle.rules.specs.Check.{noRow}
-use Rattle.book.specs.Records.{firstNumber}
 use Rattle.table_check.specs.declared.row.Row.{Row}
 
 -- a row of the code as the specification's row
@@ -61,24 +60,31 @@ earlyNumber jobs least key r =
     if leb slots (r .slot) || leb jobs (r .job) || eqb (r .processors) 0 then 15
     else if ltb key least then 16 else 0
 
--- 17 and 18, by the job's cap, the processors in use in the slot, and P; then 19 by the flow's release (02, Req 01)
-unfoldable pub lateNumber : ℕ → ℕ → ℕ → ℕ → rules.Row → ℕ
-lateNumber cap used processors release r =
+-- 17 and 18, by the job's cap, the processors in use in the slot, and P
+unfoldable pub lateNumber : ℕ → ℕ → ℕ → rules.Row → ℕ
+lateNumber cap used processors r =
     if ltb cap (r .processors) then 17
-    else if ltb processors (used + r .processors) then 18
-    else if ltb (r .slot) release then 19 else 0
+    else if ltb processors (used + r .processors) then 18 else 0
 
--- 15 to 18, and 19 by the release, of a row of flow f, by the least place that it may have and the processors in use in its slot
+-- the first number that is not 0
+unfoldable pub firstNumber : ℕ → ℕ → ℕ
+firstNumber m n = if eqb m 0 then n else m
+
+-- 15 to 18 of a row of flow f, by the least place that it may have and the processors in use in its slot
 unfoldable pub testNumber : Book → ℕ → ℕ → ℕ → rules.Row → ℕ
 testNumber b f used least r =
     firstNumber (earlyNumber (jobCount (flowOf b f)) least (placeOf r) r)
-    (lateNumber (jobOf (flowOf b f) (r .job) .cap) used (b .processors) (flowOf b f .release) r)
+    (lateNumber (jobOf (flowOf b f) (r .job) .cap) used (b .processors) r)
 
 -- 19 at one job k: it is a predecessor, and it is complete only from a later slot on
 unfoldable pub lacksAt : ℕ → ℕ → ℕ → ℕ → Bool
 lacksAt predecessors k slot ready = hasBit predecessors k && ltb slot ready
 
--- the predecessors that are asked at a row of a job that has this total so far, a bit each
+-- 19 is asked at a row of a job that has this total so far, where there is none: whether the row stands before the release (02, Req 01)
+unfoldable pub askedEarly : ℕ → ℕ → ℕ → Bool
+askedEarly total release slot = if ltb 0 total then false else ltb slot release
+
+-- and the predecessors, a bit each
 unfoldable pub asked : ℕ → ℕ → ℕ
 asked total predecessors = if ltb 0 total then 0 else predecessors
 

@@ -1,14 +1,14 @@
-// One row of a table: read, tested by 15 to 18 and 19 by the release, asked for its predecessors, counted.
+// One row of a table: read, tested by 15 to 18, asked for its release and predecessors, counted.
 ghost use mathlib.Core.Path.{_≡_};
 ghost use Prim.Native.Nat.{_+_, _<_, _≤_};
 ghost use lib.ListN.{length, getD, set};
 ghost use Rattle.rules.specs.declared.Verdict.the-variants.{Refused};
 ghost use Rattle.rules.specs.Limits.{slots, workBytes};
-ghost use Rattle.rules.specs.Book.{jobCount, flowOf, jobOf};
+ghost use Rattle.rules.specs.Book.{jobCount, flowOf};
 ghost use Rattle.rules.specs.Reading.{bookOf};
 ghost use Rattle.rules.specs.Table.{rowAt};
-ghost use Rattle.table_check.specs.Tests.{rowFrom, placeOf, earlyNumber, lateNumber, lacksAt, asked, readyAfter};
-ghost use Rattle.table_check.specs.Tally.{CurrentFlow, JobsHeld, RowTested, Countable, RowCounted};
+ghost use Rattle.table_check.specs.Tests.{rowFrom, placeOf, earlyNumber, lateNumber, lacksAt, readyAfter};
+ghost use Rattle.table_check.specs.Tally.{CurrentFlow, JobsHeld, RowTested, AskedAt, Countable, RowCounted};
 use book::bytes;
 use rules::Verdict;
 
@@ -101,9 +101,9 @@ pub fn early_fault(jobs: u8, least: u32, key: u32, r: Row) -> u8
     0
 }
 
-// 17, 18, and 19 by the release; 0 where the row passes.
-pub fn late_fault(cap: u16, used: u16, processors: u16, release: u16, r: Row) -> u8
-    ensures { λ n. ⌜ n ≡ lateNumber cap used processors release (rowFrom r) ⌝ }
+// 17 and 18; 0 where the row passes.
+pub fn late_fault(cap: u16, used: u16, processors: u16, r: Row) -> u8
+    ensures { λ n. ⌜ n ≡ lateNumber cap used processors (rowFrom r) ⌝ }
 {
     if cap < r.processors {
         return 17;
@@ -111,13 +111,10 @@ pub fn late_fault(cap: u16, used: u16, processors: u16, release: u16, r: Row) ->
     if (processors as u32) < used as u32 + r.processors as u32 {
         return 18;
     }
-    if r.slot < release {
-        return 19;
-    }
     0
 }
 
-// 15 to 18, and 19 by the release, of a row of the current flow, whose place is to be at least `least`.
+// 15 to 18 of a row of the current flow, whose place is to be at least `least`.
 pub fn test_row(
     book: &[u8],
     sizes: &[u32],
@@ -141,23 +138,35 @@ pub fn test_row(
     let i = bytes::wide(r.job);
     let used = bytes::read16(work, 2 * bytes::wide16(r.slot));
     Tested {
-        number: late_fault(caps[i], used, c.processors, c.release, r),
+        number: late_fault(caps[i], used, c.processors, r),
         used,
         size: sizes[i],
     }
 }
 
-// The predecessors that are asked at a row, a bit each: all at its job's first row, and none once the job has a total, since they were asked then.
-pub fn to_ask(book: &[u8], totals: &[u32], c: Current, r: Row) -> u64
+// What 19 asks at a row: whether it stands before the release, and which predecessors are complete, a bit each.
+pub struct Asks {
+    pub early: bool,
+    pub bits: u64,
+}
+
+// 19 is asked whole at a job's first row, and not at all once the job has a total, since it was asked then and slots only rise.
+pub fn to_ask(book: &[u8], totals: &[u32], c: Current, r: Row) -> Asks
     requires { ⌜ CurrentFlow (now book) c × (r .job < jobCount (flowOf (bookOf (now book)) (c .flow))) × (length (now totals) ≡ 64) ⌝ }
-    ensures { λ p. ⌜ p ≡ asked (getD (now (totals .entry)) (r .job) 0) (jobOf (flowOf (bookOf (now (book .entry))) (c .flow)) (r .job) .predecessors) ⌝ }
+    ensures { λ a. ⌜ AskedAt (bookOf (now (book .entry))) (c .flow) (getD (now (totals .entry)) (r .job) 0) (rowFrom r) a ⌝ }
 {
     let i = bytes::wide(r.job);
     if 0 < totals[i] {
-        return 0;
+        return Asks {
+            early: false,
+            bits: 0,
+        };
     }
     let job = book::job_of(book, c.start, c.flow, i);
-    job.predecessors
+    Asks {
+        early: r.slot < c.release,
+        bits: job.predecessors,
+    }
 }
 
 // Whether the lowest bit names a predecessor that is complete only from a later slot on.

@@ -66,7 +66,12 @@ pub fn walk_rows(
             bad = row::refused(t.number, r);
             break 'rows;
         }
-        let mut bits = row::to_ask(book, totals, c, r);
+        let asks = row::to_ask(book, totals, c, r);
+        if asks.early {
+            bad = row::refused(19, r);
+            break 'rows;
+        }
+        let mut bits = asks.bits;
         let mut k: usize = 0;
         while bits != 0 {
             if row::lacks(bits, r.slot, ready[k]) {

@@ -21,11 +21,7 @@ returns-2 c = simp (le-ltb _ _ (c .before .before .if1 .left), lt-ltb _ _ (c .if
 
 returns-3 : tie.Need-returns-3
 unfolding lateNumber
-returns-3 c = simp (le-ltb _ _ (c .before .before .before .before .if1 .left), le-ltb _ _ (c .before .before .if2 .left), lt-ltb _ _ (c .if3 .taken))
-
-returns-4 : tie.Need-returns-4
-unfolding lateNumber
-returns-4 c = simp (le-ltb _ _ (c .before .before .before .before .if1 .left), le-ltb _ _ (c .before .before .if2 .left), le-ltb _ _ (c .if3 .left))
+returns-3 c = simp (le-ltb _ _ (c .before .before .if1 .left), le-ltb _ _ (c .if2 .left))
 
 pub late-fault-spec : {M : Type 1} → statement M
-late-fault-spec = tie.close (tie.spec returns cast-if2 add-if2 returns-2 returns-3 returns-4)
+late-fault-spec = tie.close (tie.spec returns cast-if2 add-if2 returns-2 returns-3)

@@ -54,7 +54,7 @@ returns-2 : tie.Need-returns-2
 returns-2 c =
     let p = c .before .before .before .before .before .before .before .before .before .before .before .before .before .pre in
     tested-late _ _ _ _ _ _ _ (p .0 .jobs) (c .before .before .before .before .before .before .before .before .place-of .ensures .0) (c .before .before .before .before .before .before .before .early-fault .ensures) (c .before .before .before .before .before .before .if1 .left)
-    _ _ _ _ _ _ _ _ _ (p .1) (p .0 .processors) (p .0 .release) (c .before .before .before .before .before .wide .ensures .0) (c .before .before .before .before .wide16 .ensures .0) (c .before .before .before .read16 .ensures) (c .before .late-fault .ensures)
+    _ _ _ _ _ _ _ _ (p .1) (p .0 .processors) (c .before .before .before .before .before .wide .ensures .0) (c .before .before .before .before .wide16 .ensures .0) (c .before .before .before .read16 .ensures) (c .before .late-fault .ensures)
 
 pub test-row-spec : {M : Type 1} → statement M
 test-row-spec =

@@ -1,10 +1,9 @@
 -- `table_check::row::to_ask` meets its contract: each arm answers as its test says. Assumes nothing.
-use mathlib.Core.Path.{refl, ap}
+use mathlib.Core.Path.{ap}
 use native.Mathlib.Omega.{arith}
-use borrow.Author.Tests.{lt-ltb, le-ltb}
 use Rattle.rules.specs.Book.{Job}
-use Rattle.table_check.specs.Tests.{asked}
 use Rattle.table_check.proofs.Finals.{few-jobs}
+use Rattle.table_check.proofs.TestNumbers.{asked-nothing, asked-whole}
 use Rattle.table_check.proofs.row.to_ask.Statement.{statement}
 use Rattle.table_check.proofs.row.to_ask.Tie as tie
 
@@ -18,15 +17,16 @@ shared-slice-read-if1 : tie.Need-shared-slice-read-if1
 shared-slice-read-if1 c = let p = c .before .before .before .before .pre in omega (arith, c .before .wide .ensures .0, p .1, p .2, p .0 .jobs, few-jobs (p .0))
 
 returns : tie.Need-returns
-unfolding asked
-returns c = rw (← c .before .before .wide .ensures .0, lt-ltb _ _ (c .if1 .taken)) refl
+returns c = asked-nothing _ _ _ _ (rw (← c .before .before .wide .ensures .0) (c .if1 .taken))
 
 job-of-requires : tie.Need-job-of-requires
 job-of-requires c κs = let p = c .before .before .before .before .before .pre in (p .0 .stands, omega (arith, c .before .before .wide .ensures .0, p .1))
 
 returns-2 : tie.Need-returns-2
-unfolding asked
-returns-2 c = rw (← c .before .before .before .wide .ensures .0, le-ltb _ _ (c .before .if1 .left)) (ap (λ (j : Job). j .predecessors) (c .job-of .ensures))
+returns-2 c =
+    let i = c .before .before .before .before .before in
+    asked-whole _ _ _ _ _ _ (rw (← i .wide .ensures .0) (c .before .before .before .if1 .left)) (i .before .before .before .pre .0 .release)
+    (rw (← i .wide .ensures .0) (ap (λ (j : Job). j .predecessors) (c .before .before .job-of .ensures)))
 
 pub to-ask-spec : {M : Type 1} → statement M
 to-ask-spec = tie.close (tie.spec wide-requires mul-if1 shared-slice-read-if1 returns job-of-requires returns-2)
