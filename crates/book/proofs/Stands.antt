@@ -1,57 +1,65 @@
--- What stands where a flow of a book that passes starts: its head and its jobs lie inside the bytes, and their values are the book's.
--- Assumes nothing.
+-- What stands around the place where the job records of a flow of a book that passes start: its head in front of it, its jobs behind it. Both
+-- lie inside the bytes, and their values are the book's. Assumes nothing.
 use mathlib.Core.Path.{_≡_, sym, ap, _∙_}
-use Prim.Native.Nat.{ℕ, _+_, _≤_, _<_}
+use Prim.Native.Nat.{ℕ, _+_, _-_, _≤_, _<_}
+use native.Mathlib.Omega.{arith}
 use mathlib.Core.List.{List}
 use lib.ListN.{length}
 use Rattle.rules.specs.declared.Verdict.the-variants.{Pass}
-use Rattle.rules.specs.Fields.{byte, field}
+use Rattle.rules.specs.Fields.{byte}
 use Rattle.rules.specs.Limits.{mostJobs}
 use Rattle.rules.specs.Book.{Flow, jobCount, flowOf, jobOf}
-use Rattle.rules.specs.Reading.{bookHead, versionOf, flowHead, jobRecord, releaseAt, jobsAt, flowStart, jobStart, jobAt, flowAt, bookOf, bookFault}
+use Rattle.rules.specs.Reading.{bookHead, versionOf, flowHead, jobRecord, jobsAt, flowStart, jobStart, jobAt, flowAt, bookOf, bookFault}
 use Rattle.rules.proofs.Passing.{flow-count, flow-of-book, job-count, job-of-flow, deadline-of-flow, release-of-flow, FlowPasses, book-passes, flow-of-passing}
-use Rattle.book.specs.Promise.{FlowStands}
+use Rattle.book.specs.declared.FlowHead.{FlowHead}
+use Rattle.book.specs.Records.{headAt}
+use Rattle.book.specs.Promise.{FlowStands, HeadOf}
 
 -- how a walk over the heads meets each flow
-pub stands-at : (s : List ℕ) (f start : ℕ) → bookFault s ≡ Pass → f < byte s 7 → start ≡ flowStart s f → FlowStands s f start
-stands-at s f start e h q = record { passes = e; flow-in = rw (flow-count s) h; start-at = q }
+pub stands-at : (s : List ℕ) (f : ℕ) {records : ℕ} → bookFault s ≡ Pass → f < byte s 7 → records ≡ jobStart s (flowStart s f) 0 → FlowStands s f records
+stands-at s f e h q = record { passes = e; flow-in = rw (flow-count s) h; records-at = q }
 
-module _ (s : List ℕ) (f start : ℕ) (stands : FlowStands s f start) where
-  pub flow-below : f < byte s 7
+module _ {s : List ℕ} {f records : ℕ} (stands : FlowStands s f records) where
+  flow-below : f < byte s 7
   flow-below = rw (flow-count s) at (stands .flow-in)
 
-  pub flow-is : flowOf (bookOf s) f ≡ flowAt s start
-  flow-is = flow-of-book s f flow-below ∙ ap (flowAt s) (sym (stands .start-at))
+  flow-is : flowOf (bookOf s) f ≡ flowAt s (flowStart s f)
+  flow-is = flow-of-book s f flow-below
 
-  pub flow-stands-whole : FlowPasses s start
-  flow-stands-whole = rw (stands .start-at) (flow-of-passing s (stands .passes) f flow-below)
+  pub flow-stands-whole : FlowPasses s (flowStart s f)
+  flow-stands-whole = flow-of-passing s (stands .passes) f flow-below
 
-  pub deadline-is : flowOf (bookOf s) f .deadline ≡ field 2 s start
-  deadline-is = ap (λ (w : Flow). w .deadline) flow-is ∙ deadline-of-flow s start
-
-  pub release-is : flowOf (bookOf s) f .release ≡ releaseAt s start
-  release-is = ap (λ (w : Flow). w .release) flow-is ∙ release-of-flow s start
-
-  pub job-count-is : jobCount (flowOf (bookOf s) f) ≡ jobsAt s start
-  job-count-is = ap jobCount flow-is ∙ job-count s start
+  pub job-count-is : jobCount (flowOf (bookOf s) f) ≡ jobsAt s (flowStart s f)
+  job-count-is = ap jobCount flow-is ∙ job-count s (flowStart s f)
 
   -- the heads of the book and of the flow lie inside the bytes
   pub book-head-fits : bookHead ≤ length s
   book-head-fits = book-passes s (stands .passes) .head-whole
 
-  pub head-fits : start + flowHead (versionOf s) ≤ length s
+  pub head-fits : flowStart s f + flowHead (versionOf s) ≤ length s
   head-fits = flow-stands-whole .head .flow-head-whole
 
-  pub jobs-few : jobsAt s start ≤ mostJobs
+  -- the head of the flow stands in front of its job records
+  pub head-before : {n : ℕ} → n ≡ flowHead (versionOf s) → records - n ≡ flowStart s f
+  head-before e = omega (arith, stands .records-at)
+
+  pub head-is : {h : FlowHead} → h ≡ headAt s (flowStart s f) → HeadOf s f h
+  head-is e = record {
+    deadline = ap (λ (h : FlowHead). h .deadline) e ∙ sym (ap (λ (w : Flow). w .deadline) flow-is ∙ deadline-of-flow s (flowStart s f));
+    release = ap (λ (h : FlowHead). h .release) e ∙ sym (ap (λ (w : Flow). w .release) flow-is ∙ release-of-flow s (flowStart s f));
+    jobs = ap (λ (h : FlowHead). h .jobs) e ∙ sym job-count-is;
+  }
+
+  pub jobs-few : jobsAt s (flowStart s f) ≤ mostJobs
   jobs-few = flow-stands-whole .head .jobs-to
 
   module _ (i : ℕ) (job-in : i < jobCount (flowOf (bookOf s) f)) where
-    job-below : i < jobsAt s start
+    job-below : i < jobsAt s (flowStart s f)
     job-below = rw job-count-is at job-in
 
     -- the record of job i lies inside the bytes
-    pub job-fits : jobStart s start i + jobRecord ≤ length s
+    pub job-fits : jobStart s (flowStart s f) i + jobRecord ≤ length s
     job-fits = flow-stands-whole .each i job-below .job-whole
 
-    pub job-is : jobOf (flowOf (bookOf s) f) i ≡ jobAt s (jobStart s start i)
-    job-is = ap (λ (w : Flow). jobOf w i) flow-is ∙ job-of-flow s start i job-below
+    pub job-is : jobOf (flowOf (bookOf s) f) i ≡ jobAt s (jobStart s (flowStart s f) i)
+    job-is = ap (λ (w : Flow). jobOf w i) flow-is ∙ job-of-flow s (flowStart s f) i job-below

@@ -7,7 +7,7 @@ use Rattle.rules.specs.declared.Verdict.the-variants.{Pass}
 use Rattle.rules.specs.Walks.{listFrom}
 use Rattle.rules.specs.Limits.{mostJobs}
 use Rattle.rules.specs.Book.{Job, Flow, flowCount, jobCount, flowOf}
-use Rattle.rules.specs.Reading.{flowStart, bookOf, bookFault}
+use Rattle.rules.specs.Reading.{flowStart, jobStart, bookOf, bookFault}
 use Rattle.book.specs.declared.FlowHead.{FlowHead}
 use Rattle.book.specs.declared.Index.{Index}
 use Rattle.book.specs.declared.FlowJobs.{FlowJobs}
@@ -18,7 +18,7 @@ pub record Indexed (s : List ℕ) (x : Index) : Type 0 where
   pub passes : bookFault s ≡ Pass
   pub processors : x .processors ≡ bookOf s .processors
   pub flows : x .flows ≡ flowCount (bookOf s)
-  pub starts : (f : ℕ) → f < flowCount (bookOf s) → getD (x .starts) f 0 ≡ flowStart s f
+  pub records : (f : ℕ) → f < flowCount (bookOf s) → getD (x .records) f 0 ≡ jobStart s (flowStart s f) 0
   pub deadlines : (f : ℕ) → f < flowCount (bookOf s) → getD (x .deadlines) f 0 ≡ flowOf (bookOf s) f .deadline
   pub jobs : (f : ℕ) → f < flowCount (bookOf s) → getD (x .jobs) f 0 ≡ jobCount (flowOf (bookOf s) f)
 
@@ -28,11 +28,11 @@ pub record DeadlinesOf (s deadlines : List ℕ) : Type 0 where
   pub enough : flowCount (bookOf s) ≤ length deadlines
   pub same : (f : ℕ) → f < flowCount (bookOf s) → getD deadlines f 0 ≡ flowOf (bookOf s) f .deadline
 
--- flow f of the book in these bytes, which passes, starts at `start`: what an accessor asks
-pub record FlowStands (s : List ℕ) (f start : ℕ) : Type 0 where
+-- flow f of the book in these bytes, which passes, has its job records from `records` on: what an accessor asks
+pub record FlowStands (s : List ℕ) (f records : ℕ) : Type 0 where
   pub passes : bookFault s ≡ Pass
   pub flow-in : f < flowCount (bookOf s)
-  pub start-at : start ≡ flowStart s f
+  pub records-at : records ≡ jobStart s (flowStart s f) 0
 
 -- the head is that of flow f
 pub record HeadOf (s : List ℕ) (f : ℕ) (h : FlowHead) : Type 0 where

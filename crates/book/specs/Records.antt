@@ -1,9 +1,8 @@
 -- What reading one record of a book finds, and the faults of a job's record by itself. Assumes nothing.
 use Prim.Native.Nat.{ℕ, _+_, _^_}
-use mathlib.Core.Bool.{Bool}
 use mathlib.Core.List.{List}
 use lib.ListN.{length}
-use lib.Dec.{ltb, leb, eqb}
+use lib.Dec.{ltb, leb}
 use Rattle.rules.specs.declared.Verdict.{Verdict}
 use Rattle.rules.specs.declared.Verdict.the-variants.{Pass, Refused}
 use Rattle.rules.specs.Walks.{if_then_else_}
@@ -29,19 +28,13 @@ headAt s at = record { deadline = field 2 s at; release = releaseAt s at; jobs =
 unfoldable pub headRead : List ℕ → ℕ → HeadRead
 headRead s at = if ltb (length s) (at + flowHead (versionOf s)) then ShortHead else WholeHead (headAt s at)
 
--- the number of a refusal where a test is met, and 0 where it is not
-unfoldable pub numberIf : Bool → ℕ → ℕ
-numberIf met n = if met then n else 0
-
--- the first number that is not 0
-unfoldable pub firstNumber : ℕ → ℕ → ℕ
-firstNumber m n = if eqb m 0 then n else m
-
 -- "5, 6, 7 for the head", 22 "directly after 6" (02, Req 01): the number of a whole head, 0 where it passes
 unfoldable pub headNumber : FlowHead → ℕ
 headNumber h =
-    firstNumber (numberIf (outside 1 mostDeadline (h .deadline)) 6)
-    (firstNumber (numberIf (leb (h .deadline) (h .release)) 22) (numberIf (outside 1 mostJobs (h .jobs)) 7))
+    if outside 1 mostDeadline (h .deadline) then 6
+    else if leb (h .deadline) (h .release) then 22
+    else if outside 1 mostJobs (h .jobs) then 7
+    else 0
 
 -- the values of the record at `at`
 abbrev pub recordAt : List ℕ → ℕ → JobRecord

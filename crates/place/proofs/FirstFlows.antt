@@ -37,7 +37,7 @@ pub record NextFlow (s : List ℕ) (x : Index) (k f : ℕ) : Type 0 where
   pub below : k < flowCount (bookOf s)
   pub few-flows : flowCount (bookOf s) ≤ 64
   pub flow-below : f < 64
-  pub stands : FlowStands s f (getD (x .starts) f 0)
+  pub stands : FlowStands s f (getD (x .records) f 0)
   pub deadline-most : flowOf (bookOf s) f .deadline ≤ 4096
 
 pub few-flows : {s : List ℕ} {x : Index} {order : List ℕ} {count : ℕ} {work : List ℕ} → Asked s x order count work → x .flows ≤ 64
@@ -57,7 +57,7 @@ next-flow s x order count work a k f l q =
       below = below;
       few-flows = range .flows-most;
       flow-below = omega (arith, range .flows-most);
-      stands = record { passes = a .indexed .passes; flow-in = in-book; start-at = a .indexed .starts f in-book };
+      stands = record { passes = a .indexed .passes; flow-in = in-book; records-at = a .indexed .records f in-book };
       deadline-most = range .each-flow f in-book .deadline-most;
     }
 

@@ -138,7 +138,7 @@ pub record FlowKept (b : Book) (f at limit : ℕ) (out₀ area₀ out area : Lis
 flow-in-range : (s : List ℕ) (f : ℕ) → bookFault s ≡ Pass → f < flowCount (bookOf s) → FlowInRange (bookOf s .processors) (flowOf (bookOf s) f)
 flow-in-range s f passes flow-in = pass-in-range s passes .each-flow f flow-in
 
-module _ (s : List ℕ) (f start : ℕ) (x : FlowJobs) (stands : FlowStands s f start) (loaded : Loaded s f x) where
+module _ (s : List ℕ) (f records : ℕ) (x : FlowJobs) (stands : FlowStands s f records) (loaded : Loaded s f x) where
   pub chain-asked : ChainInput x
   chain-asked =
       input-of x (bookOf s .processors) (pass-in-range s (stands .passes) .processors-most)

@@ -350,20 +350,20 @@ pub fn place_cuts(
     Placed::To(slot, next)
 }
 
-// Rules 1 to 6 for flow f, which starts at `start`.
+// Rules 1 to 6 for flow f, whose job records start at `records`.
 pub fn place_flow(
     book: &[u8],
     out: &mut [u8],
     area: &mut [u8],
     at: usize,
-    start: usize,
+    records: usize,
     f: usize,
     processors: u16,
 ) -> Placed
-    requires { ⌜ FlowStands (now book) f start × (processors ≡ bookOf (now book) .processors) × (workBytes ≤ length (now area)) × (at + 3145728 < 4294967296) ⌝ }
+    requires { ⌜ FlowStands (now book) f records × (processors ≡ bookOf (now book) .processors) × (workBytes ≤ length (now area)) × (at + 3145728 < 4294967296) ⌝ }
     ensures { λ r. ⌜ ((rows : List Row) (bytes : List ℕ) → now (area .entry) ≡ workUsed slots rows bytes → ((t : ℕ) → usedIn rows t ≤ processors) → FlowPlaced (bookOf (now (book .entry))) f rows bytes (now (out .entry)) at (now (out .exit)) (now (area .exit)) r) ⌝ }
 {
-    let jobs = book::load_flow(book, start, f);
+    let jobs = book::load_flow(book, records, f);
     let ideal = chain::ideal_of(jobs);
     let limit = 2 * bytes::wide16(jobs.deadline);
     let release = bytes::wide16(jobs.release);

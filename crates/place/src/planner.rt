@@ -49,9 +49,16 @@ pub fn place_first(
     while k < count {
         let flow = order[k];
         let f = bytes::wide(flow);
-        let start = x.starts[f];
-        let Placed::To(end, after) = super::place_flow(book, out, work, next, start, f, processors)
-        else {
+        let records = x.records[f];
+        let Placed::To(end, after) = super::place_flow(
+            book,
+            out,
+            work,
+            next,
+            records,
+            f,
+            processors,
+        ) else {
             return Whole {
                 ended: Ended::Infeasible(flow),
                 finish,

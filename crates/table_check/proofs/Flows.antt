@@ -138,12 +138,12 @@ module _ {book table : List ℕ} {x : Index} {flows : ℕ} {work₀ work off fin
   pub flows-few : flows ≤ 64
   flows-few = omega (arith, between .flows-are, range .flows-most)
 
-  -- a flow of the book starts where the index says
-  pub flow-stands : {f start : ℕ} → f < flows → start ≡ getD (x .starts) f 0 → FlowStands book f start
-  flow-stands {f} in-book start-is = record {
+  -- a flow of the book has its job records where the index says
+  pub flow-stands : {f records : ℕ} → f < flows → records ≡ getD (x .records) f 0 → FlowStands book f records
+  flow-stands {f} in-book records-are = record {
     passes = between .indexed .passes;
     flow-in = omega (arith, between .flows-are);
-    start-at = start-is ∙ between .indexed .starts f (omega (arith, between .flows-are));
+    records-at = records-are ∙ between .indexed .records f (omega (arith, between .flows-are));
   }
 
   -- a fault ends the walk
@@ -239,12 +239,12 @@ module _ {book table : List ℕ} {x : Index} {flows : ℕ} {work₀ work off fin
         key-least : least ≤ key
         key-least = leb-true least key (sym (order (early .fits)) ∙ le-leb (leastKey b rows k) (rowKey b (rowFrom r)) (early .after-least))
 
-        pub flow-begins : k ≡ rowsTo (bookOf book) at → {start release processors : ℕ} → start ≡ getD (x .starts) f 0 →
+        pub flow-begins : k ≡ rowsTo (bookOf book) at → {records release processors : ℕ} → records ≡ getD (x .records) f 0 →
             release ≡ flowOf (bookOf book) f .release → processors ≡ x .processors →
-            FlowBegins book table work (record { flow = f; start = start; jobs = jobs; release = release; processors = processors }) at
-        flow-begins k-is start-is release-is processors-are = record {
+            FlowBegins book table work (record { flow = f; records = records; jobs = jobs; release = release; processors = processors }) at
+        flow-begins k-is records-are release-is processors-are = record {
           current = record {
-            stands = flow-stands in-book start-is;
+            stands = flow-stands in-book records-are;
             jobs = jobs-read ∙ between .indexed .jobs f (omega (arith, between .flows-are));
             release = release-is;
             processors = processors-are ∙ between .indexed .processors;

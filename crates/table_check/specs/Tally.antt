@@ -24,7 +24,7 @@ use Rattle.table_check.specs.Tests.{testNumber, askedEarly, asked, ready
 
 -- what the code holds of the flow whose rows are walked
 pub record CurrentFlow (book : List ℕ) (c : Current) : Type 0 where
-  pub stands : FlowStands book (c .flow) (c .start)
+  pub stands : FlowStands book (c .flow) (c .records)
   pub jobs : c .jobs ≡ jobCount (flowOf (bookOf book) (c .flow))
   pub release : c .release ≡ flowOf (bookOf book) (c .flow) .release
   pub processors : c .processors ≡ bookOf book .processors

@@ -20,10 +20,10 @@ pub struct Row {
     pub processors: u16,
 }
 
-// The flow whose rows are walked: its number, where it starts in the book, its count of jobs, its release, and P.
+// The flow whose rows are walked: its number, where its job records start, its count of jobs, its release, and P.
 pub struct Current {
     pub flow: usize,
-    pub start: usize,
+    pub records: usize,
     pub jobs: u8,
     pub release: u16,
     pub processors: u16,
@@ -44,7 +44,7 @@ pub fn load_jobs(book: &[u8], c: Current, sizes: &mut [u32], caps: &mut [u16])
     let jobs = bytes::wide(c.jobs);
     let mut i: usize = 0;
     while i < jobs {
-        let job = book::job_of(book, c.start, c.flow, i);
+        let job = book::job_of(book, c.records, c.flow, i);
         sizes[i] = job.size;
         caps[i] = job.cap;
         i = i + 1;
@@ -162,7 +162,7 @@ pub fn to_ask(book: &[u8], totals: &[u32], c: Current, r: Row) -> Asks
             bits: 0,
         };
     }
-    let job = book::job_of(book, c.start, c.flow, i);
+    let job = book::job_of(book, c.records, c.flow, i);
     Asks {
         early: r.slot < c.release,
         bits: job.predecessors,

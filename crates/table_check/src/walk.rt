@@ -177,11 +177,11 @@ pub fn walk_flows(book: &[u8], table: &[u8], x: Index, work: &mut [u8]) -> Walke
                 finish,
             };
         }
-        let start = x.starts[f];
-        let head = book::head_of(book, start, f);
+        let records = x.records[f];
+        let head = book::head_of(book, records, f);
         let c = Current {
             flow: f,
-            start,
+            records,
             jobs,
             release: head.release,
             processors: x.processors,

@@ -32,7 +32,7 @@ load-flow-requires c κs = search needs
 ideal-of-requires : tie.Need-ideal-of-requires
 ideal-of-requires c κs =
     let a = c .before .before .before .before .args in
-    chain-asked (a .book .now) (a .f) (a .start) (c .load-flow .result) (c .before .before .before .before .pre .0) (c .load-flow .ensures)
+    chain-asked (a .book .now) (a .f) (a .records) (c .load-flow .result) (c .before .before .before .before .pre .0) (c .load-flow .ensures)
 
 wide16-requires : tie.Need-wide16-requires
 wide16-requires c κs = search needs
@@ -74,14 +74,14 @@ place-cuts-requires c κs =
     let load = h .before .load-flow in
     let b = h .before .before .before .before .before in
     let few = load .ensures .few in (
-      flow-held (b .args .book .now) (b .args .f) (b .args .start) (load .result) (b .pre .0) (load .ensures) (h .ideal-of .result) (h .ideal-of .ensures)
+      flow-held (b .args .book .now) (b .args .f) (b .args .records) (load .result) (b .pre .0) (load .ensures) (h .ideal-of .result) (h .ideal-of .ensures)
           (caps-long h) (starts-long h) (ends-long h) (lasts-long h) (firsts-long h),
       few,
       few,
       few,
       b .pre .1,
-      limit-held (b .args .book .now) (b .args .f) (b .args .start) (load .result) (b .pre .0) (load .ensures) _ (r .before .wide16 .ensures .0),
-      release-held (b .args .book .now) (b .args .f) (b .args .start) (load .result) (b .pre .0) (load .ensures) _ (r .wide162 .ensures .0),
+      limit-held (b .args .book .now) (b .args .f) (b .args .records) (load .result) (b .pre .0) (load .ensures) _ (r .before .wide16 .ensures .0),
+      release-held (b .args .book .now) (b .args .f) (b .args .records) (load .result) (b .pre .0) (load .ensures) _ (r .wide162 .ensures .0),
       b .pre .2,
       b .pre .3,
     )

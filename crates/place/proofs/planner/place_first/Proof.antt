@@ -67,11 +67,11 @@ array-read-flow c = let p = start (c .before) .pre in omega (arith, few-flows p,
 wide-requires : tie.Need-wide-requires Inv-loop μ-loop
 wide-requires c κs = search needs
 
-mul-start : tie.Need-mul-start Inv-loop μ-loop
-mul-start c = omega (arith, next c .flow-below)
+mul-records : tie.Need-mul-records Inv-loop μ-loop
+mul-records c = omega (arith, next c .flow-below)
 
-element-copy-out-start : tie.Need-element-copy-out-start Inv-loop μ-loop
-element-copy-out-start c = omega (arith, next c .flow-below)
+element-copy-out-records : tie.Need-element-copy-out-records Inv-loop μ-loop
+element-copy-out-records c = omega (arith, next c .flow-below)
 
 place-flow-requires : tie.Need-place-flow-requires Inv-loop μ-loop
 place-flow-requires c κs =
@@ -145,5 +145,5 @@ returns-2 c =
 pub place-first-spec : {M : Type 1} → statement M
 place-first-spec =
     tie.close
-    (tie.spec Inv-loop μ-loop mul-next add-next loop-holds array-read-flow wide-requires mul-start element-copy-out-start place-flow-requires enum-known-end enum-told
+    (tie.spec Inv-loop μ-loop mul-next add-next loop-holds array-read-flow wide-requires mul-records element-copy-out-records place-flow-requires enum-known-end enum-told
     same-length same-length-2 returns cast-finish mul-finish array-write-finish add-k loop-less loop-again same-length-3 same-length-4 returns-2)

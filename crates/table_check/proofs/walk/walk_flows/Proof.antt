@@ -94,11 +94,11 @@ returns-2 c =
     early-stops (turn w .loop .inv) (w .before .before .loop-test .taken) (r .result) (r .ensures) (w .wide .ensures .0) (flow e .if1 .left)
     refl (e .before .service-key .ensures .0) (e .early-fault .ensures) _ (cleared (turn w) .clear .ensures) (c .refused2 .ensures) (c .before .if2 .taken)
 
-mul-start : tie.Need-mul-start Inv-loop μ-loop
-mul-start c = omega (arith, flow (c .before) .before .wide .ensures .1)
+mul-records : tie.Need-mul-records Inv-loop μ-loop
+mul-records c = omega (arith, flow (c .before) .before .wide .ensures .1)
 
-element-copy-out-start : tie.Need-element-copy-out-start Inv-loop μ-loop
-element-copy-out-start c = let g = flow (c .before) in omega (arith, flows-few (turn (g .before) .loop .inv), g .if1 .left)
+element-copy-out-records : tie.Need-element-copy-out-records Inv-loop μ-loop
+element-copy-out-records c = let g = flow (c .before) in omega (arith, flows-few (turn (g .before) .loop .inv), g .if1 .left)
 
 head-of-requires : tie.Need-head-of-requires Inv-loop μ-loop
 head-of-requires c κs = let g = flow (c .before .before) in flow-stands (turn (g .before) .loop .inv) (g .if1 .left) refl
@@ -199,8 +199,8 @@ walk-flows-spec =
     refused-requires-2
     same-length-2
     returns-2
-    mul-start
-    element-copy-out-start
+    mul-records
+    element-copy-out-records
     head-of-requires
     walk-flow-requires
     enum-told
