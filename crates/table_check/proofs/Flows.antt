@@ -138,6 +138,11 @@ module _ {book table : List ℕ} {x : Index} {flows : ℕ} {work₀ work off fin
   pub flows-few : flows ≤ 64
   flows-few = omega (arith, between .flows-are, range .flows-most)
 
+  pub jobs-few : {f : ℕ} → f < flows → getD (x .jobs) f 0 ≤ 64
+  jobs-few {f} in-book =
+      let inside : f < flowCount b = omega (arith, between .flows-are) in
+      omega (arith, between .indexed .jobs f inside, range .each-flow f inside .jobs-most)
+
   -- a flow of the book has its job records where the index says
   pub flow-stands : {f records : ℕ} → f < flows → records ≡ getD (x .records) f 0 → FlowStands book f records
   flow-stands {f} in-book records-are = record {

@@ -1,17 +1,18 @@
 -- Laws of the tests of a row as numbers: the first that is not 0 counts; and of what 19 asks. Assumes nothing.
 use mathlib.Core.Path.{_≡_, refl, sym, _∙_}
 use Prim.Native.Nat.{ℕ, _*_, _≤_, _<_}
-use mathlib.Core.Bool.{Bool, true, false}
+use mathlib.Core.Bool.{Bool, true, false, _||_}
 use mathlib.Core.List.{List}
 use native.Mathlib.Omega.{arith}
 use lib.ListN.{getD}
 use lib.Dec.{ltb, leb, eqb}
-use borrow.Author.Tests.{lt-ltb, le-ltb, eq-eqb, ne-eqb, eqb-true, eqb-false, leb-false}
+use borrow.Author.Tests.{lt-ltb, le-ltb, le-leb, eq-eqb, ne-eqb, eqb-true, eqb-false, leb-false}
+use Rattle.rules.specs.Walks.{if_then_else_}
 use Rattle.rules.specs.Limits.{slots}
 use Rattle.rules.specs.Fields.{field}
 use Rattle.rules.specs.Book.{Book, jobCount, flowOf, jobOf}
 use Rattle.rules.specs.Rows.{Row}
-use Rattle.table_check.specs.Tests.{placeOf, earlyNumber, lateNumber, firstNumber, testNumber, askedEarly, asked}
+use Rattle.table_check.specs.Tests.{placeOf, places, earlyNumber, lateNumber, firstNumber, testNumber, askedEarly, asked}
 use Rattle.table_check.specs.Tally.{JobsHeld, RowTested, AskedAt}
 
 pub first-stands : (m n : ℕ) → (m ≡ 0 → ⊥) → firstNumber m n ≡ m
@@ -30,6 +31,26 @@ first-none m n e = go (eqb m 0) refl
     go : (t : Bool) → eqb m 0 ≡ t → (m ≡ 0) × (n ≡ 0)
     go true d = let m-none : m ≡ 0 = eqb-true m 0 d in (m-none, rw d at e)
     go false d = absurd (eqb-false m 0 d (rw d at e))
+
+-- 15 by the job, and by the slot
+pub early-by-job : (jobs least key : ℕ) (r : Row) → jobs ≤ r .job → 15 ≡ earlyNumber jobs least key r
+unfolding earlyNumber
+early-by-job jobs least key r h = rw (le-leb jobs (r .job) h) (go (leb slots (r .slot)))
+  where
+    go : (s : Bool) → _≡_ {A = ℕ} 15 (if s || true || eqb (r .processors) 0 then 15 else if ltb key least then 16 else 0)
+    go true = refl
+    go false = refl
+
+pub early-by-slot : (jobs least key : ℕ) (r : Row) → slots ≤ r .slot → 15 ≡ earlyNumber jobs least key r
+unfolding earlyNumber
+early-by-slot jobs least key r h = rw (le-leb slots (r .slot) h) refl
+
+-- the place of a row whose job is in range tells whether its slot is
+pub place-outside : (r : Row) {jobs place : ℕ} → jobs ≤ 64 → r .job < jobs → place ≡ placeOf r → places ≤ place → slots ≤ r .slot
+place-outside r few job-in place-is past = omega arith
+
+pub place-inside : (r : Row) {place : ℕ} → place ≡ placeOf r → place < places → r .slot < slots
+place-inside r place-is below = omega arith
 
 -- a row that passes 15 stands in a slot and is one of the flow's jobs
 pub early-inside : (jobs least key : ℕ) (r : Row) → earlyNumber jobs least key r ≡ 0 → (r .slot < slots) × (r .job < jobs)

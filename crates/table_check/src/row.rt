@@ -82,14 +82,15 @@ pub fn place_of(r: Row) -> u32
     r.slot as u32 * 64 + r.job as u32
 }
 
-// 15 and 16 of a row whose flow is in the book; 0 where it passes.
+// 15 and 16 of a row whose flow is in the book; 0 where it passes. Once the job is in range, the row's place tells whether the slot is.
 pub fn early_fault(jobs: u8, least: u32, key: u32, r: Row) -> u8
+    requires { ⌜ jobs ≤ 64 ⌝ }
     ensures { λ n. ⌜ n ≡ earlyNumber jobs least key (rowFrom r) ⌝ }
 {
-    if 8192 <= r.slot {
+    if jobs <= r.job {
         return 15;
     }
-    if jobs <= r.job {
+    if 524288 <= place_of(r) {
         return 15;
     }
     if r.processors == 0 {

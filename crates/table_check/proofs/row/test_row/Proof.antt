@@ -10,7 +10,7 @@ place-of-requires : tie.Need-place-of-requires
 place-of-requires c κs = tt
 
 early-fault-requires : tie.Need-early-fault-requires
-early-fault-requires c κs = tt
+early-fault-requires c κs = few-jobs (c .before .before .before .before .before .pre .0)
 
 returns : tie.Need-returns
 returns c = tested-early _ _ _ _ _ _ _ (c .before .before .before .before .before .before .before .pre .0 .jobs) (c .before .before .place-of .ensures .0) (c .before .early-fault .ensures) _ (c .if1 .taken)

@@ -10,7 +10,7 @@ use Rattle.rules.specs.Reading.{bookOf}
 use Rattle.table_check.specs.Tally.{rowsTo}
 use Rattle.table_check.proofs.Finals.{index-flows}
 use Rattle.table_check.proofs.TableRows.{row-inside}
-use Rattle.table_check.proofs.Flows.{Between, between-first, flows-few, flow-stands, table-ends, unknown-stops, early-stops, flow-begins, flow-stops, between-next, goes-on}
+use Rattle.table_check.proofs.Flows.{Between, between-first, flows-few, jobs-few, flow-stands, table-ends, unknown-stops, early-stops, flow-begins, flow-stops, between-next, goes-on}
 use Rattle.table_check.proofs.walk.walk_flows.Statement.{statement}
 use Rattle.table_check.proofs.walk.walk_flows.Tie as tie
 
@@ -78,7 +78,7 @@ service-key-requires : tie.Need-service-key-requires Inv-loop μ-loop
 service-key-requires c κs = tt
 
 early-fault-requires : tie.Need-early-fault-requires Inv-loop μ-loop
-early-fault-requires c κs = tt
+early-fault-requires c κs = let g = c .before .before .before in jobs-few (turn (g .before) .loop .inv) (g .if1 .left)
 
 refused-requires-2 : tie.Need-refused-requires-2 Inv-loop μ-loop
 refused-requires-2 c κs = tt
