@@ -29,7 +29,7 @@ use Rattle.rules.proofs.WorkArea.{used-row, used-rest, used-cleared}
 use Rattle.table_check.specs.declared.row.Row.{Row}
 use Rattle.table_check.specs.declared.row.Current.{Current}
 use Rattle.table_check.specs.declared.row.Tested.{Tested}
-use Rattle.table_check.specs.Tests.{rowFrom, serviceKey, placeOf, places, rowKey, leastKey, lacksAt, askedEarly, asked}
+use Rattle.table_check.specs.Tests.{rowFrom, serviceKey, placeOf, places, rowKey, leastKey, lacksAt, askedRelease, asked}
 use Rattle.table_check.specs.Tally.{Countable, RowCounted, rowsTo, Reached, FlowTally}
 use Rattle.table_check.proofs.TableRows.{rows-to}
 use Rattle.table_check.proofs.Keys.{place-below}
@@ -100,22 +100,22 @@ module _ {book table sizes caps : List ℕ} {c : Current} {from : ℕ} {totals r
         (rw (turn .own) (omega (arith, some, going .tally .total (r .job) job-few)))
 
     -- the release, as it is asked
-    module _ {early : Bool} (early-is : early ≡ askedEarly (getD totals (r .job) 0) (flowOf (bookOf book) (c .flow) .release) (r .slot)) where
-      pub early-stops : early ≡ true → rowFault (bookOf book) (tableRows (bookOf book) table) k ≡ Refused 19 (r .flow) (r .job)
-      unfolding askedEarly beforeRelease
-      early-stops e = go (ltb 0 (getD totals (r .job) 0)) refl
+    module _ {unreleased : Bool} (asked-is : unreleased ≡ askedRelease (getD totals (r .job) 0) (flowOf (bookOf book) (c .flow) .release) (r .slot)) where
+      pub unreleased-stops : unreleased ≡ true → rowFault (bookOf book) (tableRows (bookOf book) table) k ≡ Refused 19 (r .flow) (r .job)
+      unfolding askedRelease beforeRelease
+      unreleased-stops e = go (ltb 0 (getD totals (r .job) 0)) refl
         where
           go : (u : Bool) → ltb 0 (getD totals (r .job) 0) ≡ u → rowFault (bookOf book) (tableRows (bookOf book) table) k ≡ Refused 19 (r .flow) (r .job)
-          go true d = absurd (false≢true (sym (early-is ∙ rw d refl) ∙ e))
-          go false d = release-fault b rows k (rowFrom r) (turn .row-is) (turn .early) (turn .late) (rw (turn .own) (sym (early-is ∙ rw d refl) ∙ e))
+          go true d = absurd (false≢true (sym (asked-is ∙ rw d refl) ∙ e))
+          go false d = release-fault b rows k (rowFrom r) (turn .row-is) (turn .early) (turn .late) (rw (turn .own) (sym (asked-is ∙ rw d refl) ∙ e))
 
-      pub not-early : early ≡ false → beforeRelease (bookOf book) (rowFrom r) ≡ false
-      unfolding askedEarly beforeRelease
-      not-early e = go (ltb 0 (getD totals (r .job) 0)) refl
+      pub is-released : unreleased ≡ false → beforeRelease (bookOf book) (rowFrom r) ≡ false
+      unfolding askedRelease beforeRelease
+      is-released e = go (ltb 0 (getD totals (r .job) 0)) refl
         where
           go : (u : Bool) → ltb 0 (getD totals (r .job) 0) ≡ u → beforeRelease (bookOf book) (rowFrom r) ≡ false
           go true d = settled (ltb-true 0 (getD totals (r .job) 0) d) .0
-          go false d = rw (turn .own) (sym (early-is ∙ rw d refl) ∙ e)
+          go false d = rw (turn .own) (sym (asked-is ∙ rw d refl) ∙ e)
 
     -- the bits that are asked: those of the predecessors, or none where the job has a total
     module _ (bits : ℕ) (bits-are : bits ≡ asked (getD totals (r .job) 0) (jobOf (flowOf (bookOf book) (c .flow)) (r .job) .predecessors)) where

@@ -12,7 +12,7 @@ use Rattle.rules.specs.Limits.{slots}
 use Rattle.rules.specs.Fields.{field}
 use Rattle.rules.specs.Book.{Book, jobCount, flowOf, jobOf}
 use Rattle.rules.specs.Rows.{Row}
-use Rattle.table_check.specs.Tests.{placeOf, places, earlyNumber, lateNumber, firstNumber, testNumber, askedEarly, asked}
+use Rattle.table_check.specs.Tests.{placeOf, places, earlyNumber, lateNumber, firstNumber, testNumber, askedRelease, asked}
 use Rattle.table_check.specs.Tally.{JobsHeld, RowTested, AskedAt}
 
 pub first-stands : (m n : ℕ) → (m ≡ 0 → ⊥) → firstNumber m n ≡ m
@@ -97,14 +97,14 @@ module _ (b : Book) (f least jobs key early : ℕ) (r : Row) (jobs-are : jobs �
         }
 
 -- ---- what 19 asks at a row of flow f: nothing once its job has a total, else all
-pub asked-nothing : (b : Book) (f total : ℕ) (r : Row) → 0 < total → AskedAt b f total r (record { early = false; bits = 0 })
-unfolding askedEarly asked
-asked-nothing b f total r some = record { early = rw (lt-ltb 0 total some) refl; bits = rw (lt-ltb 0 total some) refl }
+pub asked-nothing : (b : Book) (f total : ℕ) (r : Row) → 0 < total → AskedAt b f total r (record { unreleased = false; bits = 0 })
+unfolding askedRelease asked
+asked-nothing b f total r some = record { unreleased = rw (lt-ltb 0 total some) refl; bits = rw (lt-ltb 0 total some) refl }
 
 pub asked-whole : (b : Book) (f total : ℕ) (r : Row) (release bits : ℕ) → total ≤ 0 → release ≡ flowOf b f .release →
-    bits ≡ jobOf (flowOf b f) (r .job) .predecessors → AskedAt b f total r (record { early = ltb (r .slot) release; bits = bits })
-unfolding askedEarly asked
+    bits ≡ jobOf (flowOf b f) (r .job) .predecessors → AskedAt b f total r (record { unreleased = ltb (r .slot) release; bits = bits })
+unfolding askedRelease asked
 asked-whole b f total r release bits none release-is bits-are = record {
-  early = rw (le-ltb 0 total none, release-is) refl;
+  unreleased = rw (le-ltb 0 total none, release-is) refl;
   bits = rw (le-ltb 0 total none) bits-are;
 }

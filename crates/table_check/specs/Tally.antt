@@ -20,7 +20,7 @@ use Rattle.book.specs.Promise.{FlowStands}
 use Rattle.table_check.specs.declared.row.Current.{Current}
 use Rattle.table_check.specs.declared.row.Tested.{Tested}
 use Rattle.table_check.specs.declared.row.Asks.{Asks}
-use Rattle.table_check.specs.Tests.{testNumber, askedEarly, asked, readyAfter}
+use Rattle.table_check.specs.Tests.{testNumber, askedRelease, asked, readyAfter}
 
 -- what the code holds of the flow whose rows are walked
 pub record CurrentFlow (book : List ℕ) (c : Current) : Type 0 where
@@ -45,7 +45,7 @@ pub record RowTested (b : Book) (f : ℕ) (work : List ℕ) (least : ℕ) (r : r
 
 -- what 19 asks at a row of flow f whose job has this total so far
 pub record AskedAt (b : Book) (f total : ℕ) (r : rules.Row) (a : Asks) : Type 0 where
-  pub early : a .early ≡ askedEarly total (flowOf b f .release) (r .slot)
+  pub unreleased : a .unreleased ≡ askedRelease total (flowOf b f .release) (r .slot)
   pub bits : a .bits ≡ asked total (jobOf (flowOf b f) (r .job) .predecessors)
 
 -- there is room to count the row

@@ -80,9 +80,10 @@ testNumber b f used least r =
 unfoldable pub lacksAt : ℕ → ℕ → ℕ → ℕ → Bool
 lacksAt predecessors k slot ready = hasBit predecessors k && ltb slot ready
 
--- 19 is asked at a row of a job that has this total so far, where there is none: whether the row stands before the release (02, Req 01)
-unfoldable pub askedEarly : ℕ → ℕ → ℕ → Bool
-askedEarly total release slot = if ltb 0 total then false else ltb slot release
+-- what 19 asks at a row of a job that has this total so far: nothing where it has one, since its first row was asked; otherwise whether the row
+-- stands before the release (02, Req 01)
+unfoldable pub askedRelease : ℕ → ℕ → ℕ → Bool
+askedRelease total release slot = if ltb 0 total then false else ltb slot release
 
 -- and the predecessors, a bit each
 unfoldable pub asked : ℕ → ℕ → ℕ

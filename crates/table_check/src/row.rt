@@ -145,9 +145,9 @@ pub fn test_row(
     }
 }
 
-// What 19 asks at a row: whether it stands before the release, and which predecessors are complete, a bit each.
+// What 19 asks at a row: whether it stands before the release, and which predecessors are to be complete, a bit each.
 pub struct Asks {
-    pub early: bool,
+    pub unreleased: bool,
     pub bits: u64,
 }
 
@@ -159,13 +159,13 @@ pub fn to_ask(book: &[u8], totals: &[u32], c: Current, r: Row) -> Asks
     let i = bytes::wide(r.job);
     if 0 < totals[i] {
         return Asks {
-            early: false,
+            unreleased: false,
             bits: 0,
         };
     }
     let job = book::job_of(book, c.records, c.flow, i);
     Asks {
-        early: r.slot < c.release,
+        unreleased: r.slot < c.release,
         bits: job.predecessors,
     }
 }

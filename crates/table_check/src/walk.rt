@@ -67,7 +67,7 @@ pub fn walk_rows(
             break 'rows;
         }
         let asks = row::to_ask(book, totals, c, r);
-        if asks.early {
+        if asks.unreleased {
             bad = row::refused(19, r);
             break 'rows;
         }

@@ -7,7 +7,7 @@ use Rattle.rules.specs.Reading.{bookOf}
 use Rattle.table_check.specs.Tally.{rowsTo}
 use Rattle.table_check.proofs.Turns.{Going, Lent, going-first, lent-first, test-stops, turn-of}
 use Rattle.table_check.proofs.TableRows.{row-inside, more-rows}
-use Rattle.table_check.proofs.Counting.{job-in, slot-in, countable, early-stops, not-early, lent-next, going-next}
+use Rattle.table_check.proofs.Counting.{job-in, slot-in, countable, unreleased-stops, is-released, lent-next, going-next}
 use Rattle.table_check.proofs.Asking.{Asking, asking-first, asks-few, asking-next, asking-stops, asking-ends}
 use Rattle.table_check.proofs.Leaving.{walk-stops, walk-ends, walk-turns}
 use mathlib.Core.Path.{_∙_, sym}
@@ -76,7 +76,7 @@ loop-holds c =
     let here = read t .before .rows-test .taken in
     let turn = turn-of g here (read t .read-row .result) (read t .read-row .ensures) (sym (t .before .before .before .before .wide .ensures .0) ∙ t .before .before .if1 .left) (t .test-row .ensures)
     (c .before .before .before .if2 .left) in
-    asking-first g turn here (not-early g turn (c .before .to-ask .ensures .early) (c .if3 .left)) (c .before .to-ask .ensures .bits)
+    asking-first g turn here (is-released g turn (c .before .to-ask .ensures .unreleased) (c .if3 .left)) (c .before .to-ask .ensures .bits)
 
 mul-lacks : tie.Need-mul-lacks Inv-loop μ-loop Inv-rows μ-rows
 mul-lacks c = omega (arith, asks-few (c .before .loop .inv) (c .loop-test .taken))
@@ -188,7 +188,7 @@ returns-4 c =
     let here = read t .before .rows-test .taken in
     let turn = turn-of g here (read t .read-row .result) (read t .read-row .ensures) (sym (t .before .before .before .before .wide .ensures .0) ∙ t .before .before .if1 .left) (t .test-row .ensures)
     (c .before .before .before .before .if2 .left) in
-    walk-stops g (row t .rows .inv .1) (turn .more) (c .refused2 .ensures) (early-stops g turn (c .before .before .to-ask .ensures .early) (c .before .if3 .taken))
+    walk-stops g (row t .rows .inv .1) (turn .more) (c .refused2 .ensures) (unreleased-stops g turn (c .before .before .to-ask .ensures .unreleased) (c .before .if3 .taken))
 
 same-length-13 : tie.Need-same-length-13 Inv-loop μ-loop Inv-rows μ-rows
 same-length-13 c = row (tested (c .before .before .before .before .before)) .rows .inv .1 .totals-kept
