@@ -1,5 +1,5 @@
-# run: builds the program and plans book A. test: the gate. bench: ratios measured in one run, never a pass or fail.
-.PHONY: run test bench
+# run: builds the program and plans book A. test: the gate. bench, bench-between: ratios measured in one run, never a pass or fail.
+.PHONY: run test bench bench-between
 
 run:
 	rt check plan
@@ -12,3 +12,12 @@ bench:
 	rt staticlib flowplan
 	cd tests && cargo run --release --offline --quiet --bin bench_check
 	cd tests && cargo run --release --offline --quiet --bin bench_plan
+
+# This library beside that of an earlier commit: make bench-between BEFORE=COMMIT
+SHARED = cc -shared -Wl,-u,flowplan_plan -Wl,-u,flowplan_check
+bench-between:
+	rt staticlib flowplan
+	$(SHARED) target/staticlib/libflowplan.a -o target/after.so
+	before=$$(mktemp -d) && git clone -q . $$before && cd $$before && git checkout -q $(BEFORE) && rt staticlib flowplan && \
+	$(SHARED) target/staticlib/libflowplan.a -o $(CURDIR)/target/before.so && rm -rf $$before
+	cd tests && cargo run --release --offline --quiet --bin bench_between -- ../target/before.so ../target/after.so

@@ -4,6 +4,7 @@
 
 pub mod answer;
 pub mod books;
+pub mod cases;
 pub mod fast_planner;
 pub mod heads;
 pub mod lent;

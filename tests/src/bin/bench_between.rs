@@ -1,0 +1,161 @@
+//! Prints how long the calls of one library take beside those of another, on the
+//! books of the benchmarks, called in turn in one process with the same buffers.
+//! It judges nothing.
+//!
+//! usage: bench_between BEFORE.so AFTER.so [RUNS]
+
+use flowplan_tests::answer::{CheckAnswer, PlanAnswer, WORK_BYTES};
+use flowplan_tests::books::encode_book;
+use flowplan_tests::cases::{check_cases, plan_cases, Case};
+use flowplan_tests::fast_planner;
+use flowplan_tests::measure::in_turn;
+use std::cell::RefCell;
+use std::ffi::{c_char, c_int, c_void, CString};
+use std::hint::black_box;
+use std::mem::transmute;
+
+extern "C" {
+    fn dlopen(file: *const c_char, flags: c_int) -> *mut c_void;
+    fn dlsym(library: *mut c_void, name: *const c_char) -> *mut c_void;
+}
+
+/// Every name is bound as the library is opened.
+const NOW: c_int = 2;
+
+type PlanCall =
+    unsafe extern "C" fn(*const u8, usize, *mut u8, usize, *mut u8, usize) -> PlanAnswer;
+type CheckCall =
+    unsafe extern "C" fn(*const u8, usize, *const u8, usize, *mut u8, usize) -> CheckAnswer;
+
+/// The calls of a library.
+struct Library {
+    plan: PlanCall,
+    check: CheckCall,
+}
+
+impl Library {
+    fn open(file: &str) -> Library {
+        let path = CString::new(file).expect("a path without a zero byte");
+        // SAFETY: the library runs nothing as it is opened.
+        let library = unsafe { dlopen(path.as_ptr(), NOW) };
+        assert!(!library.is_null(), "{file} can be opened");
+        let find = |name: &str| {
+            let symbol = CString::new(name).expect("a name without a zero byte");
+            // SAFETY: the library is open, and stays so.
+            let found = unsafe { dlsym(library, symbol.as_ptr()) };
+            assert!(!found.is_null(), "{file} has {name}");
+            found
+        };
+        // SAFETY: the calls as include/flowplan.h declares them.
+        unsafe {
+            Library {
+                plan: transmute::<*mut c_void, PlanCall>(find("flowplan_plan")),
+                check: transmute::<*mut c_void, CheckCall>(find("flowplan_check")),
+            }
+        }
+    }
+
+    fn plan(&self, book: &[u8], output: &mut [u8], work: &mut [u8]) -> PlanAnswer {
+        let (bytes, area) = (output.as_mut_ptr(), work.as_mut_ptr());
+        // SAFETY: three slices that do not overlap.
+        unsafe {
+            (self.plan)(
+                book.as_ptr(),
+                book.len(),
+                bytes,
+                output.len(),
+                area,
+                work.len(),
+            )
+        }
+    }
+
+    fn check(&self, book: &[u8], table: &[u8], work: &mut [u8]) -> CheckAnswer {
+        let (bytes, area) = (table.as_ptr(), work.as_mut_ptr());
+        // SAFETY: three slices that do not overlap.
+        unsafe {
+            (self.check)(
+                book.as_ptr(),
+                book.len(),
+                bytes,
+                table.len(),
+                area,
+                work.len(),
+            )
+        }
+    }
+}
+
+/// The ratio of one case in each run; every other run begins with `before`.
+/// None where the two answer differently.
+fn ratios<A: PartialEq>(
+    case: &Case,
+    runs: usize,
+    before: &mut dyn FnMut() -> A,
+    after: &mut dyn FnMut() -> A,
+) -> Option<Vec<f64>> {
+    if before() != after() {
+        return None;
+    }
+    let (mut before, mut after) = (|| drop(before()), || drop(after()));
+    let mut ratios: Vec<f64> = (0..runs)
+        .map(|run| match run % 2 {
+            0 => in_turn(case.rounds, case.calls, &mut after, &mut before).ratio,
+            _ => 1.0 / in_turn(case.rounds, case.calls, &mut before, &mut after).ratio,
+        })
+        .collect();
+    ratios.sort_unstable_by(f64::total_cmp);
+    Some(ratios)
+}
+
+fn show(case: &Case, ratios: Option<Vec<f64>>) {
+    if let Some(heading) = case.heading {
+        println!("{heading}");
+    }
+    match ratios {
+        None => println!("{}: the two answer differently", case.name),
+        Some(r) => {
+            let (least, middle, most) = (r[0], r[r.len() / 2], r[r.len() - 1]);
+            println!("{}: {middle:.3} ({least:.3} to {most:.3})", case.name);
+        }
+    }
+}
+
+fn main() {
+    let arguments: Vec<String> = std::env::args().collect();
+    let [before, after] = [1, 2].map(|k| Library::open(&arguments[k]));
+    let runs = arguments
+        .get(3)
+        .map_or(6, |runs| runs.parse().expect("a number of runs"));
+    println!("after over before; above 1: the one after takes longer");
+    println!("median of {runs} runs, least and most; buffers are not cleared between calls");
+    let work = RefCell::new(vec![0x5a; WORK_BYTES]);
+    let output = RefCell::new(vec![0; 201_326_728]);
+    println!("planner:");
+    for case in plan_cases() {
+        let book = encode_book(&case.book);
+        let plan = |library: &Library| {
+            library.plan(
+                black_box(&book),
+                &mut output.borrow_mut(),
+                &mut work.borrow_mut(),
+            )
+        };
+        let found = ratios(&case, runs, &mut || plan(&before), &mut || plan(&after));
+        show(&case, found);
+    }
+    println!("check:");
+    for case in check_cases() {
+        let book = encode_book(&case.book);
+        let planned = {
+            let (mut output, mut work) = (output.borrow_mut(), work.borrow_mut());
+            fast_planner::plan(&book, &mut output, &mut work)
+        };
+        let table = output.borrow()[..planned.length as usize].to_vec();
+        let check = |library: &Library| {
+            library.check(black_box(&book), black_box(&table), &mut work.borrow_mut())
+        };
+        let found = ratios(&case, runs, &mut || check(&before), &mut || check(&after));
+        show(&case, found);
+    }
+}
