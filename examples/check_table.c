@@ -8,9 +8,10 @@
  *
  * Without arguments it takes the marked book A and its table, which must be
  * accepted, then the same table with a row moved to a slot that is too full,
- * which must be refused. So with the marked book G: its table, and then with a
- * row moved to a slot before its flow's release. The exit status is 0 when all
- * are answered so.
+ * which must be refused. So with the marked book E, where a cap is above P: its
+ * table, and then with a row that gives that job one processor more than P. So
+ * with the marked book G: its table, and then with a row moved to a slot before
+ * its flow's release. The exit status is 0 when all are answered so.
  */
 #include <stdint.h>
 #include <stdio.h>
@@ -43,6 +44,21 @@ static const uint8_t table_a[] = {
     0x00, 0x03, 0x00, 0x00, 0x00, 0x01,
     0x00, 0x04, 0x00, 0x01, 0x00, 0x03,
     0x00, 0x05, 0x00, 0x01, 0x00, 0x01
+};
+
+/* The table of book E, which is book A with P 2. */
+static const uint8_t table_e[] = {
+    0x00, 0x00, 0x00, 0x42, 0x01, 0x00, 0x02, 0x02, /* 66 bytes, P 2, 2 flows */
+    0x00, 0x08, 0x00, 0x03,                         /* finishes 8 and 3 */
+    0x00, 0x00, 0x01, 0x00, 0x00, 0x02,             /* slot, flow, job, take */
+    0x00, 0x01, 0x01, 0x00, 0x00, 0x02,
+    0x00, 0x02, 0x01, 0x00, 0x00, 0x01,
+    0x00, 0x02, 0x00, 0x00, 0x00, 0x01,
+    0x00, 0x03, 0x00, 0x00, 0x00, 0x02,
+    0x00, 0x04, 0x00, 0x00, 0x00, 0x01,
+    0x00, 0x05, 0x00, 0x00, 0x00, 0x01,
+    0x00, 0x06, 0x00, 0x01, 0x00, 0x02,
+    0x00, 0x07, 0x00, 0x01, 0x00, 0x02
 };
 
 /* Version 2: flow 0 may not begin before slot 2. */
@@ -127,13 +143,20 @@ int main(int count, char **arguments)
 {
     if (count == 1) {
         uint8_t full[sizeof table_a], early[sizeof table_g];
+        uint8_t book_e[sizeof book_a], wide[sizeof table_e];
 
         memcpy(full, table_a, sizeof full);
         full[12 + 7 * 6 + 1] = 3; /* the eighth row to slot 3 */
+        memcpy(book_e, book_a, sizeof book_e);
+        book_e[6] = 2; /* P 2: the cap of 3 counts as 2 */
+        memcpy(wide, table_e, sizeof wide);
+        wide[12 + 7 * 6 + 5] = 3; /* the eighth row takes 3 */
         memcpy(early, table_g, sizeof early);
         early[12 + 3 * 6 + 1] = 1; /* the fourth row to slot 1 */
         int as_said = check(book_a, sizeof book_a, table_a, sizeof table_a) == 0;
         as_said &= check(book_a, sizeof book_a, full, sizeof full) == 1;
+        as_said &= check(book_e, sizeof book_e, table_e, sizeof table_e) == 0;
+        as_said &= check(book_e, sizeof book_e, wide, sizeof wide) == 1;
         as_said &= check(book_g, sizeof book_g, table_g, sizeof table_g) == 0;
         as_said &= check(book_g, sizeof book_g, early, sizeof early) == 1;
         return as_said ? 0 : 1;

@@ -3,13 +3,15 @@
  *
  *     dispatcher [BOOK]
  *
- * Without an argument it takes the marked books A and G, the second with a
- * release. The exit status is 0 when each book was planned, 1 when one was
- * refused and 2 when something else failed.
+ * Without an argument it takes the marked books A, E and G: the second is A for a
+ * cluster smaller than one of its caps, the third has a release. The exit status
+ * is 0 when each book was planned, 1 when one was refused and 2 when something
+ * else failed.
  */
 #include <stdint.h>
 #include <stdio.h>
 #include <stdlib.h>
+#include <string.h>
 
 #include "flowplan.h"
 
@@ -128,11 +130,18 @@ int main(int count, char **arguments)
     static uint8_t book[FLOWPLAN_LONGEST_BOOK + 1];
 
     if (count == 1) {
+        uint8_t book_e[sizeof book_a];
+
+        memcpy(book_e, book_a, sizeof book_e);
+        book_e[6] = 2; /* P 2: the cap of 3 counts as 2 */
         printf("book A\n");
         int of_a = dispatch(book_a, sizeof book_a);
+        printf("book E\n");
+        int of_e = dispatch(book_e, sizeof book_e);
         printf("book G\n");
         int of_g = dispatch(book_g, sizeof book_g);
-        return of_a > of_g ? of_a : of_g;
+        int worst = of_a > of_e ? of_a : of_e;
+        return worst > of_g ? worst : of_g;
     }
     if (count != 2) {
         fprintf(stderr, "usage: dispatcher [BOOK]\n");

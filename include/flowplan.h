@@ -6,6 +6,8 @@
  *   2  Req 01, releases: book version 2, so that number 2 is any other version;
  *      number 22; number 19 also for a row before its flow's release; a larger
  *      FLOWPLAN_LONGEST_BOOK
+ *   3  Req 02, caps larger than the cluster: a cap above P, up to 65,535, counts
+ *      as P; number 9 is only a cap of 0
  *
  * Every call takes every sequence of bytes, comes to an end on each, allocates
  * nothing and keeps nothing between calls.
@@ -25,7 +27,7 @@
  *     jobs                               1    1 to 64
  *     then for each job
  *       size in processor-slots          4    1 to 1,000,000
- *       cap                              2    1 to P
+ *       cap                              2    1 to 65,535; above P it counts as P
  *       predecessors                     8    bit k, bit 0 the lowest: job k of
  *                                             the same flow must be complete
  *                                             first; only lower jobs
@@ -40,7 +42,7 @@
  *     slot                               2    the flow's release to 8,191
  *     flow                               1
  *     job                                1
- *     processors                         2    1 to the job's cap
+ *     processors                         2    1 to the job's cap, at most P
  *   Rows stand by service order of the flow, then slot, then job, all strictly
  *   rising. Service order is by deadline, equal deadlines by place in the book.
  *
@@ -68,7 +70,7 @@ extern "C" {
 #endif
 
 /* What changed from version to version stands at the top. */
-#define FLOWPLAN_HEADER_VERSION 2
+#define FLOWPLAN_HEADER_VERSION 3
 
 /* Bytes of the work area that are used, and the slots that they stand for. */
 #define FLOWPLAN_WORK_BYTES 16384
@@ -118,7 +120,7 @@ enum flowplan_number {
     FLOWPLAN_JOBS = 7,
     /* size out of range; flow, job */
     FLOWPLAN_SIZE = 8,
-    /* cap out of range; flow, job */
+    /* a cap of 0; flow, job */
     FLOWPLAN_CAP = 9,
     /* predecessor bit at or above the job's own number; flow, job */
     FLOWPLAN_PREDECESSOR = 10,
@@ -137,7 +139,7 @@ enum flowplan_number {
     FLOWPLAN_ROW_RANGE = 15,
     /* row not after the one before it; row's flow, job */
     FLOWPLAN_ROW_ORDER = 16,
-    /* more than the cap; row's flow, job */
+    /* more than the cap, or than P where the cap is above P; row's flow, job */
     FLOWPLAN_ROW_CAP = 17,
     /* more than P used in the slot by the rows so far, this one counted; row's
        flow, job */

@@ -1,9 +1,9 @@
 //! Encoders of books and tables, seeded generators of order books over every
-//! range and of releases, and damage to books of either version.
+//! range, of caps and of releases, and damage to books of either version.
 
 use crate::reader::{
-    be16, Book, Flow, Job, Version, BOOK_HEAD, JOB_RECORD, MOST_DEADLINE, MOST_FLOWS, MOST_JOBS,
-    MOST_PROCESSORS, MOST_SIZE,
+    be16, Book, Flow, Job, Version, BOOK_HEAD, JOB_RECORD, MOST_CAP, MOST_DEADLINE, MOST_FLOWS,
+    MOST_JOBS, MOST_PROCESSORS, MOST_SIZE,
 };
 use crate::rng::Rng;
 use crate::second_check::Row;
@@ -111,12 +111,81 @@ pub fn with_releases(rng: &mut Rng, mut book: Book) -> Book {
     book
 }
 
+/// How the caps of a book are drawn anew. The families below draw none above P.
+#[derive(Clone, Copy)]
+enum Caps {
+    /// As they were.
+    AsDrawn,
+    /// Those at P stand above it: a plan stays what it was.
+    Widest,
+    /// Each by itself, edges often.
+    Any,
+    /// All above P.
+    AllAbove,
+    /// As they were, in a book for fewer processors.
+    FewerProcessors,
+}
+
+/// A cap above P: the least, the most, near the most or any.
+fn cap_above(rng: &mut Rng, processors: u32) -> u32 {
+    let (least, most) = (u64::from(processors) + 1, u64::from(MOST_CAP));
+    let cap = match rng.below(8) {
+        0..=2 => least,
+        3 | 4 => most,
+        5 => most - rng.range(1, 8),
+        6 => rng.skewed(least, most),
+        _ => rng.range(least, most),
+    };
+    cap as u32
+}
+
+/// The book with caps below, at and above P, and often with deadlines that are
+/// near what it needs with them.
+pub fn with_caps(rng: &mut Rng, mut book: Book) -> Book {
+    let how = match rng.below(8) {
+        0 | 1 => Caps::AsDrawn,
+        2 | 3 => Caps::Widest,
+        4 | 5 => Caps::Any,
+        6 => Caps::AllAbove,
+        _ => Caps::FewerProcessors,
+    };
+    if let Caps::FewerProcessors = how {
+        book.processors = rng.range(1, u64::from(book.processors)) as u32;
+    }
+    let processors = book.processors;
+    for job in book.flows.iter_mut().flat_map(|flow| &mut flow.jobs) {
+        job.cap = match how {
+            Caps::AsDrawn | Caps::FewerProcessors => job.cap,
+            Caps::Widest if job.cap < processors => job.cap,
+            Caps::Widest | Caps::AllAbove => cap_above(rng, processors),
+            Caps::Any => match rng.below(6) {
+                0 => job.cap,
+                1 => (processors - 1).max(1),
+                2 => processors,
+                _ => cap_above(rng, processors),
+            },
+        };
+    }
+    if !matches!(how, Caps::AsDrawn | Caps::Widest) && rng.chance(1, 2) {
+        let how = rng.pick(&[Deadlines::Fair, Deadlines::Tight]);
+        draw_deadlines(rng, &mut book, how);
+    }
+    book
+}
+
+/// Whether some cap of the book is above P.
+pub fn has_cap_above(book: &Book) -> bool {
+    let mut jobs = book.flows.iter().flat_map(|flow| &flow.jobs);
+    jobs.any(|job| job.cap > book.processors)
+}
+
 /// One of the ways below to draw a book.
 pub type Family = fn(&mut Rng) -> Book;
 
-/// A book of a family in a version.
+/// A book of a family in a version, with caps of every kind.
 pub fn drawn(rng: &mut Rng, version: Version, family: Family) -> Book {
     let book = family(rng);
+    let book = with_caps(rng, book);
     in_version(rng, version, book)
 }
 
@@ -237,7 +306,7 @@ fn draw_deadlines(rng: &mut Rng, book: &mut Book, how: Deadlines) {
     let pair = [rng.range(1, most), rng.skewed(1, most)];
     let mut work_before = 0;
     for flow in &mut book.flows {
-        let path = critical_path(flow);
+        let path = critical_path(flow, book.processors);
         let work: u64 = flow.jobs.iter().map(|job| u64::from(job.size)).sum();
         work_before += work;
         let need = path + work_before / u64::from(book.processors);
@@ -277,7 +346,7 @@ fn spread_deadlines(rng: &mut Rng, book: &mut Book) {
     for flow in order {
         let flow = &mut book.flows[flow];
         let work: u64 = flow.jobs.iter().map(|job| u64::from(job.size)).sum();
-        let alone = critical_path(flow) + work / u64::from(book.processors);
+        let alone = critical_path(flow, book.processors) + work / u64::from(book.processors);
         end += rng.range(alone / 2, alone + 1);
         flow.deadline = end.clamp(1, u64::from(MOST_DEADLINE)) as u32;
     }
@@ -551,7 +620,7 @@ fn version_of(bytes: &[u8]) -> Version {
 
 /// Where the heads and records of a book start, as its own version and counts
 /// say.
-fn marks(bytes: &[u8]) -> (Vec<usize>, Vec<usize>) {
+pub fn marks(bytes: &[u8]) -> (Vec<usize>, Vec<usize>) {
     let flow_head = version_of(bytes).flow_head();
     let (mut heads, mut records) = (Vec::new(), Vec::new());
     let mut at = BOOK_HEAD;
@@ -646,8 +715,15 @@ pub fn damage_book_once(rng: &mut Rng, bytes: &mut Vec<u8>) {
         }
         8 | 9 if !records.is_empty() => {
             let at = rng.pick(&records);
-            let processors = u64::from(bytes[5]) << 8 | u64::from(bytes[6]);
-            let value = rng.pick(&[0, processors + 1, processors, 65_535, 1]);
+            // Only 0 is a fault; the others stand at the edges of what is used.
+            let processors = u64::from(be16(bytes, 5));
+            let below = processors.saturating_sub(1);
+            let edges = [1, below, processors, processors + 1, 65_535];
+            let value = if rng.chance(1, 2) {
+                0
+            } else {
+                rng.pick(&edges)
+            };
             put16(bytes, at + 4, value);
         }
         10 | 11 if !records.is_empty() => {

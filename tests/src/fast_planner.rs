@@ -22,24 +22,27 @@ struct PseudoJob {
     parts: Vec<Part>,
 }
 
-/// One job of the ideal schedule: its start, the slot from which it takes the
-/// rest, and its end.
+/// One job of the ideal schedule: its cap as used, its start, the slot from which
+/// it takes the rest, and its end.
 struct Ideal {
+    cap: u32,
     start: u32,
     rest_from: u32,
     end: u32,
 }
 
-fn chain(flow: &Flow) -> Vec<PseudoJob> {
+fn chain(flow: &Flow, processors: u32) -> Vec<PseudoJob> {
     let mut ideal: Vec<Ideal> = Vec::with_capacity(flow.jobs.len());
     let mut points: Vec<u32> = Vec::with_capacity(3 * flow.jobs.len());
     for job in &flow.jobs {
         let ends = predecessors(job.precedence).map(|k| ideal[k].end);
         let start = ends.max().unwrap_or(0);
-        let rest_from = start + job.size / job.cap;
-        let end = start + job.size.div_ceil(job.cap);
+        let cap = job.cap_in_use(processors);
+        let rest_from = start + job.size / cap;
+        let end = start + job.size.div_ceil(cap);
         points.extend([start, rest_from, end]);
         ideal.push(Ideal {
+            cap,
             start,
             rest_from,
             end,
@@ -57,9 +60,9 @@ fn chain(flow: &Flow) -> Vec<PseudoJob> {
                 continue;
             }
             let take = if from < ideal.rest_from {
-                job.cap
+                ideal.cap
             } else {
-                job.size % job.cap
+                job.size % ideal.cap
             };
             parts.push(Part {
                 job: number as u8,
@@ -217,7 +220,7 @@ fn plan_read(
     let mut chains = Vec::with_capacity(order.len());
     for &number in &order {
         let flow = &book.flows[number];
-        let chain = chain(flow);
+        let chain = chain(flow, book.processors);
         let finish = place(book, number, &chain, used, &mut count);
         let finish = finish.ok_or(Refusal::new(12, number as u8, NONE))?;
         late += u8::from(u32::from(finish) > flow.deadline);

@@ -4,12 +4,14 @@
 
 pub mod answer;
 pub mod books;
+pub mod caps;
 pub mod cases;
 pub mod fast_planner;
 pub mod heads;
 pub mod lent;
 pub mod linked;
 pub mod linked_plan;
+pub mod lowered;
 pub mod marked;
 pub mod measure;
 pub mod painted;

@@ -2,7 +2,7 @@
 
 use crate::answer::{CheckAnswer, PlanAnswer, Refusal, WORK_BYTES};
 use crate::books::{encode_book, encode_table, fit_length};
-use crate::reader::{Book, Flow, Job, Version};
+use crate::reader::{Book, Flow, Job, Version, VERSIONS};
 use crate::second_check::Row;
 
 pub type Planner = fn(&[u8], &mut [u8], &mut [u8]) -> PlanAnswer;
@@ -47,6 +47,55 @@ const ROWS_B: [[u16; 4]; 8] = [
     [2, 1, 0, 1],
     [2, 1, 1, 1],
 ];
+
+/// Slot, flow, job and take of the rows of plan E. Flow 1 leaves one processor of
+/// slot 2. The chain of flow 0 is twice 2 and then 1 for job 0, and twice 2 for
+/// job 1, whose cap of 3 counts as 2; its first pseudo-job gets 1, 2 and 1.
+const ROWS_E: [[u16; 4]; 9] = [
+    [0, 1, 0, 2],
+    [1, 1, 0, 2],
+    [2, 1, 0, 1],
+    [2, 0, 0, 1],
+    [3, 0, 0, 2],
+    [4, 0, 0, 1],
+    [5, 0, 0, 1],
+    [6, 0, 1, 2],
+    [7, 0, 1, 2],
+];
+
+/// The use of each slot in plan E.
+const USED_E: [u16; 8] = [2, 2, 2, 2, 1, 1, 2, 2];
+
+/// Table E, byte for byte.
+pub const TABLE_E: [u8; 66] = [
+    0x00, 0x00, 0x00, 0x42, 0x01, 0x00, 0x02, 0x02, // 66 bytes, version 1, P 2, 2 flows
+    0x00, 0x08, 0x00, 0x03, // finishes 8 and 3
+    0x00, 0x00, 0x01, 0x00, 0x00, 0x02, // slot, flow, job, take
+    0x00, 0x01, 0x01, 0x00, 0x00, 0x02, //
+    0x00, 0x02, 0x01, 0x00, 0x00, 0x01, //
+    0x00, 0x02, 0x00, 0x00, 0x00, 0x01, //
+    0x00, 0x03, 0x00, 0x00, 0x00, 0x02, //
+    0x00, 0x04, 0x00, 0x00, 0x00, 0x01, //
+    0x00, 0x05, 0x00, 0x00, 0x00, 0x01, //
+    0x00, 0x06, 0x00, 0x01, 0x00, 0x02, //
+    0x00, 0x07, 0x00, 0x01, 0x00, 0x02, //
+];
+
+/// What the program prints of plan E.
+pub const TEXT_E: &str = "\
+table 66 late 1
+finish 0 8
+finish 1 3
+slot 0 flow 1 job 0 take 2
+slot 1 flow 1 job 0 take 2
+slot 2 flow 1 job 0 take 1
+slot 2 flow 0 job 0 take 1
+slot 3 flow 0 job 0 take 2
+slot 4 flow 0 job 0 take 1
+slot 5 flow 0 job 0 take 1
+slot 6 flow 0 job 1 take 2
+slot 7 flow 0 job 1 take 2
+";
 
 /// Book G, of version 2.
 pub const BOOK_G: [u8; 46] = [
@@ -142,6 +191,30 @@ pub fn book_e() -> Vec<u8> {
     book
 }
 
+/// The values of book E in a version, with a cap for job 1 of flow 0. At 3 they
+/// are those of the book itself.
+pub fn book_e_capped(version: Version, cap: u32) -> Vec<u8> {
+    let second = Job {
+        precedence: 1,
+        ..free(4, cap)
+    };
+    let flows = vec![
+        Flow::new(5, vec![free(5, 2), second]),
+        Flow::new(3, vec![free(5, 2)]),
+    ];
+    encode_book(&Book {
+        version,
+        ..Book::new(2, flows)
+    })
+}
+
+/// Table E with another take in a row.
+fn table_e(row: usize, take: u16) -> Vec<u8> {
+    let mut listed = ROWS_E;
+    listed[row][3] = take;
+    encode_table(2, &[8, 3], &rows(&listed))
+}
+
 /// Table A with its eighth row moved to slot 3, with the take as it was or 2.
 pub fn table_f(take: u16) -> Vec<u8> {
     let mut listed = ROWS_A;
@@ -179,7 +252,7 @@ fn with_g(finish: u16, of_flow_0: &[[u16; 4]]) -> Vec<u8> {
     encode_table(3, &[finish, 3], &rows(&listed))
 }
 
-fn planned(plan: Planner, book: &[u8], table: &[u8], late: u8, used: &[u16]) {
+pub fn planned(plan: Planner, book: &[u8], table: &[u8], late: u8, used: &[u16]) {
     for room in [table.len(), table.len() + 1, table.len() + 100] {
         let mut output = vec![JUNK; room];
         let mut work = vec![JUNK; WORK_BYTES + 3];
@@ -202,7 +275,7 @@ pub fn not_planned(plan: Planner, book: &[u8], room: usize, refusal: Refusal) {
     left_by(refusal, &work);
 }
 
-fn checked(check: Check, book: &[u8], table: &[u8], late: u8, used: &[u16]) {
+pub fn checked(check: Check, book: &[u8], table: &[u8], late: u8, used: &[u16]) {
     let mut work = vec![JUNK; WORK_BYTES + 3];
     let answer = check(book, table, &mut work);
     assert_eq!(answer, CheckAnswer::accepted(late));
@@ -247,7 +320,15 @@ pub fn hold_planner(plan: Planner) {
         let book = book_d(u32::from(processors));
         not_planned(plan, &book, 7, Refusal::of_all(13));
     }
-    not_planned(plan, &book_e(), 100, Refusal::new(9, 0, 1));
+    assert_eq!(book_e_capped(Version::One, 3), book_e());
+    planned(plan, &book_e(), &TABLE_E, 1, &USED_E);
+    for version in VERSIONS {
+        for cap in [2, 3, 65_535] {
+            planned(plan, &book_e_capped(version, cap), &TABLE_E, 1, &USED_E);
+        }
+        let book = book_e_capped(version, 0);
+        not_planned(plan, &book, 100, Refusal::new(9, 0, 1));
+    }
     planned(plan, &BOOK_G, &table_g(), 0, &[2, 2, 3, 2, 1, 1]);
     // In version 1 the release is 0.
     for book in [book_g(Version::One, 0), book_g(Version::Two, 0)] {
@@ -276,7 +357,21 @@ pub fn hold_check(check: Check) {
         let book = book_d(u32::from(processors));
         checked(check, &book, &table_d(processors), 0, &[]);
     }
-    not_checked(check, &book_e(), &table_a(), Refusal::new(9, 0, 1));
+    assert_eq!(table_e(7, 2), TABLE_E);
+    checked(check, &book_e(), &TABLE_E, 1, &USED_E);
+    not_checked(check, &book_e(), &table_a(), Refusal::of_all(14));
+    for version in VERSIONS {
+        for cap in [2, 3, 65_535] {
+            let book = book_e_capped(version, cap);
+            checked(check, &book, &TABLE_E, 1, &USED_E);
+            // One more than P to job 1 is more than its cap.
+            for row in [7, 8] {
+                not_checked(check, &book, &table_e(row, 3), Refusal::new(17, 0, 1));
+            }
+        }
+        let book = book_e_capped(version, 0);
+        not_checked(check, &book, &TABLE_E, Refusal::new(9, 0, 1));
+    }
     not_checked(check, &BOOK_A, &table_f(3), Refusal::new(18, 0, 1));
     not_checked(check, &BOOK_A, &table_f(2), Refusal::new(19, 0, 1));
     let mut short = table_a();

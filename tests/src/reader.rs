@@ -7,19 +7,35 @@ use crate::answer::{Refusal, NONE};
 pub const BOOK_HEAD: usize = 8;
 pub const JOB_RECORD: usize = 14;
 
-/// The most that each field may be; the least is 1 (0 for the flows).
+/// The most that each field may be; the least is 1 (0 for the flows). A cap may be
+/// all that its two bytes can say.
 pub const MOST_PROCESSORS: u32 = 4_096;
 pub const MOST_FLOWS: usize = 64;
 pub const MOST_DEADLINE: u32 = 4_096;
 pub const MOST_JOBS: usize = 64;
 pub const MOST_SIZE: u32 = 1_000_000;
+pub const MOST_CAP: u32 = 65_535;
 
-/// One job: size in processor-slots, cap, and the jobs that precede it.
+/// One job: size in processor-slots, cap as it stands in the book, and the jobs
+/// that precede it.
 #[derive(Clone, Copy, Debug, PartialEq, Eq)]
 pub struct Job {
     pub size: u32,
     pub cap: u32,
     pub precedence: u64,
+}
+
+impl Job {
+    /// The cap as it is used on P processors.
+    pub fn cap_in_use(&self, processors: u32) -> u32 {
+        cap_in_use(self.cap, processors)
+    }
+}
+
+/// A cap above P counts as P. This is the one place where a cap is lowered.
+#[inline]
+pub fn cap_in_use(cap: u32, processors: u32) -> u32 {
+    cap.min(processors)
 }
 
 /// One flow: deadline and release in slots, and its jobs.
@@ -196,7 +212,7 @@ pub fn read_book(bytes: &[u8]) -> Result<Book, Refusal> {
             if !(1..=MOST_SIZE).contains(&size) {
                 return Err(Refusal::new(8, flow, job));
             }
-            if !(1..=processors).contains(&cap) {
+            if cap == 0 {
                 return Err(Refusal::new(9, flow, job));
             }
             if precedence >> job != 0 {

@@ -5,8 +5,8 @@
 
 use crate::answer::{CheckAnswer, Refusal, NONE, SLOTS, WORK_BYTES};
 use crate::reader::{
-    be16, be32, be64, read_book, Book, Version, BOOK_HEAD, JOB_RECORD, MOST_DEADLINE, MOST_FLOWS,
-    MOST_JOBS, MOST_PROCESSORS, MOST_SIZE,
+    be16, be32, be64, cap_in_use, read_book, Book, Version, BOOK_HEAD, JOB_RECORD, MOST_DEADLINE,
+    MOST_FLOWS, MOST_JOBS, MOST_PROCESSORS, MOST_SIZE,
 };
 
 /// Bytes of the table's head, of one finish and of one row.
@@ -23,7 +23,7 @@ pub struct Row {
     pub take: u16,
 }
 
-fn row_at(rows: &[u8]) -> Row {
+pub fn row_at(rows: &[u8]) -> Row {
     Row {
         slot: be16(rows, 0) as u16,
         flow: rows[2],
@@ -45,7 +45,8 @@ struct Index<'a> {
     records: [Records<'a>; MOST_FLOWS],
 }
 
-/// One job of the flow whose rows are walked, with the sum of its rows so far.
+/// One job of the flow whose rows are walked, its cap as used, with the sum of its
+/// rows so far.
 #[derive(Clone, Copy)]
 struct Ledger {
     size: u32,
@@ -157,7 +158,7 @@ fn index(bytes: &[u8]) -> Result<Index<'_>, Refusal> {
         }
         let (records, _) = jobs.as_chunks::<JOB_RECORD>();
         let records = &records[..count.min(records.len())];
-        records_fit(flow as u8, processors, records)?;
+        records_fit(flow as u8, records)?;
         if records.len() < count {
             return Err(Refusal::new(5, flow as u8, records.len() as u8));
         }
@@ -173,13 +174,13 @@ fn index(bytes: &[u8]) -> Result<Index<'_>, Refusal> {
 }
 
 /// 8, 9, 10 for each job record.
-fn records_fit(flow: u8, processors: u32, records: Records) -> Result<(), Refusal> {
+fn records_fit(flow: u8, records: Records) -> Result<(), Refusal> {
     for (job, record) in records.iter().enumerate() {
         let refuse = |number| Err(Refusal::new(number, flow, job as u8));
         if !(1..=MOST_SIZE).contains(&be32(record, 0)) {
             return refuse(8);
         }
-        if !(1..=processors).contains(&be16(record, 4)) {
+        if be16(record, 4) == 0 {
             return refuse(9);
         }
         if be64(record, 6) >> job != 0 {
@@ -226,7 +227,7 @@ fn walk(book: &Index, table: &[u8], work: &mut [u8; WORK_BYTES]) -> Result<u8, R
         let service = Some((book.deadlines[at], flow));
         let least = if service > before { 0 } else { u32::MAX };
         let release = book.releases[at];
-        let ledgers = open(records, &mut ledgers);
+        let ledgers = open(book.processors, records, &mut ledgers);
         let finish;
         (finish, rows) = walk_flow(flow, least, release, book.processors, ledgers, used, rows)?;
         tally.finishes[at] = finish;
@@ -237,11 +238,15 @@ fn walk(book: &Index, table: &[u8], work: &mut [u8; WORK_BYTES]) -> Result<u8, R
 }
 
 /// Fresh ledgers for the jobs of a flow.
-fn open<'a>(records: Records, ledgers: &'a mut [Ledger; MOST_JOBS]) -> &'a mut [Ledger] {
+fn open<'a>(
+    processors: u32,
+    records: Records,
+    ledgers: &'a mut [Ledger; MOST_JOBS],
+) -> &'a mut [Ledger] {
     for (ledger, record) in ledgers.iter_mut().zip(records) {
         *ledger = Ledger {
             size: be32(record, 0),
-            cap: be16(record, 4) as u16,
+            cap: cap_in_use(be16(record, 4), processors) as u16,
             precedence: be64(record, 6),
             total: 0,
         };
@@ -405,7 +410,7 @@ fn judge(book: &Book, table: &[u8]) -> Result<(u8, Vec<Row>), Refusal> {
                 return refuse(16);
             }
         }
-        if u32::from(row.take) > job.cap {
+        if u32::from(row.take) > job.cap_in_use(book.processors) {
             return refuse(17);
         }
         if use_of(so_far, row.slot) > book.processors {

@@ -29,16 +29,18 @@ impl PseudoJob {
     }
 }
 
-/// Rule 1: slots that a job lasts with endless processors.
-pub fn duration(job: &Job) -> u64 {
-    u64::from(job.size.div_ceil(job.cap))
+/// Rule 1: slots that a job lasts with endless processors. Its cap is still lowered
+/// to P, as everywhere below.
+pub fn duration(job: &Job, processors: u32) -> u64 {
+    u64::from(job.size.div_ceil(job.cap_in_use(processors)))
 }
 
 /// Rule 2: start of each job with endless processors.
-pub fn ideal_starts(flow: &Flow) -> Vec<u64> {
+pub fn ideal_starts(flow: &Flow, processors: u32) -> Vec<u64> {
     let mut starts: Vec<u64> = Vec::with_capacity(flow.jobs.len());
     for job in &flow.jobs {
-        let ends = predecessors(job.precedence).map(|k| starts[k] + duration(&flow.jobs[k]));
+        let end = |k: usize| starts[k] + duration(&flow.jobs[k], processors);
+        let ends = predecessors(job.precedence).map(end);
         let start = ends.max().unwrap_or(0);
         starts.push(start);
     }
@@ -46,39 +48,40 @@ pub fn ideal_starts(flow: &Flow) -> Vec<u64> {
 }
 
 /// Rule 2: the critical path, the largest end.
-pub fn critical_path(flow: &Flow) -> u64 {
-    let ends = ideal_starts(flow)
+pub fn critical_path(flow: &Flow, processors: u32) -> u64 {
+    let ends = ideal_starts(flow, processors)
         .into_iter()
         .zip(&flow.jobs)
-        .map(|(start, job)| start + duration(job));
+        .map(|(start, job)| start + duration(job, processors));
     ends.max().expect("a flow has a job")
 }
 
 /// Rule 1: what a job takes in one ideal slot.
-fn ideal_take(job: &Job, start: u64, slot: u64) -> u32 {
-    let last = start + duration(job) - 1;
+fn ideal_take(job: &Job, processors: u32, start: u64, slot: u64) -> u32 {
+    let lasts = duration(job, processors);
+    let last = start + lasts - 1;
     if slot < start || slot > last {
         0
     } else if slot < last {
-        job.cap
+        job.cap_in_use(processors)
     } else {
-        job.size - job.cap * (duration(job) as u32 - 1)
+        job.size - job.cap_in_use(processors) * (lasts as u32 - 1)
     }
 }
 
-fn ideal_takes(flow: &Flow, starts: &[u64], slot: u64, takes: &mut Vec<u32>) {
+fn ideal_takes(flow: &Flow, processors: u32, starts: &[u64], slot: u64, takes: &mut Vec<u32>) {
     takes.clear();
     let jobs = flow.jobs.iter().zip(starts);
-    takes.extend(jobs.map(|(job, &start)| ideal_take(job, start, slot)));
+    takes.extend(jobs.map(|(job, &start)| ideal_take(job, processors, start, slot)));
 }
 
 /// Rule 3, literally: looks at every slot of the ideal time.
-pub fn chain_by_slots(flow: &Flow) -> Vec<PseudoJob> {
-    let starts = ideal_starts(flow);
+pub fn chain_by_slots(flow: &Flow, processors: u32) -> Vec<PseudoJob> {
+    let starts = ideal_starts(flow, processors);
     let mut chain: Vec<PseudoJob> = Vec::new();
     let mut takes = Vec::new();
-    for slot in 0..critical_path(flow) {
-        ideal_takes(flow, &starts, slot, &mut takes);
+    for slot in 0..critical_path(flow, processors) {
+        ideal_takes(flow, processors, &starts, slot, &mut takes);
         match chain.last_mut() {
             Some(last) if last.takes == takes => last.width += 1,
             _ => chain.push(PseudoJob {
@@ -92,11 +95,11 @@ pub fn chain_by_slots(flow: &Flow) -> Vec<PseudoJob> {
 
 /// Rule 3 for long paths: looks only at the slots where some job's take can
 /// differ from the slot before, and joins runs that turn out alike.
-pub fn chain_by_change_points(flow: &Flow) -> Vec<PseudoJob> {
-    let starts = ideal_starts(flow);
+pub fn chain_by_change_points(flow: &Flow, processors: u32) -> Vec<PseudoJob> {
+    let starts = ideal_starts(flow, processors);
     let mut points = vec![0];
     for (job, &start) in flow.jobs.iter().zip(&starts) {
-        let end = start + duration(job);
+        let end = start + duration(job, processors);
         points.extend([start, end - 1, end]);
     }
     points.sort_unstable();
@@ -105,7 +108,7 @@ pub fn chain_by_change_points(flow: &Flow) -> Vec<PseudoJob> {
     let mut takes = Vec::new();
     for pair in points.windows(2) {
         let width = pair[1] - pair[0];
-        ideal_takes(flow, &starts, pair[0], &mut takes);
+        ideal_takes(flow, processors, &starts, pair[0], &mut takes);
         match chain.last_mut() {
             Some(last) if last.takes == takes => last.width += width,
             _ => chain.push(PseudoJob {
@@ -118,11 +121,11 @@ pub fn chain_by_change_points(flow: &Flow) -> Vec<PseudoJob> {
 }
 
 /// Rule 3: the chain of pseudo-jobs of a flow.
-pub fn chain(flow: &Flow) -> Vec<PseudoJob> {
-    if critical_path(flow) <= LITERAL_PATH {
-        chain_by_slots(flow)
+pub fn chain(flow: &Flow, processors: u32) -> Vec<PseudoJob> {
+    if critical_path(flow, processors) <= LITERAL_PATH {
+        chain_by_slots(flow, processors)
     } else {
-        chain_by_change_points(flow)
+        chain_by_change_points(flow, processors)
     }
 }
 
@@ -181,7 +184,7 @@ pub fn schedule(book: &Book) -> Result<Schedule, u8> {
 /// after slot 2 x deadline - 1. Slots before its release give it nothing.
 fn place(book: &Book, number: usize, used: &mut [u32], rows: &mut Vec<Row>) -> Option<u16> {
     let flow = &book.flows[number];
-    let chain = chain(flow);
+    let chain = chain(flow, book.processors);
     let mut shares = vec![0u16; flow.jobs.len()];
     let mut slot = 0;
     for pseudo_job in &chain {

@@ -1,12 +1,12 @@
 //! Valid tables that the planner would not make, and damage to tables such that
 //! every refusal of the check is met and several faults stand together, also
-//! before and about a release.
+//! before and about a release, and at jobs whose cap is above P.
 
-use crate::answer::SLOTS;
+use crate::answer::{CheckAnswer, NUMBERS, SLOTS};
 use crate::books::{encode_table, fit_length};
-use crate::reader::{be16, predecessors, Book, Flow, Job};
+use crate::reader::{predecessors, Book, Flow, Job};
 use crate::rng::Rng;
-use crate::second_check::{Row, FINISH, ROW, TABLE_HEAD};
+use crate::second_check::{row_at, Row, FINISH, ROW, TABLE_HEAD};
 use crate::second_planner;
 
 /// A table before it is encoded.
@@ -82,7 +82,8 @@ pub fn delayed_table(rng: &mut Rng, book: &Book) -> Option<Table> {
             let record = &book.flows[flow].jobs[job];
             let released = slot >= book.flows[flow].release as usize;
             let ready = released && predecessors(record.precedence).all(|k| left[flow][k] == 0);
-            let most = record.cap.min(left[flow][job]).min(free);
+            let cap = record.cap_in_use(book.processors);
+            let most = cap.min(left[flow][job]).min(free);
             if !ready || most == 0 || rng.chance(skip, 8) {
                 continue;
             }
@@ -162,6 +163,22 @@ fn nudge(rng: &mut Rng, value: u16) -> u16 {
     }
 }
 
+/// The job that a row names.
+fn job_of<'a>(book: &'a Book, row: &Row) -> Option<&'a Job> {
+    let flow = book.flows.get(row.flow as usize)?;
+    flow.jobs.get(row.job as usize)
+}
+
+/// The cap as used of the job that a row names.
+fn cap_of(book: &Book, row: &Row) -> u16 {
+    job_of(book, row).map_or(1, |job| job.cap_in_use(book.processors) as u16)
+}
+
+/// Whether a row is of a job whose cap is above P.
+fn is_wide(book: &Book, row: &Row) -> bool {
+    job_of(book, row).is_some_and(|job| job.cap > book.processors)
+}
+
 /// Moves the first row of some row's flow to the slot before the flow's release,
 /// to that of the release, to the next, or to any before; its take stays, or is
 /// more than its cap or than a slot that is in use has left.
@@ -177,19 +194,100 @@ fn near_release(rng: &mut Rng, book: &Book, rows: &mut [Row], at: usize) {
     let earlier = rng.range(0, u64::from(release)) as u16;
     row.slot = rng.pick(&[release.saturating_sub(1), release, release + 1, earlier]);
     if rng.chance(1, 2) {
-        let job = flow.jobs.get(row.job as usize);
-        let cap = job.map_or(1, |job| job.cap as u16);
+        let cap = cap_of(book, row);
         row.take = rng.pick(&[cap, cap + 1]);
     }
 }
 
+/// Gives a row of a job whose cap is above P all processors, one more, or as many
+/// as that cap says; the other rows of the slot stay or go.
+fn near_processors(rng: &mut Rng, book: &Book, rows: &mut Vec<Row>) {
+    let wide: Vec<usize> = (0..rows.len())
+        .filter(|&k| is_wide(book, &rows[k]))
+        .collect();
+    if wide.is_empty() {
+        return;
+    }
+    let at = rng.pick(&wide);
+    let processors = book.processors as u16;
+    let stands = job_of(book, &rows[at]).map_or(1, |job| job.cap as u16);
+    rows[at].take = rng.pick(&[
+        processors,
+        processors,
+        processors + 1,
+        processors + 1,
+        stands,
+    ]);
+    if rng.chance(1, 2) {
+        let row = rows[at];
+        let place = (row.flow, row.job);
+        rows.retain(|other| other.slot != row.slot || (other.flow, other.job) == place);
+    }
+}
+
+/// The rows of an encoded table of the book.
+fn rows_of<'a>(book: &Book, table: &'a [u8]) -> impl Iterator<Item = Row> + 'a {
+    let rows = table.get(TABLE_HEAD + FINISH * book.flows.len()..);
+    rows.unwrap_or(&[]).chunks_exact(ROW).map(row_at)
+}
+
 /// Whether the first row of a flow stands before the flow's release.
 pub fn begins_early(book: &Book, table: &[u8], flow: u8) -> bool {
-    let rows = table.get(TABLE_HEAD + FINISH * book.flows.len()..);
-    let mut rows = rows.unwrap_or(&[]).chunks_exact(ROW);
-    let first = rows.find(|row| row[2] == flow);
+    let first = rows_of(book, table).find(|row| row.flow == flow);
     let release = book.flows.get(flow as usize).map_or(0, |flow| flow.release);
-    first.is_some_and(|row| be16(row, 0) < release)
+    first.is_some_and(|row| u32::from(row.slot) < release)
+}
+
+/// How often a check met rows at the edge of what a cap above P allows.
+#[derive(Default)]
+pub struct WideRows {
+    /// Accepted tables in which such a job is given P.
+    whole: u64,
+    /// Refusals at such a job that is given P in some row.
+    whole_refused: [u64; NUMBERS],
+    /// Refusals by 17 because such a job is given P + 1, or more than that.
+    one_more: u64,
+    more: u64,
+}
+
+impl WideRows {
+    /// Counts what a check answered for a table of the book.
+    pub fn count(&mut self, book: &Book, table: &[u8], answer: CheckAnswer) {
+        let processors = book.processors as u16;
+        let mut rows = rows_of(book, table).filter(|row| is_wide(book, row));
+        if answer.number == 0 {
+            self.whole += u64::from(rows.any(|row| row.take == processors));
+            return;
+        }
+        let mut rows = rows.filter(|row| (row.flow, row.job) == (answer.flow, answer.job));
+        if answer.number == 17 {
+            // The first row above P is the one that was refused.
+            match rows.find(|row| row.take > processors) {
+                Some(row) if row.take == processors + 1 => self.one_more += 1,
+                Some(_) => self.more += 1,
+                None => {}
+            }
+        } else if rows.any(|row| row.take == processors) {
+            self.whole_refused[answer.number as usize] += 1;
+        }
+    }
+
+    /// Prints the counts; each kind must have been met.
+    pub fn hold(&self) {
+        println!(
+            "tables with P for a job whose cap is above P: accepted {}, refused there {:?}",
+            self.whole, self.whole_refused
+        );
+        println!(
+            "17 for P + 1 processors to such a job: {}, for more: {}",
+            self.one_more, self.more
+        );
+        assert!(self.whole > 0 && self.one_more > 0 && self.more > 0);
+        for number in [16, 18, 19, 20] {
+            let met = self.whole_refused[number];
+            assert!(met > 0, "number {number} was never met with P processors");
+        }
+    }
 }
 
 /// Damages the rows or the finishes in one place.
@@ -209,7 +307,7 @@ fn damage_once(rng: &mut Rng, book: &Book, table: &mut Table) {
     }
     let at = rng.index(rows.len());
     let other = rng.index(rows.len());
-    match rng.below(18) {
+    match rng.below(20) {
         0 => rows[at].slot = nudge(rng, rows[at].slot),
         1 => rows[at].slot = rows[other].slot,
         2 => {
@@ -234,9 +332,7 @@ fn damage_once(rng: &mut Rng, book: &Book, table: &mut Table) {
         }
         5 => rows[at].take = nudge(rng, rows[at].take),
         6 => {
-            let flow = book.flows.get(rows[at].flow as usize);
-            let job = flow.and_then(|flow| flow.jobs.get(rows[at].job as usize));
-            let cap = job.map_or(1, |job| job.cap as u16);
+            let cap = cap_of(book, &rows[at]);
             let processors = book.processors as u16;
             let next = rng.draw() as u16;
             rows[at].take = rng.pick(&[0, cap, cap + 1, processors, processors + 1, next]);
@@ -295,6 +391,7 @@ fn damage_once(rng: &mut Rng, book: &Book, table: &mut Table) {
             rows[at].job = rows[other].job;
             rows[at].take = take;
         }
+        17 | 18 => near_processors(rng, book, rows),
         _ => rows[at].take = rows[at].take.saturating_mul(2),
     }
 }

@@ -30,7 +30,10 @@ fn damage_value(rng: &mut Rng, book: &mut Book) {
             flow.jobs.resize(rng.pick(&[0, 64, 65, 255]), again);
         }
         2 => flow.jobs[job].size = rng.pick(&[0, 1_000_001, u32::MAX, 1, 1_000_000]),
-        3 => flow.jobs[job].cap = rng.pick(&[0, book.processors, book.processors + 1]),
+        3 => {
+            let processors = book.processors;
+            flow.jobs[job].cap = rng.pick(&[0, 0, processors, processors + 1, 65_535]);
+        }
         _ => flow.jobs[job].precedence |= 1 << rng.below(64),
     }
 }
@@ -114,6 +117,7 @@ pub fn hold(plan: Planner, check: Check, seed: u64, cases: usize) {
             0 => books::any_book(&mut rng),
             _ => books::tiny_book(&mut rng),
         };
+        let book = books::with_caps(&mut rng, book);
         let of_twins = twins(&mut rng, &book);
         let room = rng.skewed(0, 1 << 14) as usize;
         let work_length = WORK_BYTES + 3 - rng.pick(&[0, 0, 0, 4]);

@@ -8,8 +8,8 @@ use flowplan_tests::books::{self, encode_book, Family};
 use flowplan_tests::lent::{Junk, Lent};
 use flowplan_tests::reader::{Book, Version};
 use flowplan_tests::rng::Rng;
-use flowplan_tests::tables::{self, Table};
-use flowplan_tests::{heads, linked, marked, second_check};
+use flowplan_tests::tables::{self, Table, WideRows};
+use flowplan_tests::{caps, heads, linked, marked, second_check};
 
 #[test]
 fn marked_plans() {
@@ -21,6 +21,11 @@ fn flow_heads() {
     heads::hold_check(linked::check);
 }
 
+#[test]
+fn caps_about_the_processors() {
+    caps::hold_check(linked::check);
+}
+
 /// Draws cases of one version, compares them and counts the numbers that were
 /// met.
 struct Trial {
@@ -30,6 +35,7 @@ struct Trial {
     met: [u64; NUMBERS],
     /// Those met at a flow whose first row stands before its release.
     early: [u64; NUMBERS],
+    wide_rows: WideRows,
     beyond_twice: u64,
 }
 
@@ -41,6 +47,7 @@ impl Trial {
             junk: Junk::new(!seed),
             met: [0; NUMBERS],
             early: [0; NUMBERS],
+            wide_rows: WideRows::default(),
             beyond_twice: 0,
         }
     }
@@ -97,10 +104,12 @@ impl Trial {
         if finishes.any(|(&finish, flow)| u32::from(finish) > 2 * flow.deadline) {
             self.beyond_twice += 1;
         }
-        self.compare(&bytes, &intact);
+        let answer = self.compare(&bytes, &intact);
+        self.wide_rows.count(book, &intact, answer);
         for _ in 0..damaged {
             let table = tables::damaged(&mut self.rng, book, table);
             let answer = self.compare(&bytes, &table);
+            self.wide_rows.count(book, &table, answer);
             if tables::begins_early(book, &table, answer.flow) {
                 self.early[answer.number as usize] += 1;
             }
@@ -211,5 +220,6 @@ fn hold_trial(version: Version, seed: u64) {
             assert!(met > 0, "number {number} was never met before a release");
         }
     }
+    trial.wide_rows.hold();
     assert!(trial.beyond_twice > 0);
 }

@@ -7,10 +7,10 @@
 use flowplan_tests::answer::{CheckAnswer, PlanAnswer, Refusal, NUMBERS, WORK_BYTES};
 use flowplan_tests::books::{self, encode_book, Family};
 use flowplan_tests::lent::{Junk, Lent};
-use flowplan_tests::reader::{Book, Version, VERSIONS};
+use flowplan_tests::reader::{read_book, Book, Version, VERSIONS};
 use flowplan_tests::rng::Rng;
 use flowplan_tests::second_planner::{self, Outcome};
-use flowplan_tests::{heads, linked, linked_plan, marked, twins};
+use flowplan_tests::{caps, heads, linked, linked_plan, lowered, marked, twins};
 
 #[test]
 fn marked_plans() {
@@ -21,6 +21,19 @@ fn marked_plans() {
 #[test]
 fn flow_heads() {
     heads::hold_planner(linked_plan::plan);
+}
+
+#[test]
+fn caps_about_the_processors() {
+    caps::hold_planner(linked_plan::plan);
+}
+
+/// Planner and check; the answer, the output and the work area.
+#[test]
+fn a_book_is_served_as_its_lowered_book() {
+    let (plan, check) = (linked_plan::plan, linked::check);
+    lowered::hold(plan, check, Version::One, 0x5eed_0021, 20_000);
+    lowered::hold(plan, check, Version::Two, 0x5eed_0022, 20_000);
 }
 
 /// Planner and check; the answer, the output and the work area.
@@ -34,6 +47,8 @@ struct Trial {
     rng: Rng,
     junk: Junk,
     met: [u64; NUMBERS],
+    /// Those met by books that pass their checks and have caps above P.
+    above: [u64; NUMBERS],
     books: u64,
     late: u64,
 }
@@ -44,6 +59,7 @@ impl Trial {
             rng: Rng::new(seed),
             junk: Junk::new(!seed),
             met: [0; NUMBERS],
+            above: [0; NUMBERS],
             books: 0,
             late: 0,
         }
@@ -62,6 +78,7 @@ impl Trial {
 
     /// One call of each planner on equal buffers; all must end equal.
     fn compare(&mut self, book: &[u8], outcome: &Outcome, room: usize, work_length: usize) {
+        let above = read_book(book).is_ok_and(|book| books::has_cap_above(&book));
         let rng = &mut self.rng;
         let mut book = Lent::holding(rng, &self.junk, book);
         let mut output = Lent::junk(rng, &self.junk, room);
@@ -84,6 +101,7 @@ impl Trial {
         }
         assert!(book == book_before, "the book was changed");
         self.met[expected.number as usize] += 1;
+        self.above[expected.number as usize] += u64::from(above);
 
         if answer.number == 0 {
             self.late += u64::from(answer.late > 0);
@@ -128,8 +146,8 @@ impl Trial {
         let cases: u64 = self.met.iter().sum();
         println!("books: {}, calls: {cases}", self.books);
         println!("accepted calls with late flows: {}", self.late);
-        for (number, met) in self.met.iter().enumerate() {
-            println!("number {number:2}: {met}");
+        for (number, (met, above)) in self.met.iter().zip(&self.above).enumerate() {
+            println!("number {number:2}: {met}, with caps above P: {above}");
         }
     }
 }
@@ -197,6 +215,10 @@ fn hold_trial(version: Version, seed: u64) {
         let met = trial.met[number as usize];
         assert!(met > 0, "number {number} was never met");
     }
+    for number in [0, 11, 12, 13] {
+        let met = trial.above[number];
+        assert!(met > 0, "number {number} was never met with caps above P");
+    }
     assert!(trial.late > 0);
 }
 
@@ -263,6 +285,7 @@ fn short_and_damaged_inputs() {
     }
     pool.push(marked::BOOK_A.to_vec());
     pool.push(marked::BOOK_G.to_vec());
+    pool.push(marked::book_e());
     for case in 0..2_000_000 {
         let bytes = if case % 2 == 0 {
             books::random_bytes(&mut trial.rng, 60)

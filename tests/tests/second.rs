@@ -1,16 +1,18 @@
 //! The second implementations held against the marked plans and against each
 //! other, before they are held against the proved library.
 
-use flowplan_tests::answer::{CheckAnswer, PlanAnswer, NUMBERS, WORK_BYTES};
+use flowplan_tests::answer::{CheckAnswer, PlanAnswer, Refusal, NUMBERS, WORK_BYTES};
 use flowplan_tests::books::{self, encode_book};
-use flowplan_tests::reader::{read_book, Book, Version, MOST_DEADLINE, VERSIONS};
+use flowplan_tests::reader::{read_book, Book, Version, MOST_CAP, MOST_DEADLINE, VERSIONS};
 use flowplan_tests::rng::Rng;
 use flowplan_tests::second_check::Row;
 use flowplan_tests::second_planner::{
     chain, chain_by_change_points, chain_by_slots, critical_path, schedule, PseudoJob,
 };
-use flowplan_tests::tables::{self, Table};
-use flowplan_tests::{fast_planner, heads, marked, second_check, second_planner, twins};
+use flowplan_tests::tables::{self, Table, WideRows};
+use flowplan_tests::{
+    caps, fast_planner, heads, lowered, marked, second_check, second_planner, twins,
+};
 
 #[test]
 fn marked_plans() {
@@ -26,6 +28,23 @@ fn flow_heads() {
     heads::hold_planner(fast_planner::plan);
     heads::hold_check(second_check::check);
     heads::hold_check(second_check::check_by_definition);
+}
+
+#[test]
+fn caps_about_the_processors() {
+    caps::hold_planner(second_planner::plan);
+    caps::hold_planner(fast_planner::plan);
+    caps::hold_check(second_check::check);
+    caps::hold_check(second_check::check_by_definition);
+}
+
+#[test]
+fn a_book_is_served_as_its_lowered_book() {
+    for version in VERSIONS {
+        let check = second_check::check;
+        lowered::hold(second_planner::plan, check, version, 13, 5_000);
+        lowered::hold(fast_planner::plan, check, version, 14, 5_000);
+    }
 }
 
 #[test]
@@ -52,6 +71,77 @@ fn books_are_read_as_written() {
     assert_eq!(largest.len(), 57_544);
     let largest = encode_book(&books::late_full_book(&mut rng));
     assert_eq!(largest.len(), 57_672);
+}
+
+/// What caps are drawn in each version: about P, the most, others, and by damage 0,
+/// which alone is 9.
+#[test]
+fn caps_of_every_kind_are_drawn() {
+    for version in VERSIONS {
+        let mut rng = Rng::new(15);
+        let (mut one_less, mut equal, mut one_more, mut most, mut near_most) = (0, 0, 0, 0, 0);
+        let (mut below, mut above, mut zero, mut lone) = (0, 0, 0, 0);
+        let (mut with, mut without) = (0, 0);
+        for _ in 0..2_000 {
+            let book = books::drawn(&mut rng, version, books::any_book);
+            let processors = book.processors;
+            for job in book.flows.iter().flat_map(|flow| &flow.jobs) {
+                assert!((1..=MOST_CAP).contains(&job.cap));
+                match job.cap {
+                    cap if cap + 1 == processors => one_less += 1,
+                    cap if cap == processors => equal += 1,
+                    cap if cap == processors + 1 => one_more += 1,
+                    MOST_CAP => most += 1,
+                    cap if cap > MOST_CAP - 10 => near_most += 1,
+                    cap if cap < processors => below += 1,
+                    _ => above += 1,
+                }
+                lone += usize::from(processors == 1 && job.cap > 1);
+            }
+            if books::has_cap_above(&book) {
+                with += 1;
+            } else {
+                without += 1;
+            }
+            let mut bytes = encode_book(&book);
+            books::damage_book(&mut rng, &mut bytes);
+            if let Err(refusal) = read_book(&bytes) {
+                zero += usize::from(refusal.number == 9);
+            }
+        }
+        println!(
+            "{version:?}, caps drawn: P - 1 {one_less}, P {equal}, P + 1 {one_more}, 65,535 {most}, \
+             near it {near_most}, others below P {below} and above {above}, above where P is 1 \
+             {lone}; damaged books refused by 9 {zero}; books with caps above P {with}, without \
+             {without}"
+        );
+        for drawn in [
+            one_less, equal, one_more, most, near_most, below, above, lone,
+        ] {
+            assert!(drawn > 500);
+        }
+        assert!(zero > 50 && with > 500 && without > 500);
+    }
+}
+
+/// The reader keeps a cap as it stands, and refuses none but 0.
+#[test]
+fn caps_are_read_as_they_stand() {
+    for version in VERSIONS {
+        for cap in 0..=MOST_CAP {
+            let bytes = marked::book_e_capped(version, cap);
+            match read_book(&bytes) {
+                Ok(book) => {
+                    assert_eq!(book.flows[0].jobs[1].cap, cap);
+                    assert_eq!(encode_book(&book), bytes);
+                }
+                Err(refusal) => {
+                    assert_eq!(cap, 0);
+                    assert_eq!(refusal, Refusal::new(9, 0, 1));
+                }
+            }
+        }
+    }
 }
 
 /// What releases are drawn: the edges, others, and none in version 1.
@@ -94,14 +184,15 @@ fn both_cuts_give_the_same_chain() {
             1 => books::usual_book(&mut rng),
             _ => books::edge_book(&mut rng),
         };
+        let book = books::with_caps(&mut rng, book);
         for flow in &book.flows {
-            let path = critical_path(flow);
+            let path = critical_path(flow, book.processors);
             if path > 40_000 && !(path < 2_000_000 && rng.chance(1, 50)) {
                 continue;
             }
             longest = longest.max(path);
-            let by_slots = chain_by_slots(flow);
-            assert_eq!(by_slots, chain_by_change_points(flow));
+            let by_slots = chain_by_slots(flow, book.processors);
+            assert_eq!(by_slots, chain_by_change_points(flow, book.processors));
             assert!(by_slots.len() <= 2 * flow.jobs.len());
             assert!(by_slots.iter().all(|pseudo_job| pseudo_job.rate() > 0));
             let work: u64 = by_slots.iter().map(PseudoJob::work).sum();
@@ -136,7 +227,7 @@ fn units_are_used_in_their_order() {
         for (number, flow) in book.flows.iter().enumerate() {
             let mut rows = schedule.rows.iter().filter(|row| row.flow == number as u8);
             let mut pending = rows.next();
-            for pseudo_job in chain(flow) {
+            for pseudo_job in chain(flow, book.processors) {
                 let units = numbered_units(&pseudo_job);
                 let mut from = 0;
                 while from < units.len() {
@@ -170,6 +261,7 @@ fn a_lone_flow_is_moved_by_its_release() {
     for _ in 0..5_000 {
         let mut book = books::usual_book(&mut rng);
         book.flows.truncate(1);
+        let mut book = books::with_caps(&mut rng, book);
         for flow in &mut book.flows {
             flow.deadline = MOST_DEADLINE;
         }
@@ -239,13 +331,15 @@ fn fast_planner_is_the_literal_one() {
 fn plans_are_valid_and_cuts_agree() {
     let mut rng = Rng::new(5);
     let mut work = vec![0; WORK_BYTES];
-    let (mut planned, mut refused) = (0, 0);
+    // Of each also those with caps above P.
+    let (mut planned, mut refused) = ([0; 2], [0; 2]);
     for case in 0..16_000 {
         let book = books::drawn(&mut rng, VERSIONS[case % 2], books::any_book);
         let order = book.service_order();
+        let above = usize::from(books::has_cap_above(&book));
         match schedule(&book) {
             Ok(schedule) => {
-                planned += 1;
+                planned[above] += 1;
                 let bytes = encode_book(&book);
                 let table = tables::planned_table(&book).unwrap().encode(&book);
                 let answer = second_check::check(&bytes, &table, &mut work);
@@ -255,7 +349,7 @@ fn plans_are_valid_and_cuts_agree() {
                 }
             }
             Err(flow) => {
-                refused += 1;
+                refused[above] += 1;
                 let before = order.iter().position(|&k| k == flow as usize).unwrap();
                 assert!(schedule(&books::cut(&book, before)).is_ok());
                 let upto = books::cut(&book, before + 1);
@@ -265,7 +359,8 @@ fn plans_are_valid_and_cuts_agree() {
             }
         }
     }
-    assert!(planned > 2_000 && refused > 2_000);
+    println!("without caps above P, and with: planned {planned:?}, refused {refused:?}");
+    assert!(planned.into_iter().chain(refused).all(|met| met > 1_000));
 }
 
 #[test]
@@ -273,6 +368,7 @@ fn one_pass_check_is_the_one_by_definition() {
     let mut rng = Rng::new(6);
     let mut met = [0u32; NUMBERS];
     let mut early = [0u32; NUMBERS];
+    let mut wide_rows = WideRows::default();
     for case in 0..8_000 {
         let book = books::drawn(&mut rng, VERSIONS[case % 2], books::tiny_book);
         let table = if rng.chance(1, 2) {
@@ -287,7 +383,8 @@ fn one_pass_check_is_the_one_by_definition() {
             continue;
         }
         let mut bytes = encode_book(&book);
-        if rng.chance(1, 16) {
+        let damaged = rng.chance(1, 16);
+        if damaged {
             books::damage_book(&mut rng, &mut bytes);
         }
         let intact = table.encode(&book);
@@ -302,6 +399,9 @@ fn one_pass_check_is_the_one_by_definition() {
             if tables::begins_early(&book, &table, answer.flow) {
                 early[answer.number as usize] += 1;
             }
+            if !damaged {
+                wide_rows.count(&book, &table, answer);
+            }
         }
     }
     println!("numbers met by the checks: {met:?}");
@@ -312,6 +412,7 @@ fn one_pass_check_is_the_one_by_definition() {
     for number in [17, 18, 19] {
         assert!(early[number] > 0, "number {number} was never met early");
     }
+    wide_rows.hold();
 }
 
 /// Every row of a table moved to every place, taken out together with every
@@ -356,7 +457,10 @@ fn one_pass_check_of_rows_out_of_place() {
                     1 => again.flow = book.flows.len() as u8,
                     2 => again.job = jobs.len() as u8,
                     3 => again.take = 0,
-                    4 => again.take = jobs[row.job as usize].cap as u16 + 1,
+                    4 => {
+                        let cap = jobs[row.job as usize].cap_in_use(book.processors);
+                        again.take = cap as u16 + 1;
+                    }
                     _ => {}
                 }
                 for to in 0..=table.rows.len() {
@@ -395,9 +499,11 @@ fn a_refused_book_has_no_schedule_in_time() {
 
 fn hold_refusals(version: Version) {
     let mut rng = Rng::new(7);
-    let (mut none, mut some) = (0, 0);
+    // Of each also those with caps above P.
+    let (mut none, mut some) = ([0; 2], [0; 2]);
     for _ in 0..60_000 {
-        let mut book = books::tiny_book(&mut rng);
+        let book = books::tiny_book(&mut rng);
+        let mut book = books::with_caps(&mut rng, book);
         for flow in &mut book.flows {
             flow.deadline = flow.deadline.min(rng.range(1, 6) as u32);
         }
@@ -418,17 +524,21 @@ fn hold_refusals(version: Version) {
         if work > 14 || most > 6 || jobs > 5 {
             continue;
         }
+        let above = usize::from(books::has_cap_above(&book));
         if let Err(flow) = schedule(&book) {
             let order = book.service_order();
             let place = order.iter().position(|&k| k == flow as usize).unwrap();
             assert!(!in_time(&books::cut(&book, place + 1)));
-            none += 1;
+            none[above] += 1;
         } else if in_time(&book) {
-            some += 1;
+            some[above] += 1;
         }
     }
-    println!("{version:?}: refused without a schedule in time: {none}, planned with one: {some}");
-    assert!(none > 500 && some > 500);
+    println!(
+        "{version:?}, without caps above P and with: refused without a schedule in time \
+         {none:?}, planned with one {some:?}"
+    );
+    assert!(none.into_iter().chain(some).all(|met| met > 500));
 }
 
 /// Whether some valid schedule ends every flow by its own deadline.
@@ -471,7 +581,7 @@ fn search(book: &Book, slot: u32, left: &[(usize, usize, u32)]) -> bool {
             if open || slot < book.flows[flow].release {
                 0
             } else {
-                size.min(record.cap)
+                size.min(record.cap_in_use(book.processors))
             }
         })
         .collect();

@@ -1,4 +1,4 @@
-//! How much stack one call takes: on full books of both versions, on books A and
+//! How much stack one call takes: on full books of both versions, on books A, E and
 //! G, and on each of them damaged so that each of the numbers refuses it.
 
 use flowplan_tests::answer::WORK_BYTES;
@@ -21,9 +21,9 @@ struct Case {
     table: Table,
 }
 
-/// A full book of each version, with jobs that wait for each other, and books A
+/// A full book of each version, with jobs that wait for each other, and books A, E
 /// and G.
-fn cases(rng: &mut Rng) -> [Case; 4] {
+fn cases(rng: &mut Rng) -> [Case; 5] {
     let case = |name, book| {
         let table = tables::planned_table(&book)?;
         Some(Case { name, book, table })
@@ -32,8 +32,9 @@ fn cases(rng: &mut Rng) -> [Case; 4] {
     let late = |_| case("full book with releases", books::late_full_book(rng));
     let late = (0..100).find_map(late);
     let book_a = case("book A", read_book(&marked::BOOK_A).expect("book A"));
+    let book_e = case("book E", read_book(&marked::book_e()).expect("book E"));
     let book_g = case("book G", read_book(&marked::BOOK_G).expect("book G"));
-    [full, book_a, late, book_g].map(|case| case.expect("feasible"))
+    [full, book_a, book_e, late, book_g].map(|case| case.expect("feasible"))
 }
 
 /// One drawn input for each of the numbers that it may be refused by.

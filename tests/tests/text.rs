@@ -62,11 +62,16 @@ fn printed(input: &[u8]) -> String {
     String::from_utf8(output.stdout).unwrap()
 }
 
-/// Plan G as it is listed.
+/// Plans E and G as they are listed.
 #[test]
-fn program_prints_plan_g() {
-    assert_eq!(expected(&marked::BOOK_G), marked::TEXT_G);
-    assert_eq!(printed(&marked::BOOK_G), marked::TEXT_G);
+fn program_prints_plans_e_and_g() {
+    for (book, text) in [
+        (&marked::book_e()[..], marked::TEXT_E),
+        (&marked::BOOK_G, marked::TEXT_G),
+    ] {
+        assert_eq!(expected(book), text);
+        assert_eq!(printed(book), text);
+    }
 }
 
 #[test]
@@ -82,6 +87,8 @@ fn program_prints_plans_and_refusals() {
         marked::book_c(5),
         marked::book_d(3),
         marked::book_e(),
+        marked::book_e_capped(Version::Two, 65_535),
+        marked::book_e_capped(Version::One, 0),
         Vec::new(),
     ];
     for version in VERSIONS {

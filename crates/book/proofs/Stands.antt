@@ -8,9 +8,10 @@ use lib.ListN.{length}
 use Rattle.rules.specs.declared.Verdict.the-variants.{Pass}
 use Rattle.rules.specs.Fields.{byte}
 use Rattle.rules.specs.Limits.{mostJobs}
-use Rattle.rules.specs.Book.{Flow, jobCount, flowOf, jobOf}
+use Rattle.rules.specs.Book.{Flow, jobCount, flowIn, lowerCap, lowerCaps, flowOf, jobOf}
 use Rattle.rules.specs.Reading.{bookHead, versionOf, flowHead, jobRecord, jobsAt, flowStart, jobStart, jobAt, flowAt, bookOf, bookFault}
-use Rattle.rules.proofs.Passing.{flow-count, flow-of-book, job-count, job-of-flow, deadline-of-flow, release-of-flow, FlowPasses, book-passes, flow-of-passing}
+use Rattle.rules.proofs.Caps.{count-lowered, job-lowered}
+use Rattle.rules.proofs.Passing.{flow-count, flow-in-book, job-count, job-of-flow, deadline-of-flow, release-of-flow, FlowPasses, book-passes, flow-of-passing}
 use Rattle.book.specs.declared.FlowHead.{FlowHead}
 use Rattle.book.specs.Records.{headAt}
 use Rattle.book.specs.Promise.{FlowStands, HeadOf}
@@ -23,14 +24,15 @@ module _ {s : List ℕ} {f records : ℕ} (stands : FlowStands s f records) wher
   flow-below : f < byte s 7
   flow-below = rw (flow-count s) at (stands .flow-in)
 
-  flow-is : flowOf (bookOf s) f ≡ flowAt s (flowStart s f)
-  flow-is = flow-of-book s f flow-below
+  flow-is : flowIn (bookOf s) f ≡ flowAt s (flowStart s f)
+  flow-is = flow-in-book s f flow-below
 
   pub flow-stands-whole : FlowPasses s (flowStart s f)
   flow-stands-whole = flow-of-passing s (stands .passes) f flow-below
 
   pub job-count-is : jobCount (flowOf (bookOf s) f) ≡ jobsAt s (flowStart s f)
-  job-count-is = ap jobCount flow-is ∙ job-count s (flowStart s f)
+  unfolding flowOf
+  job-count-is = count-lowered (bookOf s .processors) (flowIn (bookOf s) f) ∙ ap jobCount flow-is ∙ job-count s (flowStart s f)
 
   -- the heads of the book and of the flow lie inside the bytes
   pub book-head-fits : bookHead ≤ length s
@@ -44,6 +46,7 @@ module _ {s : List ℕ} {f records : ℕ} (stands : FlowStands s f records) wher
   head-before e = omega (arith, stands .records-at)
 
   pub head-is : {h : FlowHead} → h ≡ headAt s (flowStart s f) → HeadOf s f h
+  unfolding flowOf lowerCaps
   head-is e = record {
     deadline = ap (λ (h : FlowHead). h .deadline) e ∙ sym (ap (λ (w : Flow). w .deadline) flow-is ∙ deadline-of-flow s (flowStart s f));
     release = ap (λ (h : FlowHead). h .release) e ∙ sym (ap (λ (w : Flow). w .release) flow-is ∙ release-of-flow s (flowStart s f));
@@ -61,5 +64,10 @@ module _ {s : List ℕ} {f records : ℕ} (stands : FlowStands s f records) wher
     pub job-fits : jobStart s (flowStart s f) i + jobRecord ≤ length s
     job-fits = flow-stands-whole .each i job-below .job-whole
 
-    pub job-is : jobOf (flowOf (bookOf s) f) i ≡ jobAt s (jobStart s (flowStart s f) i)
-    job-is = ap (λ (w : Flow). jobOf w i) flow-is ∙ job-of-flow s (flowStart s f) i job-below
+    -- it holds the job as it stands, which is used with its cap lowered to P
+    pub job-is : jobOf (flowOf (bookOf s) f) i ≡ lowerCap (bookOf s .processors) (jobAt s (jobStart s (flowStart s f) i))
+    unfolding flowOf
+    job-is =
+        job-lowered (bookOf s .processors) (flowIn (bookOf s) f) i
+        ∙ ap (λ w. lowerCap (bookOf s .processors) (jobOf w i)) flow-is
+        ∙ ap (lowerCap (bookOf s .processors)) (job-of-flow s (flowStart s f) i job-below)

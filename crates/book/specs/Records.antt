@@ -7,7 +7,7 @@ use Rattle.rules.specs.declared.Verdict.{Verdict}
 use Rattle.rules.specs.declared.Verdict.the-variants.{Pass, Refused}
 use Rattle.rules.specs.Walks.{if_then_else_}
 use Rattle.rules.specs.Fields.{field}
-use Rattle.rules.specs.Limits.{outside, mostDeadline, mostJobs, mostSize}
+use Rattle.rules.specs.Limits.{outside, mostDeadline, mostJobs, mostSize, mostCap}
 use Rattle.rules.specs.Reading.{versionOf, flowHead, jobRecord, releaseAt, jobsAt}
 use Rattle.book.specs.declared.FlowHead.{FlowHead}
 use Rattle.book.specs.declared.HeadRead.{HeadRead}
@@ -44,10 +44,10 @@ recordAt s at = record { size = field 4 s at; cap = field 2 s (at + 4); predeces
 unfoldable pub jobRead : List ℕ → ℕ → JobRead
 jobRead s at = if ltb (length s) (at + jobRecord) then ShortJob else WholeJob (recordAt s at)
 
--- "8, 9, 10 for each job": the faults of a whole record, with P processors
-unfoldable pub recordFault : JobRecord → ℕ → ℕ → ℕ → Verdict
-recordFault r P f i =
+-- "8, 9, 10 for each job": the faults of a whole record; "Only a cap of 0 is still 9" (02, Req 02)
+unfoldable pub recordFault : JobRecord → ℕ → ℕ → Verdict
+recordFault r f i =
     if outside 1 mostSize (r .size) then Refused 8 f i
-    else if outside 1 P (r .cap) then Refused 9 f i
+    else if outside 1 mostCap (r .cap) then Refused 9 f i
     else if leb (2 ^ i) (r .predecessors) then Refused 10 f i
     else Pass

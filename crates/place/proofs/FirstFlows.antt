@@ -17,6 +17,7 @@ use Rattle.rules.specs.Service.{serviceOrder}
 use Rattle.rules.specs.Rows.{Row, sumWhere, usedIn, finishOf, workUsed, workZero}
 use Rattle.rules.specs.Placing.{infeasible, placeFirst, freeProcessors, slotsFor}
 use Rattle.rules.specs.Table.{tableHead, tableLength}
+use Rattle.rules.proofs.Caps.{used-in-range}
 use Rattle.rules.proofs.Division.{lt-or-ge}
 use Rattle.rules.proofs.Passing.{pass-in-range}
 use Rattle.rules.proofs.ServiceOrder.{servedAt, service-length, service-below, service-once}
@@ -58,7 +59,7 @@ next-flow s x order count work a k f l q =
       few-flows = range .flows-most;
       flow-below = omega (arith, range .flows-most);
       stands = record { passes = a .indexed .passes; flow-in = in-book; records-at = a .indexed .records f in-book };
-      deadline-most = range .each-flow f in-book .deadline-most;
+      deadline-most = used-in-range range f in-book .deadline-most;
     }
 
 -- ---- where the placing stands after k flows

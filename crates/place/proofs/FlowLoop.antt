@@ -14,6 +14,7 @@ use Rattle.rules.specs.Ideal.{path, takeOf}
 use Rattle.rules.specs.PseudoJobs.{PseudoJob, runs, chain, rate}
 use Rattle.rules.specs.Rows.{Row, usedIn, finishOf, workUsed}
 use Rattle.rules.specs.Placing.{Progress, progress, flowRows, freeProcessors, slotsFor, placeFlow}
+use Rattle.rules.proofs.Caps.{used-in-range}
 use Rattle.rules.proofs.Passing.{pass-in-range}
 use Rattle.rules.proofs.Ideal.{Sized, in-range-sized, end-is-start-plus-duration, end-within-path, duration-positive}
 use Rattle.rules.proofs.PseudoJobs.{slot-rate-positive, chain-live}
@@ -136,7 +137,7 @@ pub record FlowKept (b : Book) (f at limit : ℕ) (out₀ area₀ out area : Lis
 
 -- ---- a flow that is read out of its book, on endless processors
 flow-in-range : (s : List ℕ) (f : ℕ) → bookFault s ≡ Pass → f < flowCount (bookOf s) → FlowInRange (bookOf s .processors) (flowOf (bookOf s) f)
-flow-in-range s f passes flow-in = pass-in-range s passes .each-flow f flow-in
+flow-in-range s f passes flow-in = used-in-range (pass-in-range s passes) f flow-in
 
 module _ (s : List ℕ) (f records : ℕ) (x : FlowJobs) (stands : FlowStands s f records) (loaded : Loaded s f x) where
   pub chain-asked : ChainInput x

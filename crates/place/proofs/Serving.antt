@@ -8,6 +8,7 @@ use Rattle.rules.specs.Book.{flowCount, jobCount, flowOf, InRange, FlowInRange}
 use Rattle.rules.specs.Ideal.{takeOf}
 use Rattle.rules.specs.Reading.{bookOf, bookFault}
 use Rattle.rules.specs.PseudoJobs.{rate}
+use Rattle.rules.proofs.Caps.{used-in-range}
 use Rattle.rules.proofs.Sums.{sum-le}
 use Rattle.rules.proofs.Ideal.{take-within-cap}
 use Rattle.rules.proofs.Passing.{pass-in-range}
@@ -20,7 +21,7 @@ pub takes-within : (s : List ℕ) (f t : ℕ) → bookFault s ≡ Pass → f < f
     takeOf (flowOf (bookOf s) f) i t ≤ 4096
 takes-within s f t passes flow-in i l =
     let b = pass-in-range s passes in
-    let j = b .each-flow f flow-in .each-job i l in
+    let j = used-in-range b f flow-in .each-job i l in
     omega (arith, take-within-cap (flowOf (bookOf s) f) i (j .cap-least) t, j .cap-most, b .processors-most)
 
 module _ {s : List ℕ} {c : Current} {names takes rows : List ℕ} (v : Serving s c names takes rows) where
@@ -28,7 +29,7 @@ module _ {s : List ℕ} {c : Current} {names takes rows : List ℕ} (v : Serving
   book-in-range = pass-in-range s (v .passes)
 
   flow-in-range : FlowInRange (bookOf s .processors) (currentFlow s c)
-  flow-in-range = book-in-range .each-flow (c .flow) (v .flow-in)
+  flow-in-range = used-in-range book-in-range (c .flow) (v .flow-in)
 
   pub flow-within : c .flow < 64
   flow-within = omega (arith, v .flow-in, book-in-range .flows-most)

@@ -13,6 +13,7 @@ use Rattle.rules.specs.Placing.{planned, plan}
 use Rattle.rules.specs.Table.{tableHead, rowLength, tableLength, tableBytes, rowAt}
 use Rattle.rules.specs.Check.{tableRows}
 use Rattle.rules.specs.Text.{tableLine, finishLine, rowLine}
+use Rattle.rules.proofs.Caps.{used-in-range}
 use Rattle.rules.proofs.Walks.{join-split, join-ext, join-moved}
 use Rattle.rules.proofs.Rising.{_∈_}
 use Rattle.rules.proofs.PlannedValid.{planned-rows-fit}
@@ -77,7 +78,7 @@ module _ (b : Book) (range : InRange b) (rows : List Row) (e : plan b ≡ planne
   fields-fit : (r : Row) → r ∈ rows → RowFits r
   fields-fit r m =
       let fit = planned-rows-fit b range rows e r m in
-      let flow = range .each-flow (r .flow) (fit .flow-in) in
+      let flow = used-in-range range (r .flow) (fit .flow-in) in
       record {
         slot-fits = omega (arith, fit .slot-in, flow .deadline-most);
         flow-fits = omega (arith, fit .flow-in, range .flows-most);
@@ -86,7 +87,7 @@ module _ (b : Book) (range : InRange b) (rows : List Row) (e : plan b ≡ planne
       }
 
   finish-fits : (f : ℕ) → f < flowCount b → finishOf rows f < 256 ^ 2
-  finish-fits f l = omega (arith, planned-finish-within-twice b range rows e f, range .each-flow f l .deadline-most)
+  finish-fits f l = omega (arith, planned-finish-within-twice b range rows e f, used-in-range range f l .deadline-most)
 
   abbrev table : List ℕ
   table = tableBytes b rows

@@ -19,6 +19,7 @@ use Rattle.rules.specs.Book.{Book, flowCount, jobCount, flowOf, jobOf, h
 use Rattle.rules.specs.Rows.{Row, sumWhere, usedIn, isOf, totalOf, doneBefore}
 use Rattle.rules.specs.Schedule.{Schedule, everyFlow, IsJob, inUse, Valid, InSlots, scheduleOf, scheduleRows}
 use Rattle.rules.specs.Check.{noRow}
+use Rattle.rules.proofs.Caps.{used-in-range}
 use Rattle.rules.proofs.Division.{lt-or-ge}
 use Rattle.rules.proofs.Bits.{left-below}
 use Rattle.rules.proofs.Sums.{sum-ext, sum-quiet}
@@ -36,7 +37,7 @@ bit-below p i k l e = left-below p (p / 2 ^ k) k refl i l (λ none. omega (arith
 -- a predecessor is a job with a lower number
 pub predecessor-below : (b : Book) → InRange b → (f i k : ℕ) → f < flowCount b → i < jobCount (flowOf b f) → precedes (flowOf b f) k i ≡ true → k < i
 predecessor-below b range f i k l m p =
-    bit-below (jobOf (flowOf b f) i .predecessors) i k (range .each-flow f l .each-job i m .predecessors-below) p
+    bit-below (jobOf (flowOf b f) i .predecessors) i k (used-in-range range f l .each-job i m .predecessors-below) p
 
 -- the first rows have no more than all rows
 done-take : (rows : List Row) (n f i t : ℕ) → doneBefore (take n rows) f i t ≤ doneBefore rows f i t

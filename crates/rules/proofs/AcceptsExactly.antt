@@ -22,6 +22,7 @@ use Rattle.rules.specs.Table.{tableLength, tableBytes}
 use Rattle.rules.specs.Check.{tableRows, tableFault, CheckOutcome, checkOutcome, checkReading, checkCall}
 use Rattle.rules.specs.Schedule.{Schedule, everyFlow, Valid, InSlots, scheduleOf, scheduleRows, scheduleTable}
 use Rattle.rules.specs.Demands.{IsScheduleTable, AcceptsExactly}
+use Rattle.rules.proofs.Caps.{used-in-range}
 use Rattle.rules.proofs.Passing.{read-in-range}
 use Rattle.rules.proofs.Rising.{_∈_}
 use Rattle.rules.proofs.RowSums.{finish-least}
@@ -40,7 +41,7 @@ module _ (b : Book) (range : InRange b) (σ : Schedule) (valid : Valid b everyFl
   row-fits r m =
       let o = schedule-rows-in b σ r m in
       let j = row-is-job b r (o .is-row .in-book) in
-      let flow-in-range = range .each-flow (r .flow) (j .flow-in) in
+      let flow-in-range = used-in-range range (r .flow) (j .flow-in) in
       record {
         slot-fits = omega (arith, o .is-row .slot-in);
         flow-fits = omega (arith, j .flow-in, range .flows-most);

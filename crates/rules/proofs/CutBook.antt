@@ -12,7 +12,7 @@ use lib.ListN.{length, getD}
 use lib.Dec.{eqb}
 use borrow.Author.Tests.{eqb-true, eq-eqb}
 use Rattle.rules.specs.Walks.{if_then_else_, sumTo, bit, countTo, anyTo}
-use Rattle.rules.specs.Book.{Flow, Book, flowCount, noFlow, flowOf, InRange}
+use Rattle.rules.specs.Book.{Flow, Book, flowCount, noFlow, flowIn, lowerCaps, flowOf, InRange}
 use Rattle.rules.specs.Reading.{bookBytes, readBook}
 use Rattle.rules.specs.Reading.Reading.{read}
 use Rattle.rules.specs.Service.{servedBefore}
@@ -159,12 +159,16 @@ module _ (b : Book) (k : ℕ) where
       let w = chosen-here .found f (omega arith) (omega arith) e in
       (w .0, omega (arith, w .1, cut-length), w .2)
 
-  -- flow n of the cut book is that flow
-  pub cut-flow : (n : ℕ) → n < flowCount (cut b k) → flowOf (cut b k) n ≡ flowOf b (kept b k n)
-  unfolding cut kept flowOf
-  cut-flow n l =
+  -- flow n of the cut book is that flow, as it stands and, under the same P, as it is used
+  pub cut-flow-in : (n : ℕ) → n < flowCount (cut b k) → flowIn (cut b k) n ≡ flowIn b (kept b k n)
+  unfolding cut kept flowIn
+  cut-flow-in n l =
       let numbered : ℕ → Flow = λ f. getD (b .flows) f noFlow in
       keep-at (amongFirst b k) numbered 0 (b .flows) (λ i m. ap numbered (sym (zero-add i))) n (omega (arith, cut-length))
+
+  pub cut-flow : (n : ℕ) → n < flowCount (cut b k) → flowOf (cut b k) n ≡ flowOf b (kept b k n)
+  unfolding cut flowOf
+  cut-flow n l = ap (lowerCaps (b .processors)) (cut-flow-in n l)
 
   pub cut-processors : cut b k .processors ≡ b .processors
   unfolding cut
@@ -179,14 +183,14 @@ module _ (b : Book) (k : ℕ) where
     processors-least = rw cut-processors (r .processors-least);
     processors-most = rw cut-processors (r .processors-most);
     flows-most = omega (arith, cut-at-most, r .flows-most);
-    each-flow = λ f l. rw (cut-flow f l, cut-processors) (r .each-flow (kept b k f) (kept-below f l));
+    each-flow = λ f l. rw (cut-flow-in f l) (r .each-flow (kept b k f) (kept-below f l));
   }
 
   -- its releases fit where those of the whole book do
   pub cut-writable : (v : ℕ) → Writable v b → Writable v (cut b k)
   cut-writable v can = record {
     version-known = can .version-known;
-    release-fits = λ f l. rw (cut-flow f l) (can .release-fits (kept b k f) (kept-below f l));
+    release-fits = λ f l. rw (cut-flow-in f l) (can .release-fits (kept b k f) (kept-below f l));
   }
 
 -- "a book of its own", which keeps its version

@@ -21,6 +21,7 @@ use Rattle.rules.proofs.AcceptsExactly.{accepts-exactly}
 use Rattle.rules.proofs.Demand3.{demand-3}
 use Rattle.rules.proofs.AcceptsPlans.{accepts-plans}
 use Rattle.rules.proofs.Versions.{version-1-kept}
+use Rattle.rules.proofs.Lowered.{caps-lowered}
 
 module _ (b : Book) (out area : List ℕ) where
   abbrev Writes : PlanOutcome → Type 0
@@ -67,4 +68,5 @@ demands = record {
   planned-or-infeasible = demand-3;
   accepts-plans = accepts-plans;
   version-1-kept = version-1-kept;
+  caps-lowered = caps-lowered;
 }

@@ -14,11 +14,14 @@ pub mod Walks
 pub mod Faults
 pub mod Fields
 -- the reading of books
+pub mod Caps
 pub mod Passing
 pub mod RoundTrip
 pub mod Versions
 pub mod ServiceOrder
 pub mod CutBook
+pub mod SameUse
+pub mod Lowered
 -- rules 1 to 3 and 5
 pub mod Ideal
 pub mod PseudoJobs

@@ -1,6 +1,5 @@
--- The marked plans A to F of document 01, and G for releases (02, Req 01), shown of the rules themselves by one theorem: whole outcomes, with
--- output and work area.
--- Each field is computed from the definitions. Assumes nothing.
+-- The marked plans A to F of document 01, E as Req 02 has it, G for releases (02, Req 01) and H for caps above P (02, Req 02), shown of the rules
+-- themselves by one theorem: whole outcomes, with output and work area. Each field is computed from the definitions. Assumes nothing.
 use mathlib.Core.Path.{_≡_, refl}
 use Prim.Native.Nat.{ℕ, zero, suc, _*_, _-_, _/_, _%_, _^_}
 use mathlib.Core.List.{List, [], _∷_, _++_}
@@ -8,7 +7,7 @@ use lib.ListN.{replicate}
 use Rattle.rules.specs.Walks.{sumTo, maxTo, anyTo, allTo, listFrom, joinFrom}
 use Rattle.rules.specs.Fields.{field, bytesOf}
 use Rattle.rules.specs.Answers.{firstFault, planAccepted, planRefused, checkAccepted, checkRefused}
-use Rattle.rules.specs.Book.{flowOf, jobOf, hasBit}
+use Rattle.rules.specs.Book.{flowIn, lowerCap, lowerCaps, flowOf, jobOf, hasBit}
 use Rattle.rules.specs.Reading.{
   releaseSize,
   releaseAt,
@@ -112,6 +111,18 @@ bookD = hex 8 0x00000008_01_0003_00
 abbrev bookE : List ℕ
 bookE = hex 56 0x00000038_01_0002_02_0005_02_00000005_0002_0000000000000000_00000004_0003_0000000000000001_0003_01_00000005_0002_0000000000000000
 
+-- job 1's cap of 3 counts as 2 (02, Req 02): it has two processors in slots 6 and 7, the first of them with these processors
+abbrev tableE : ℕ → List ℕ
+tableE n =
+    hex 12 0x00000042_01_0002_02_0008_0003
+    ++ hex 18 0x0000_01_00_0002_0001_01_00_0002_0002_01_00_0001
+    ++ hex 24 0x0002_00_00_0001_0003_00_00_0002_0004_00_00_0001_0005_00_00_0001
+    ++ hex 4 0x0006_00_01 ++ hex 2 n ++ hex 6 0x0007_00_01_0002
+
+-- E with a cap of 0
+abbrev bookNoCap : List ℕ
+bookNoCap = hex 56 0x00000038_01_0002_02_0005_02_00000005_0002_0000000000000000_00000004_0000_0000000000000001_0003_01_00000005_0002_0000000000000000
+
 -- F: table A with its eighth row moved to slot 3, and with these processors in it
 abbrev tableF : ℕ → List ℕ
 tableF n =
@@ -141,6 +152,17 @@ tableEarly =
 -- G with the release of flow 0 at its deadline
 abbrev bookLateRelease : List ℕ
 bookLateRelease = hex 46 0x0000002e_02_0003_02_0006_0006_01_00000005_0002_0000000000000000_0004_0000_01_00000006_0002_0000000000000000
+
+-- H, version 2: P 2. One flow, deadline 8, release 0: job 0 size 6 cap 65,535 and job 1 size 3 cap 1, both free. Job 0's cap counts as 2, so it lasts
+-- three ideal slots beside job 1: three times two units of job 0 and one of job 1
+abbrev bookH : List ℕ
+bookH = hex 41 0x00000029_02_0002_01_0008_0000_02_00000006_ffff_0000000000000000_00000003_0001_0000000000000000
+
+abbrev tableH : List ℕ
+tableH =
+    hex 10 0x00000034_01_0002_01_0005
+    ++ hex 18 0x0000_00_00_0002_0001_00_00_0001_0001_00_01_0001
+    ++ hex 24 0x0002_00_00_0001_0002_00_01_0001_0003_00_00_0002_0004_00_01_0001
 
 -- an output of n bytes, and a work area of 16,384, filled with nines
 abbrev out : ℕ → List ℕ
@@ -173,7 +195,11 @@ pub record MarkedPlans : Type 0 where
   pub D-output-8 : planCall bookD (out 8) area
       ≡ record { answer = planAccepted 0 8; output = hex 8 0x00000008_01_0003_00; area = used 0 0 }
   pub D-output-7 : planCall bookD (out 7) area ≡ record { answer = planRefused 13 255 255; output = out 7; area = used 0 0 }
-  pub E : planCall bookE (out 66) area ≡ record { answer = planRefused 9 0 1; output = out 66; area = area }
+  pub E : planCall bookE (out 66) area
+      ≡ record { answer = planAccepted 1 66; output = tableE 2; area = used 8 0x0002_0002_0002_0002_0001_0001_0002_0002 }
+  pub E-accepted : checkCall bookE (tableE 2) area ≡ record { answer = checkAccepted 1; area = used 8 0x0002_0002_0002_0002_0001_0001_0002_0002 }
+  pub E-row-above-P : checkCall bookE (tableE 3) area ≡ record { answer = checkRefused 17 0 1; area = used 0 0 }
+  pub E-cap-0 : planCall bookNoCap (out 66) area ≡ record { answer = planRefused 9 0 1; output = out 66; area = area }
   pub F-slot-3 : checkCall bookA (tableF 3) area ≡ record { answer = checkRefused 18 0 1; area = used 0 0 }
   pub F-slot-3-take-2 : checkCall bookA (tableF 2) area ≡ record { answer = checkRefused 19 0 1; area = used 0 0 }
   pub A-accepted : checkCall bookA tableA area ≡ record { answer = checkAccepted 1; area = used 6 0x0003_0003_0003_0001_0003_0001 }
@@ -182,9 +208,11 @@ pub record MarkedPlans : Type 0 where
   pub G-accepted : checkCall bookG tableG area ≡ record { answer = checkAccepted 0; area = used 6 0x0002_0002_0003_0002_0001_0001 }
   pub G-row-before-release : checkCall bookG tableEarly area ≡ record { answer = checkRefused 19 0 0; area = used 0 0 }
   pub G-release-at-deadline : planCall bookLateRelease (out 60) area ≡ record { answer = planRefused 22 0 255; output = out 60; area = area }
+  pub H : planCall bookH (out 52) area ≡ record { answer = planAccepted 0 52; output = tableH; area = used 5 0x0002_0002_0002_0002_0001 }
+  pub H-accepted : checkCall bookH tableH area ≡ record { answer = checkAccepted 0; area = used 5 0x0002_0002_0002_0002_0001 }
 
 pub marked-plans : MarkedPlans
-unfolding sumTo maxTo anyTo allTo listFrom joinFrom field bytesOf firstFault flowOf jobOf hasBit releaseSize releaseAt jobsAt flowStart jobAt flowAt bookOf flowHeadFault jobFault flowFault leftoverFault bookFault readBook quotientUp duration lastTake startAfter endsBelow startOf endOf path takeOf unchanged prepend runs chain rate work servedBefore insertFlow orderOf serviceOrder rowFor sumWhere usedIn totalOf doneBefore finishOf isLate lateFlows workUsed workZero slotUnits units unitsOf share given afterSlot slotRows progress flowRows usable freeProcessors placeFlow placeFirst plan tableLength rowBytes rowsBytes tableBytes rowAt planOutcome planReading planCall tableRows tableHeadFault rowBefore rises lacksPredecessor beforeRelease rowFault totalFault finishFault tableFault checkOutcome checkReading checkCall
+unfolding sumTo maxTo anyTo allTo listFrom joinFrom field bytesOf firstFault flowIn lowerCap lowerCaps flowOf jobOf hasBit releaseSize releaseAt jobsAt flowStart jobAt flowAt bookOf flowHeadFault jobFault flowFault leftoverFault bookFault readBook quotientUp duration lastTake startAfter endsBelow startOf endOf path takeOf unchanged prepend runs chain rate work servedBefore insertFlow orderOf serviceOrder rowFor sumWhere usedIn totalOf doneBefore finishOf isLate lateFlows workUsed workZero slotUnits units unitsOf share given afterSlot slotRows progress flowRows usable freeProcessors placeFlow placeFirst plan tableLength rowBytes rowsBytes tableBytes rowAt planOutcome planReading planCall tableRows tableHeadFault rowBefore rises lacksPredecessor beforeRelease rowFault totalFault finishFault tableFault checkOutcome checkReading checkCall
 marked-plans = record {
   A = refl;
   B = refl;
@@ -194,6 +222,9 @@ marked-plans = record {
   D-output-8 = refl;
   D-output-7 = refl;
   E = refl;
+  E-accepted = refl;
+  E-row-above-P = refl;
+  E-cap-0 = refl;
   F-slot-3 = refl;
   F-slot-3-take-2 = refl;
   A-accepted = refl;
@@ -201,4 +232,6 @@ marked-plans = record {
   G-accepted = refl;
   G-row-before-release = refl;
   G-release-at-deadline = refl;
+  H = refl;
+  H-accepted = refl;
 }

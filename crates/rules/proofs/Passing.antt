@@ -14,8 +14,8 @@ use Rattle.rules.specs.declared.Verdict.the-variants.{Pass, Refused}
 use Rattle.rules.specs.Walks.{if_then_else_}
 use Rattle.rules.specs.Fields.{byte, field}
 use Rattle.rules.specs.Answers.{firstFault}
-use Rattle.rules.specs.Limits.{outside, mostProcessors, mostFlows, mostDeadline, mostJobs, mostSize}
-use Rattle.rules.specs.Book.{Book, flowCount, jobCount, noFlow, noJob, flowOf, jobOf, JobInRange, FlowInRange, InRange}
+use Rattle.rules.specs.Limits.{outside, mostProcessors, mostFlows, mostDeadline, mostJobs, mostSize, mostCap}
+use Rattle.rules.specs.Book.{Book, flowCount, jobCount, noFlow, noJob, flowIn, jobOf, JobInRange, FlowInRange, InRange}
 use Rattle.rules.specs.Reading.{bookHead, versionOf, flowHead, jobRecord, releaseAt, jobsAt, flowStart, jobStart, jobAt, flowAt, bookOf, flowHeadFault, jobFault, flowFault, leftoverFault, bookFault, readingOf, readBook}
 use Rattle.rules.specs.Reading.Reading.{read}
 use Rattle.rules.proofs.Walks.{list-length, list-at-zero}
@@ -26,9 +26,9 @@ pub flow-count : (s : List ℕ) → flowCount (bookOf s) ≡ byte s 7
 unfolding bookOf
 flow-count s = list-length (λ f. flowAt s (flowStart s f)) (byte s 7) 0
 
-pub flow-of-book : (s : List ℕ) (f : ℕ) → f < byte s 7 → flowOf (bookOf s) f ≡ flowAt s (flowStart s f)
-unfolding bookOf flowOf
-flow-of-book s f h = list-at-zero (λ g. flowAt s (flowStart s g)) (byte s 7) f noFlow h
+pub flow-in-book : (s : List ℕ) (f : ℕ) → f < byte s 7 → flowIn (bookOf s) f ≡ flowAt s (flowStart s f)
+unfolding bookOf flowIn
+flow-in-book s f h = list-at-zero (λ g. flowAt s (flowStart s g)) (byte s 7) f noFlow h
 
 pub job-count : (s : List ℕ) (at : ℕ) → jobCount (flowAt s at) ≡ jobsAt s at
 unfolding flowAt
@@ -95,7 +95,7 @@ flow-head-passes s f at e =
 -- the record of job i, at `at`, that passes
 pub record JobPasses (s : List ℕ) (i at : ℕ) : Type 0 where
   pub job-whole : at + jobRecord ≤ length s
-  pub job-in-range : JobInRange (field 2 s 5) i (jobAt s at)
+  pub job-in-range : JobInRange mostCap i (jobAt s at)
 
 pub job-passes : (s : List ℕ) (f i at : ℕ) → jobFault s f i at ≡ Pass → JobPasses s i at
 unfolding jobFault jobAt
@@ -105,7 +105,7 @@ job-passes s f i at e =
     let cap = test-passed _ _ _ _ _ (size .1) in
     let bits = test-passed _ _ _ _ _ (cap .1) in
     let z = not-outside 1 mostSize (field 4 s at) (size .0) in
-    let c = not-outside 1 (field 2 s 5) (field 2 s (at + 4)) (cap .0) in
+    let c = not-outside 1 mostCap (field 2 s (at + 4)) (cap .0) in
     record {
       job-whole = ltb-false (length s) (at + jobRecord) (short .0);
       job-in-range = record {
@@ -145,7 +145,7 @@ flow-passes s f at e = record { head = head; each = each; flow-whole = go (jobsA
     go zero q = omega (arith, head .flow-head-whole)
     go (suc n) q = omega (arith, each n (omega arith) .job-whole)
 
-pub flow-in-range : (s : List ℕ) (at : ℕ) → FlowPasses s at → FlowInRange (field 2 s 5) (flowAt s at)
+pub flow-in-range : (s : List ℕ) (at : ℕ) → FlowPasses s at → FlowInRange mostCap (flowAt s at)
 flow-in-range s at p =
     record {
       deadline-least = rw (deadline-of-flow s at) (p .head .deadline-from);
@@ -227,7 +227,7 @@ pass-in-range s e =
       flows-most = rw (flow-count s) (p .flows-to);
       each-flow = λ f h.
           let l : f < byte s 7 = rw (flow-count s) at h in
-          rw (flow-of-book s f l, processors-of-book s) (flow-in-range s (flowStart s f) (flow-of-passing s e f l));
+          rw (flow-in-book s f l) (flow-in-range s (flowStart s f) (flow-of-passing s e f l));
     }
 
 -- ---- a book that is read
@@ -269,7 +269,7 @@ job-no-fault s f i at p =
     let r = p .job-in-range in
     test-passes _ _ _ _ _ (le-ltb (length s) (at + jobRecord) (p .job-whole))
     (test-passes _ _ _ _ _ (inside-passes 1 mostSize (field 4 s at) (r .size-least) (r .size-most))
-    (test-passes _ _ _ _ _ (inside-passes 1 (field 2 s 5) (field 2 s (at + 4)) (r .cap-least) (r .cap-most))
+    (test-passes _ _ _ _ _ (inside-passes 1 mostCap (field 2 s (at + 4)) (r .cap-least) (r .cap-most))
     (test-passes _ _ _ _ _ (lt-leb (2 ^ i) (field 8 s (at + 6)) (r .predecessors-below)) refl)))
 
 pub flow-no-fault : (s : List ℕ) (f at : ℕ) → FlowPasses s at → flowFault s f at ≡ Pass

@@ -18,6 +18,7 @@ use Rattle.rules.specs.Rows.{Row, sumWhere, usedIn, finishOf}
 use Rattle.rules.specs.Schedule.{Schedule, everyFlow, IsJob, Valid, EndsBy, InSlots, scheduleOf}
 use Rattle.rules.specs.Placing.{slotsFor, planned, placeFirst, rowsOf, plan}
 use Rattle.rules.specs.Cut.{amongFirst}
+use Rattle.rules.proofs.Caps.{used-in-range}
 use Rattle.rules.proofs.Division.{lt-or-ge}
 use Rattle.rules.proofs.Sums.{sum-ext, sum-mono, sum-add, sum-zero, sum-up, sum-quiet}
 use Rattle.rules.proofs.Walks.{any-met, any-none, any-true}
@@ -87,7 +88,7 @@ valid-among b p q σ same v = record {
 
 module _ (b : Book) (range : InRange b) where
   pub range-at : (n : ℕ) → n < flowCount b → FlowInRange (b .processors) (servedFlow b n)
-  range-at n l = range .each-flow (servedAt b n) (service-below b n l)
+  range-at n l = used-in-range range (servedAt b n) (service-below b n l)
 
   pub sized-at : (n : ℕ) → n < flowCount b → Sized (servedFlow b n)
   sized-at n l = in-range-sized (range-at n l)

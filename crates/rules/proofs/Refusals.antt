@@ -15,7 +15,7 @@ use Rattle.rules.specs.declared.Verdict.the-variants.{Pass, Refused}
 use Rattle.rules.specs.Walks.{if_then_else_}
 use Rattle.rules.specs.Fields.{byte, field}
 use Rattle.rules.specs.Answers.{none, _andThen_, firstFault, planAccepted, planRefused, checkRefused}
-use Rattle.rules.specs.Limits.{outside, mostProcessors, mostFlows, mostDeadline, mostJobs, mostSize, slots, workBytes}
+use Rattle.rules.specs.Limits.{outside, mostProcessors, mostFlows, mostDeadline, mostJobs, mostSize, mostCap, slots, workBytes}
 use Rattle.rules.specs.Book.{Book, flowCount, jobCount, flowOf, jobOf}
 use Rattle.rules.specs.Reading.{bookHead, versionOf, flowHead, jobRecord, releaseAt, jobsAt, flowStart, jobStart, flowHeadFault, jobFault, flowFault, leftoverFault, bookFault, bookOf, readingOf, readBook}
 use Rattle.rules.specs.Rows.{Row, usedIn, totalOf, finishOf, lateFlows, workUsed, workZero}
@@ -71,7 +71,7 @@ unfolding jobFault
 job-numbered s f i at =
     numbered-test byEleven (ltb (length s) (at + jobRecord)) 5 f i _ (omega arith, refl)
     (numbered-test byEleven (outside 1 mostSize (field 4 s at)) 8 f i _ (omega arith, refl)
-    (numbered-test byEleven (outside 1 (field 2 s 5) (field 2 s (at + 4))) 9 f i _ (omega arith, refl)
+    (numbered-test byEleven (outside 1 mostCap (field 2 s (at + 4))) 9 f i _ (omega arith, refl)
     (numbered-test byEleven (leb (2 ^ i) (field 8 s (at + 6))) 10 f i Pass (omega arith, refl) (numbered-pass byEleven))))
 
 flow-numbered : (s : List ℕ) (f at : ℕ) → Numbered byEleven (flowFault s f at)

@@ -12,8 +12,8 @@ use lib.Dec.{eqb}
 use Rattle.rules.specs.declared.Verdict.the-variants.{Pass}
 use Rattle.rules.specs.Walks.{if_then_else_, sumTo, listFrom, joinFrom}
 use Rattle.rules.specs.Fields.{byte, field, bytesOf, AllBytes}
-use Rattle.rules.specs.Limits.{mostProcessors, mostJobs}
-use Rattle.rules.specs.Book.{Job, Flow, Book, flowCount, jobCount, noFlow, noJob, flowOf, jobOf, JobInRange, FlowInRange, InRange}
+use Rattle.rules.specs.Limits.{mostJobs, mostCap}
+use Rattle.rules.specs.Book.{Job, Flow, Book, flowCount, jobCount, noFlow, noJob, flowIn, jobOf, JobInRange, FlowInRange, InRange}
 use Rattle.rules.specs.Reading.{bookHead, versionOf, releaseSize, flowHead, jobRecord, releaseAt, jobsAt, flowStart, jobStart, jobAt, flowAt, bookOf, bookFault, readBook, jobBytes, flowBytes, flowsBytes, bookBytes}
 use Rattle.rules.specs.Reading.Reading.{read}
 use Rattle.rules.proofs.Sums.{sum-ext, sum-const, sum-le, sum-up}
@@ -34,7 +34,7 @@ flow-length v w =
     (omega (arith, join-length-zero (λ i. jobBytes (jobOf w i)) (jobCount w), sum-const jobRecord (jobCount w)))
 
 -- ---- a job that stands in bytes
-module _ (P i : ℕ) (j : Job) (s : List ℕ) (at : ℕ) (r : JobInRange P i j) (p : P ≤ mostProcessors) (l : i < mostJobs) (h : StandsAt s at (jobBytes j)) where
+module _ (i : ℕ) (j : Job) (s : List ℕ) (at : ℕ) (r : JobInRange mostCap i j) (l : i < mostJobs) (h : StandsAt s at (jobBytes j)) where
   -- the values read there are the job's
   pub job-read : jobAt s at ≡ j
   unfolding jobBytes jobAt
@@ -58,7 +58,7 @@ module _ (P i : ℕ) (j : Job) (s : List ℕ) (at : ℕ) (r : JobInRange P i j) 
           (stands-after s at 6 (bytesOf 4 (j .size) ++ bytesOf 2 (j .cap)) (bytesOf 8 (j .predecessors)) (simp (length-append, bytes-length)) h)
 
 -- ---- a flow that stands in the bytes of a book of version v; its release fits its field
-module _ (v P : ℕ) (w : Flow) (s : List ℕ) (at : ℕ) (r : FlowInRange P w) (p : P ≤ mostProcessors) (fits : w .release < 256 ^ releaseSize v)
+module _ (v : ℕ) (w : Flow) (s : List ℕ) (at : ℕ) (r : FlowInRange mostCap w) (fits : w .release < 256 ^ releaseSize v)
     (version : versionOf s ≡ v) (h : StandsAt s at (flowBytes v w)) where
   -- the parts of the head
   abbrev deadline : List ℕ
@@ -108,7 +108,7 @@ module _ (v P : ℕ) (w : Flow) (s : List ℕ) (at : ℕ) (r : FlowInRange P w) 
       before = sum-ext (λ k. length (jobBytes (jobOf w k))) (λ k. jobRecord) i (λ k m. job-length (jobOf w k)) ∙ sum-const jobRecord i
 
   pub job-read-at : (i : ℕ) → i < jobCount w → jobAt s (jobStart s at i) ≡ jobOf w i
-  job-read-at i l = job-read P i (jobOf w i) s (jobStart s at i) (r .each-job i l) p (omega (arith, r .jobs-most)) (job-stands i l)
+  job-read-at i l = job-read i (jobOf w i) s (jobStart s at i) (r .each-job i l) (omega (arith, r .jobs-most)) (job-stands i l)
 
   -- the values read there are the flow's
   pub flow-read : flowAt s at ≡ w
@@ -119,8 +119,8 @@ module _ (v P : ℕ) (w : Flow) (s : List ℕ) (at : ℕ) (r : FlowInRange P w) 
       jobs-read = list-of (λ i. jobAt s (jobStart s at i)) (jobsAt s at) (w .jobs) noJob job-count-read job-read-at
 
   -- a flow in range that stands inside the bytes of a book passes
-  pub flow-stands-passes : field 2 s 5 ≡ P → at + length (flowBytes v w) ≤ length s → FlowPasses s at
-  flow-stands-passes q inside = record {
+  pub flow-stands-passes : at + length (flowBytes v w) ≤ length s → FlowPasses s at
+  flow-stands-passes inside = record {
     head = record {
       flow-head-whole = rw version (omega (arith, flow-length v w));
       deadline-from = rw deadline-read (r .deadline-least);
@@ -131,18 +131,18 @@ module _ (v P : ℕ) (w : Flow) (s : List ℕ) (at : ℕ) (r : FlowInRange P w) 
     };
     each = λ i l.
         let m : i < jobCount w = rw job-count-read at l in
-        record { job-whole = rw version (omega (arith, flow-length v w)); job-in-range = rw (q, job-read-at i m) (r .each-job i m) };
+        record { job-whole = rw version (omega (arith, flow-length v w)); job-in-range = rw (job-read-at i m) (r .each-job i m) };
     flow-whole = rw version (omega (arith, flow-length v w, job-count-read));
   }
 
 -- ---- the whole book
 -- the bytes in front of flow f
 abbrev pub flowsBefore : ℕ → Book → ℕ → ℕ
-flowsBefore v b f = sumTo (λ g. length (flowBytes v (flowOf b g))) f
+flowsBefore v b f = sumTo (λ g. length (flowBytes v (flowIn b g))) f
 
 pub flows-length : (v : ℕ) (b : Book) → length (flowsBytes v b) ≡ flowsBefore v b (flowCount b)
 unfolding flowsBytes
-flows-length v b = join-length-zero (λ f. flowBytes v (flowOf b f)) (flowCount b)
+flows-length v b = join-length-zero (λ f. flowBytes v (flowIn b f)) (flowCount b)
 
 pub book-length : (v : ℕ) (b : Book) → length (bookBytes v b) ≡ bookHead + length (flowsBytes v b)
 unfolding bookBytes
@@ -193,7 +193,7 @@ book-stands v b = record {
 -- the values of a book can be written in a version: it is 1 or 2, and each release fits its field, which in version 1 says 0
 pub record Writable (v : ℕ) (b : Book) : Type 0 where
   pub version-known : Known v
-  pub release-fits : (f : ℕ) → f < flowCount b → flowOf b f .release < 256 ^ releaseSize v
+  pub release-fits : (f : ℕ) → f < flowCount b → flowIn b f .release < 256 ^ releaseSize v
 
 -- in version 2 all values in range can be written, in version 1 those without releases
 pub writable-two : (b : Book) → InRange b → Writable 2 b
@@ -203,7 +203,7 @@ writable-two b r = record {
   release-fits = λ f l. omega (arith, r .each-flow f l .release-below, r .each-flow f l .deadline-most);
 }
 
-pub writable-one : (b : Book) → ((f : ℕ) → f < flowCount b → flowOf b f .release ≡ 0) → Writable 1 b
+pub writable-one : (b : Book) → ((f : ℕ) → f < flowCount b → flowIn b f .release ≡ 0) → Writable 1 b
 unfolding releaseSize
 writable-one b z = record { version-known = inl refl; release-fits = λ f l. omega (arith, z f l) }
 
@@ -223,8 +223,8 @@ module _ (v : ℕ) (b : Book) (r : InRange b) (can : Writable v b) where
         arith,
         book-length v b,
         flows-length v b,
-        sum-le (λ f. length (flowBytes v (flowOf b f))) 901 (flowCount b)
-            (λ f l. omega (arith, flow-length v (flowOf b f), release-size-most v, r .each-flow f l .jobs-most)),
+        sum-le (λ f. length (flowBytes v (flowIn b f))) 901 (flowCount b)
+            (λ f l. omega (arith, flow-length v (flowIn b f), release-size-most v, r .each-flow f l .jobs-most)),
         r .flows-most,
       )
 
@@ -250,9 +250,9 @@ module _ (v : ℕ) (b : Book) (r : InRange b) (can : Writable v b) where
   pub flow-count-read : byte (bookBytes v b) 7 ≡ flowCount b
   flow-count-read = byte-written (flowCount b) (bookBytes v b) 7 (omega (arith, r .flows-most)) (stand .flow-count-stands)
 
-  flow-stands : (f : ℕ) → f < flowCount b → StandsAt (bookBytes v b) (bookHead + flowsBefore v b f) (flowBytes v (flowOf b f))
+  flow-stands : (f : ℕ) → f < flowCount b → StandsAt (bookBytes v b) (bookHead + flowsBefore v b f) (flowBytes v (flowIn b f))
   unfolding flowsBytes
-  flow-stands f l = stands-join (bookBytes v b) bookHead (λ g. flowBytes v (flowOf b g)) (flowCount b) (stand .flows-stand) f l
+  flow-stands f l = stands-join (bookBytes v b) bookHead (λ g. flowBytes v (flowIn b g)) (flowCount b) (stand .flows-stand) f l
 
   -- the reading finds each flow where it was written
   pub flow-start-read : (f : ℕ) → f ≤ flowCount b → flowStart (bookBytes v b) f ≡ bookHead + flowsBefore v b f
@@ -261,22 +261,22 @@ module _ (v : ℕ) (b : Book) (r : InRange b) (can : Writable v b) where
   flow-start-read (suc f) l =
       let ih = flow-start-read f (omega arith) in
       let m : f < flowCount b = omega arith in
-      let count : jobsAt (bookBytes v b) (flowStart (bookBytes v b) f) ≡ jobCount (flowOf b f) =
+      let count : jobsAt (bookBytes v b) (flowStart (bookBytes v b) f) ≡ jobCount (flowIn b f) =
       ap (jobsAt (bookBytes v b)) ih
-      ∙ job-count-read v (b .processors) (flowOf b f) (bookBytes v b) (bookHead + flowsBefore v b f) (r .each-flow f m) (r .processors-most)
+      ∙ job-count-read v (flowIn b f) (bookBytes v b) (bookHead + flowsBefore v b f) (r .each-flow f m)
       (can .release-fits f m) version-read (flow-stands f m) in
-      omega (arith, flow-length v (flowOf b f), ap releaseSize version-read)
+      omega (arith, flow-length v (flowIn b f), ap releaseSize version-read)
 
-  pub flow-stands-at-start : (f : ℕ) → f < flowCount b → StandsAt (bookBytes v b) (flowStart (bookBytes v b) f) (flowBytes v (flowOf b f))
+  pub flow-stands-at-start : (f : ℕ) → f < flowCount b → StandsAt (bookBytes v b) (flowStart (bookBytes v b) f) (flowBytes v (flowIn b f))
   flow-stands-at-start f l = rw (flow-start-read f (omega arith)) (flow-stands f l)
 
-  flow-fits : (f : ℕ) → f < flowCount b → flowStart (bookBytes v b) f + length (flowBytes v (flowOf b f)) ≤ length (bookBytes v b)
+  flow-fits : (f : ℕ) → f < flowCount b → flowStart (bookBytes v b) f + length (flowBytes v (flowIn b f)) ≤ length (bookBytes v b)
   unfolding sumTo
   flow-fits f l =
       omega (
         arith,
         flow-start-read f (omega arith),
-        sum-up (λ g. length (flowBytes v (flowOf b g))) {m = suc f} {n = flowCount b} l,
+        sum-up (λ g. length (flowBytes v (flowIn b g))) {m = suc f} {n = flowCount b} l,
         book-length v b,
         flows-length v b,
       )
@@ -293,22 +293,22 @@ module _ (v : ℕ) (b : Book) (r : InRange b) (can : Writable v b) where
     each-passes = λ f l.
         let m : f < flowCount b = rw flow-count-read at l in
         flow-no-fault (bookBytes v b) f (flowStart (bookBytes v b) f)
-        (flow-stands-passes v (b .processors) (flowOf b f) (bookBytes v b) (flowStart (bookBytes v b) f) (r .each-flow f m) (r .processors-most)
-        (can .release-fits f m) version-read (flow-stands-at-start f m) processors-read (flow-fits f m));
+        (flow-stands-passes v (flowIn b f) (bookBytes v b) (flowStart (bookBytes v b) f) (r .each-flow f m)
+        (can .release-fits f m) version-read (flow-stands-at-start f m) (flow-fits f m));
     nothing-left = omega (arith, ap (flowStart (bookBytes v b)) flow-count-read, flow-start-read (flowCount b) (omega arith), book-length v b, flows-length v b);
   })
 
   -- the bytes hold the same values
   pub written-values : bookOf (bookBytes v b) ≡ b
-  unfolding bookOf flowOf
+  unfolding bookOf flowIn
   written-values = λ x. record { processors = processors-read x; flows = flows-read x }
     where
       s : List ℕ
       s = bookBytes v b
 
-      flow-read-at : (f : ℕ) → f < flowCount b → flowAt s (flowStart s f) ≡ flowOf b f
+      flow-read-at : (f : ℕ) → f < flowCount b → flowAt s (flowStart s f) ≡ flowIn b f
       flow-read-at f l =
-          flow-read v (b .processors) (flowOf b f) s (flowStart s f) (r .each-flow f l) (r .processors-most) (can .release-fits f l) version-read
+          flow-read v (flowIn b f) s (flowStart s f) (r .each-flow f l) (can .release-fits f l) version-read
           (flow-stands-at-start f l)
 
       flows-read : listFrom (λ f. flowAt s (flowStart s f)) (byte s 7) 0 ≡ b .flows
@@ -331,7 +331,7 @@ unfolding bookBytes flowsBytes
 book-all-bytes v b =
     bytes-append _ _
     (bytes-append _ _ (bytes-append _ _ (bytes-append _ _ (bytes-of 4 _) (bytes-of 1 v)) (bytes-of 2 (b .processors))) (bytes-of 1 (flowCount b)))
-    (bytes-join (λ f. flowBytes v (flowOf b f)) (flowCount b) 0 (λ f. flow-all-bytes v (flowOf b f)))
+    (bytes-join (λ f. flowBytes v (flowIn b f)) (flowCount b) 0 (λ f. flow-all-bytes v (flowIn b f)))
 
 -- the encoding of values in range is a book that reads back
 pub read-written : (v : ℕ) (b : Book) → InRange b → Writable v b → readBook (bookBytes v b) ≡ read b

@@ -16,6 +16,7 @@ use Rattle.rules.specs.Book.{Book, flowCount, jobCount, flowOf, InRange}
 use Rattle.rules.specs.Service.{serviceOrder}
 use Rattle.rules.specs.Rows.{Row, rowFor, sumWhere}
 use Rattle.rules.specs.Schedule.{Schedule, everyFlow, IsJob, Valid, InSlots, scheduleOf, scheduleRows}
+use Rattle.rules.proofs.Caps.{used-in-range}
 use Rattle.rules.proofs.Division.{lt-or-ge}
 use Rattle.rules.proofs.Sums.{sum-le}
 use Rattle.rules.proofs.Walks.{join-length-zero}
@@ -253,7 +254,7 @@ schedule-rows-length b σ h =
   where
     slot-length : (f t : ℕ) → f < flowCount b → length (rowsOfSlot b σ f t) ≤ mostJobs
     slot-length f t l =
-        omega (arith, join-length-le (rowsOfJob b σ f t) (jobCount (flowOf b f)) 1 (λ i m. row-for-length t f i (σ f i t)), h .each-flow f l .jobs-most)
+        omega (arith, join-length-le (rowsOfJob b σ f t) (jobCount (flowOf b f)) 1 (λ i m. row-for-length t f i (σ f i t)), used-in-range h f l .jobs-most)
 
     flow-length : (f : ℕ) → f < flowCount b → length (rowsOfFlow b σ f) ≤ mostJobs * slots
     flow-length f l = join-length-le (rowsOfSlot b σ f) slots mostJobs (λ t m. slot-length f t l)

@@ -15,12 +15,12 @@ use Rattle.rules.specs.Walks.{if_then_else_}
 use Rattle.rules.specs.Fields.{byte, field}
 use Rattle.rules.specs.Answers.{none}
 use Rattle.rules.specs.Limits.{outside, mostDeadline, mostJobs}
-use Rattle.rules.specs.Book.{Book, flowCount, flowOf}
+use Rattle.rules.specs.Book.{Book, flowCount, flowIn, lowerCaps, flowOf}
 use Rattle.rules.specs.Reading.{versionOf, releaseSize, releaseAt, jobsAt, flowStart, flowHeadFault, bookOf, read, readBook, bookBytes}
 use Rattle.rules.specs.Planner.{planCall}
 use Rattle.rules.specs.Check.{checkCall}
 use Rattle.rules.specs.Demands.{Version1Kept}
-use Rattle.rules.proofs.Passing.{Known, flow-count, flow-of-book, release-of-flow, book-passes, read-passes, read-in-range}
+use Rattle.rules.proofs.Passing.{Known, flow-count, flow-in-book, release-of-flow, book-passes, read-passes, read-in-range}
 use Rattle.rules.proofs.RoundTrip.{Writable, writable-two, read-written}
 
 -- "a version 1 book means release 0"
@@ -52,21 +52,22 @@ head-fault-one s f at e = rw (release-at-zero s at e, jobs-at-two s at e, e) (go
 
 module _ (book : List ℕ) (b : Book) (e : readBook book ≡ read b) where
   pub read-release-zero : versionOf book ≡ 1 → (f : ℕ) → f < flowCount b → flowOf b f .release ≡ 0
+  unfolding lowerCaps flowOf
   read-release-zero one f l =
       let same : b ≡ bookOf book = read-passes book b e .1 in
-      ap (λ (c : Book). flowOf c f .release) same
-      ∙ ap (λ w. w .release) (flow-of-book book f (omega (arith, ap flowCount same, flow-count book)))
+      ap (λ (c : Book). flowIn c f .release) same
+      ∙ ap (λ w. w .release) (flow-in-book book f (omega (arith, ap flowCount same, flow-count book)))
       ∙ release-of-flow book (flowStart book f) ∙ release-at-zero book (flowStart book f) one
 
   -- the values can be written in the version that they were read in
   pub read-writable : Writable (versionOf book) b
-  unfolding releaseSize
+  unfolding releaseSize lowerCaps flowOf
   read-writable = record { version-known = known; release-fits = fits known }
     where
       known : Known (versionOf book)
       known = book-passes book (read-passes book b e .0) .version-known
 
-      fits : Known (versionOf book) → (f : ℕ) → f < flowCount b → flowOf b f .release < 256 ^ releaseSize (versionOf book)
+      fits : Known (versionOf book) → (f : ℕ) → f < flowCount b → flowIn b f .release < 256 ^ releaseSize (versionOf book)
       fits (inl one) f l = rw one (omega (arith, read-release-zero one f l))
       fits (inr two) f l = rw two (writable-two b (read-in-range book b e) .release-fits f l)
 

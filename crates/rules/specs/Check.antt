@@ -60,7 +60,7 @@ unfoldable pub beforeRelease : Book → Row → Bool
 beforeRelease b r = ltb (r .slot) (flowOf b (r .flow) .release)
 
 -- 15: "row's slot above 8,191, flow or job not in the book, or 0 processors"; 16: "row not after the one before it"; 17: "more than the
--- cap"; 18: "more than P used in the slot by the rows so far, this one counted"; 19. The place is that of the row.
+-- cap", lowered to P (02, Req 02); 18: "more than P used in the slot by the rows so far, this one counted"; 19. The place is that of the row.
 unfoldable pub rowFault : Book → List Row → ℕ → Verdict
 rowFault b rows k =
     let r = getD rows k noRow in

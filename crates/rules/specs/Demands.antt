@@ -9,7 +9,7 @@ use lib.Dec.{leb, eqb}
 use Rattle.rules.specs.Fields.{AllBytes}
 use Rattle.rules.specs.Answers.{checkAccepted}
 use Rattle.rules.specs.Limits.{slots, workBytes}
-use Rattle.rules.specs.Book.{Book, flowCount, flowOf}
+use Rattle.rules.specs.Book.{Book, flowCount, flowIn, flowOf, lowered, jobOf}
 use Rattle.rules.specs.Reading.{versionOf, read, readBook, bookBytes}
 use Rattle.rules.specs.Service.{servedBefore}
 use Rattle.rules.specs.Rows.{Row, lateFlows, workZero}
@@ -142,6 +142,19 @@ pub record AsVersion2 (book : List ℕ) (b : Book) : Type 0 where
 unfoldable pub Version1Kept : Type 0
 Version1Kept = (book : List ℕ) (b : Book) → readBook book ≡ read b → versionOf book ≡ 1 → AsVersion2 book b
 
+-- ---- "A cap above P, up to 65,535, shall count as P wherever a cap is read" (02, Req 02)
+
+-- the same book with each cap lowered to P is a book too, and has the same outcome: answer, output and work area
+pub record AsLowered (book : List ℕ) (b : Book) : Type 0 where
+  pub lowered-reads : readBook (bookBytes (versionOf book) (lowered b)) ≡ read (lowered b)
+  pub same-plan : (out area : List ℕ) → planCall book out area ≡ planCall (bookBytes (versionOf book) (lowered b)) out area
+  pub same-check : (table area : List ℕ) → checkCall book table area ≡ checkCall (bookBytes (versionOf book) (lowered b)) table area
+
+pub record CapsLowered : Type 0 where
+  pub as-lowered : (book : List ℕ) (b : Book) → readBook book ≡ read b → AsLowered book b
+  -- caps at or below P are untouched: where no cap is above P, each flow is used as it stands in the book
+  pub untouched : (b : Book) → ((f i : ℕ) → jobOf (flowIn b f) i .cap ≤ b .processors) → (f : ℕ) → flowOf b f ≡ flowIn b f
+
 -- ---- all of it
 pub record Demands : Type 0 where
   pub refuses-by-the-list : Demand1
@@ -150,3 +163,4 @@ pub record Demands : Type 0 where
   pub planned-or-infeasible : Demand3
   pub accepts-plans : AcceptsPlans
   pub version-1-kept : Version1Kept
+  pub caps-lowered : CapsLowered

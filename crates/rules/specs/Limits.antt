@@ -27,6 +27,10 @@ mostJobs = 64
 abbrev pub mostSize : ℕ
 mostSize = 1000000
 
+-- "A cap above P, up to 65,535, shall count as P"; "Only a cap of 0 is still 9" (02, Req 02): 65,535 is the most that the field holds
+abbrev pub mostCap : ℕ
+mostCap = 65535
+
 -- "slots 0 to 8,191"
 abbrev pub slots : ℕ
 slots = 8192

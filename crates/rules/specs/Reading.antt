@@ -10,8 +10,8 @@ use Rattle.rules.specs.declared.Verdict.the-variants.{Pass, Refused}
 use Rattle.rules.specs.Walks.{if_then_else_, listFrom, joinFrom}
 use Rattle.rules.specs.Fields.{byte, field, bytesOf}
 use Rattle.rules.specs.Answers.{none, _andThen_, firstFault}
-use Rattle.rules.specs.Limits.{outside, mostProcessors, mostFlows, mostDeadline, mostJobs, mostSize}
-use Rattle.rules.specs.Book.{Job, Flow, Book, flowCount, jobCount, flowOf, jobOf}
+use Rattle.rules.specs.Limits.{outside, mostProcessors, mostFlows, mostDeadline, mostJobs, mostSize, mostCap}
+use Rattle.rules.specs.Book.{Job, Flow, Book, flowCount, jobCount, flowIn, jobOf}
 
 -- ---- where the records stand
 -- "length of the whole book in bytes (4 bytes), version = 1 (1), processors P (2), flows (1)"
@@ -76,13 +76,13 @@ flowHeadFault s f at =
     else if outside 1 mostJobs (jobsAt s at) then Refused 7 f none
     else Pass
 
--- "5, 8, 9, 10 for each job": the record of job i of flow f, at `at`, is cut short; size out of range; cap out of range;
--- predecessor bit at or above the job's own number
+-- "5, 8, 9, 10 for each job": the record of job i of flow f, at `at`, is cut short; size out of range; cap out of range, where "only a cap of 0
+-- is still 9" (02, Req 02); predecessor bit at or above the job's own number
 unfoldable pub jobFault : List ℕ → ℕ → ℕ → ℕ → Verdict
 jobFault s f i at =
     if ltb (length s) (at + jobRecord) then Refused 5 f i
     else if outside 1 mostSize (field 4 s at) then Refused 8 f i
-    else if outside 1 (field 2 s 5) (field 2 s (at + 4)) then Refused 9 f i
+    else if outside 1 mostCap (field 2 s (at + 4)) then Refused 9 f i
     else if leb (2 ^ i) (field 8 s (at + 6)) then Refused 10 f i
     else Pass
 
@@ -116,7 +116,7 @@ readingOf (Refused n f j) b = unread n f j
 unfoldable pub readBook : List ℕ → Reading
 readBook s = readingOf (bookFault s) (bookOf s)
 
--- ---- the encoding of values in a version: "a book of its own", "under a length and flow count that fit"
+-- ---- the encoding of values in a version: "a book of its own", "under a length and flow count that fit"; caps as they stand
 unfoldable pub jobBytes : Job → List ℕ
 jobBytes j = bytesOf 4 (j .size) ++ bytesOf 2 (j .cap) ++ bytesOf 8 (j .predecessors)
 
@@ -126,7 +126,7 @@ flowBytes version w =
     ++ joinFrom (λ i. jobBytes (jobOf w i)) (jobCount w) 0
 
 unfoldable pub flowsBytes : ℕ → Book → List ℕ
-flowsBytes version b = joinFrom (λ f. flowBytes version (flowOf b f)) (flowCount b) 0
+flowsBytes version b = joinFrom (λ f. flowBytes version (flowIn b f)) (flowCount b) 0
 
 unfoldable pub bookBytes : ℕ → Book → List ℕ
 bookBytes version b =

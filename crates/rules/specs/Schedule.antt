@@ -33,7 +33,8 @@ inUse b σ t = sumTo (λ f. sumTo (λ i. σ f i t) (jobCount (flowOf b f))) (flo
 
 -- "A valid schedule gives each job a whole number of processors from 0 to its cap in each slot, at most P together, its size in total, and
 -- nothing before each predecessor has its full size in earlier slots." "It keeps the rules when it is a valid schedule with their jobs and
--- no others." "A valid schedule, whoever made it, now has nothing before a flow's release" (02, Req 01).
+-- no others." "A valid schedule, whoever made it, now has nothing before a flow's release" (02, Req 01); "everything said of schedules uses the
+-- lowered cap" (02, Req 02), which is that of `flowOf`.
 pub record Valid (b : Book) (among : ℕ → Bool) (σ : Schedule) : Type 0 where
   pub no-others : (f i t : ℕ) → (IsJob b among f i → ⊥) → σ f i t ≡ 0
   pub caps : (f i t : ℕ) → IsJob b among f i → σ f i t ≤ jobOf (flowOf b f) i .cap

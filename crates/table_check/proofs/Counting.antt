@@ -21,6 +21,7 @@ use Rattle.rules.specs.Reading.{bookOf}
 use Rattle.rules.specs.Rows as rules
 use Rattle.rules.specs.Rows.{usedIn, finishOf, workUsed, workZero}
 use Rattle.rules.specs.Check.{noRow, tableRows, beforeRelease, lacksPredecessor, rowFault}
+use Rattle.rules.proofs.Caps.{used-in-range}
 use Rattle.rules.proofs.Division.{lt-or-ge}
 use Rattle.rules.proofs.Faults.{fault-next}
 use Rattle.rules.proofs.Walks.{any-true, any-false}
@@ -90,7 +91,7 @@ module _ {book table sizes caps : List ℕ} {c : Current} {from : ℕ} {totals r
     tests = lacks-by-ready b (c .flow) (take k rows) totals ready (rowFrom r) (going .tally) (turn .own) job-in slot-in latest
 
     predecessors-few : jobOf (flowOf (bookOf book) (c .flow)) (r .job) .predecessors < 2 ^ r .job
-    predecessors-few = range going .each-flow (c .flow) (going .current .stands .flow-in) .each-job (r .job) job-in .predecessors-below
+    predecessors-few = used-in-range (range going) (c .flow) (going .current .stands .flow-in) .each-job (r .job) job-in .predecessors-below
 
     -- once the job has a total, nothing is left of 19
     settled : 0 < getD totals (r .job) 0 →

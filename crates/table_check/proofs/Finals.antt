@@ -14,6 +14,7 @@ use Rattle.rules.specs.Answers.{firstFault}
 use Rattle.rules.specs.Book.{Book, flowCount, jobCount, flowOf, jobOf, InRange}
 use Rattle.rules.specs.Rows.{Row, totalOf, lateFlows}
 use Rattle.rules.specs.Check.{totalFault, statedFinish, finishFault}
+use Rattle.rules.proofs.Caps.{used-in-range}
 use Rattle.rules.proofs.Faults.{not-pass, fault-stop, fault-next, fault-ext}
 use Rattle.rules.proofs.Passing.{pass-in-range}
 use Rattle.book.specs.declared.Index.{Index}
@@ -45,7 +46,7 @@ index-flows {s} indexed = omega (arith, indexed .flows, pass-in-range s (indexed
 
 pub few-jobs : {s : List ℕ} {c : Current} → CurrentFlow s c → c .jobs ≤ 64
 few-jobs {s} {c} current =
-    omega (arith, current .jobs, pass-in-range s (current .stands .passes) .each-flow (c .flow) (current .stands .flow-in) .jobs-most)
+    omega (arith, current .jobs, used-in-range (pass-in-range s (current .stands .passes)) (c .flow) (current .stands .flow-in) .jobs-most)
 
 -- ---- one turn
 module _ (b : Book) (f : ℕ) (totals : List ℕ) (i job v : ℕ) (job-is : i ≡ job) (v-is : v ≡ jobOf (flowOf b f) i .size) where

@@ -21,6 +21,7 @@ use Rattle.rules.specs.Rows as rules
 use Rattle.rules.specs.Rows.{sumWhere, totalOf, finishOf, workUsed, workZero}
 use Rattle.rules.specs.Table.{tableHead, rowLength, rowAt}
 use Rattle.rules.specs.Check.{noRow, tableRows, tableHeadFault, rowFault, totalFault}
+use Rattle.rules.proofs.Caps.{used-in-range}
 use Rattle.rules.proofs.Division.{lt-or-ge}
 use Rattle.rules.proofs.Faults.{not-pass, fault-stop, fault-ext}
 use Rattle.rules.proofs.Passing.{pass-in-range}
@@ -51,7 +52,7 @@ flow-closed {book} {table} {totals = totals} {c = c} {w = w} current walked off-
   off = λ p.
       off-is
       ∙ flow-totals (bookOf book) (c .flow) (take (rowsTo (bookOf book) (w .next)) (tableRows (bookOf book) table)) totals
-      (pass-in-range book (current .stands .passes) .each-flow (c .flow) (current .stands .flow-in) .jobs-most) (walked .total p);
+      (used-in-range (pass-in-range book (current .stands .passes)) (c .flow) (current .stands .flow-in) .jobs-most) (walked .total p);
 }
 
 -- ---- between two flows
@@ -79,9 +80,9 @@ closed-none b range = record {
   off-of = λ f h.
       let few : f < 64 = omega (arith, range .flows-most) in
       let first : getD {A = ℕ} (replicate 64 0) f 0 ≡ 0 = getD-replicate {A = ℕ} 64 f 0 0 few in
-      let some : 0 < jobCount (flowOf b f) = range .each-flow f h .jobs-least in
+      let some : 0 < jobCount (flowOf b f) = used-in-range range f h .jobs-least in
       let wrong : totalFault b [] f 0 ≡ Refused 20 f 0 =
-      rw (ne-eqb 0 (jobOf (flowOf b f) 0 .size) (λ e. omega (arith, range .each-flow f h .each-job 0 some .size-least))) refl in
+      rw (ne-eqb 0 (jobOf (flowOf b f) 0 .size) (λ e. omega (arith, used-in-range range f h .each-job 0 some .size-least))) refl in
       ap (offFault f) first ∙ off-found f 0 (omega arith) ∙ sym (stopped (totalFault b [] f) 0 (jobCount (flowOf b f)) 20 f 0 some (none-walked _) wrong);
   finish-of = λ f h. getD-replicate {A = ℕ} 64 f 0 0 h;
 }
@@ -141,7 +142,7 @@ module _ {book table : List ℕ} {x : Index} {flows : ℕ} {work₀ work off fin
   pub jobs-few : {f : ℕ} → f < flows → getD (x .jobs) f 0 ≤ 64
   jobs-few {f} in-book =
       let inside : f < flowCount b = omega (arith, between .flows-are) in
-      omega (arith, between .indexed .jobs f inside, range .each-flow f inside .jobs-most)
+      omega (arith, between .indexed .jobs f inside, used-in-range range f inside .jobs-most)
 
   -- a flow of the book has its job records where the index says
   pub flow-stands : {f records : ℕ} → f < flows → records ≡ getD (x .records) f 0 → FlowStands book f records

@@ -16,6 +16,7 @@ use Rattle.rules.specs.Answers.{firstFault}
 use Rattle.rules.specs.Book.{Book, flowCount, jobCount, flowOf, jobOf, hasBit, InRange}
 use Rattle.rules.specs.Rows.{Row, usedIn, doneBefore, finishOf}
 use Rattle.rules.specs.Check.{noRow, rises, beforeRelease, lacksPredecessor, rowFault}
+use Rattle.rules.proofs.Caps.{used-in-range}
 use Rattle.rules.proofs.Walks.{any-ext}
 use Rattle.rules.proofs.Faults.{fault-pass}
 use Rattle.rules.proofs.Passing.{test-passed, neither-true}
@@ -83,7 +84,7 @@ key-fits b r h e =
     record {
       flow-fits = omega (arith, h .flows-most, i .1);
       slot-fits = i .0;
-      job-fits = omega (arith, h .each-flow (r .flow) (i .1) .jobs-most, i .2);
+      job-fits = omega (arith, used-in-range h (r .flow) (i .1) .jobs-most, i .2);
     }
 
 -- what 15 and 16 leave of row k, which is r

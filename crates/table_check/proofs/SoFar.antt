@@ -15,6 +15,7 @@ use Rattle.rules.specs.Answers.{firstFault}
 use Rattle.rules.specs.Book.{Book, InRange}
 use Rattle.rules.specs.Rows.{Row, sumWhere, usedIn, isOf, totalOf, doneBefore, finishOf}
 use Rattle.rules.specs.Check.{noRow, rowFault}
+use Rattle.rules.proofs.Caps.{used-in-range}
 use Rattle.rules.proofs.Faults.{both-pass, fault-pass}
 use Rattle.rules.proofs.RowsSoFar.{used-last, total-last, done-last, finish-last}
 use Rattle.rules.proofs.RowSums.{done-le-total}
@@ -47,7 +48,7 @@ module _ (b : Book) (range : InRange b) (rows : List Row) where
   fits k p = record {
     flow-fits = omega (arith, range .flows-most, p .flow-in);
     slot-fits = p .slot-in;
-    job-fits = omega (arith, range .each-flow (getD rows k noRow .flow) (p .flow-in) .jobs-most, p .job-in);
+    job-fits = omega (arith, used-in-range range (getD rows k noRow .flow) (p .flow-in) .jobs-most, p .job-in);
   }
 
   -- the rows that pass rise by their keys
@@ -87,7 +88,7 @@ module _ (b : Book) (range : InRange b) (rows : List Row) where
               same,
               was .few f i (r .slot),
               p .cap-kept,
-              range .each-flow (r .flow) (p .flow-in) .each-job (r .job) (p .job-in) .cap-most,
+              used-in-range range (r .flow) (p .flow-in) .each-job (r .job) (p .job-in) .cap-most,
               range .processors-most,
             )
 

@@ -16,6 +16,7 @@ use Rattle.rules.specs.Walks.{if_then_else_, sumTo}
 use Rattle.rules.specs.Limits.{slots}
 use Rattle.rules.specs.Book.{Book, flowCount, jobCount, flowOf, jobOf, InRange}
 use Rattle.rules.specs.Rows.{Row, isOf, totalOf, doneBefore, finishOf}
+use Rattle.rules.proofs.Caps.{used-in-range}
 use Rattle.rules.proofs.Division.{lt-or-ge}
 use Rattle.rules.proofs.RowsSoFar.{total-last, done-last, finish-last, done-is-total}
 use Rattle.rules.proofs.RowSums.{done-le-total, sum-schedule}
@@ -38,9 +39,9 @@ tally-none b f soFar range h e = record {
   ready-long = length-replicate {A = ℕ} 64 65535;
   total = λ i l. getD-replicate {A = ℕ} 64 i 0 0 l ∙ sym (total-none soFar f i e);
   complete = λ i t l m n.
-      let full : getD {A = ℕ} (replicate 64 65535) i 0 ≡ 65535 = getD-replicate {A = ℕ} 64 i 65535 0 (omega (arith, range .each-flow f h .jobs-most)) in
+      let full : getD {A = ℕ} (replicate 64 65535) i 0 ≡ 65535 = getD-replicate {A = ℕ} 64 i 65535 0 (omega (arith, used-in-range range f h .jobs-most)) in
       lt-ltb (doneBefore soFar f i t) (jobOf (flowOf b f) i .size)
-      (omega (arith, range .each-flow f h .each-job i l .size-least, done-le-total soFar f i t, total-none soFar f i e))
+      (omega (arith, used-in-range range f h .each-job i l .size-least, done-le-total soFar f i t, total-none soFar f i e))
       ∙ sym (lt-ltb t (getD {A = ℕ} (replicate 64 65535) i 0) (omega arith));
 }
 

@@ -1,0 +1,125 @@
+-- Books that are used alike have equal outcomes. Plan, table and faults read of a book P, the number of flows and each flow as it is used, and no more:
+-- where these are equal, whatever is made of them is. Assumes nothing.
+use mathlib.Core.Path.{_≡_, refl}
+use Prim.Native.Nat.{ℕ, zero, suc}
+use mathlib.Core.List.{List, [], _∷_}
+use lib.ListN.{length, getD}
+use Rattle.rules.specs.declared.Verdict.{Verdict}
+use Rattle.rules.specs.declared.Verdict.the-variants.{Pass, Refused}
+use Rattle.rules.specs.Walks.{countTo}
+use Rattle.rules.specs.Answers.{_andThen_, firstFault}
+use Rattle.rules.specs.Book.{Book, flowCount, jobCount, flowOf}
+use Rattle.rules.specs.Reading.{read}
+use Rattle.rules.specs.Service.{servedBefore, insertFlow, orderOf, serviceOrder}
+use Rattle.rules.specs.Rows.{Row, finishOf, isLate, lateFlows}
+use Rattle.rules.specs.Placing.{freeProcessors, Plan, planned, infeasible, placeFlow, thenPlace, placeFirst, plan}
+use Rattle.rules.specs.Table.{tableLength, tableBytes}
+use Rattle.rules.specs.Planner.{planOutcome, planReading}
+use Rattle.rules.specs.Check.{tableRows, tableHeadFault, rowBefore, rises, noRow, lacksPredecessor, beforeRelease, rowFault, totalFault, finishFault, tableFault, checkOutcome, checkReading}
+
+-- all that plan, table and faults read of a book
+pub record SameUse (b c : Book) : Type 0 where
+  pub processors : b .processors ≡ c .processors
+  pub count : flowCount b ≡ flowCount c
+  pub flow : (f : ℕ) → flowOf b f ≡ flowOf c f
+
+module _ (b c : Book) (same : SameUse b c) where
+  -- ---- the plan
+  served-same : (g f : ℕ) → servedBefore b g f ≡ servedBefore c g f
+  unfolding servedBefore
+  served-same g f = rw (same .flow g, same .flow f) refl
+
+  insert-same : (f : ℕ) (gs : List ℕ) → insertFlow b f gs ≡ insertFlow c f gs
+  unfolding insertFlow
+  insert-same f [] = refl
+  insert-same f (g ∷ gs) = rw (served-same g f, insert-same f gs) refl
+
+  order-same : (n : ℕ) → orderOf b n ≡ orderOf c n
+  unfolding orderOf
+  order-same zero = refl
+  order-same (suc n) = λ x. insert-same n (order-same n x) x
+
+  service-same : serviceOrder b ≡ serviceOrder c
+  unfolding serviceOrder
+  service-same = λ x. order-same (same .count x) x
+
+  free-same : (f : ℕ) (rows : List Row) (t : ℕ) → freeProcessors b f rows t ≡ freeProcessors c f rows t
+  unfolding freeProcessors
+  free-same f rows t = rw (same .flow f, same .processors) refl
+
+  place-same : (f : ℕ) (rows : List Row) → placeFlow b f rows ≡ placeFlow c f rows
+  unfolding placeFlow
+  place-same f rows =
+      let free : freeProcessors b f rows ≡ freeProcessors c f rows = λ x t. free-same f rows t x in
+      rw (same .flow f, free) refl
+
+  first-same : (k : ℕ) → placeFirst b k ≡ placeFirst c k
+  unfolding placeFirst
+  first-same zero = refl
+  first-same (suc k) = λ x. thenPlace (first-same k x) (λ rows. place-same (getD (service-same x) k 0) rows x)
+
+  plan-same : plan b ≡ plan c
+  unfolding plan
+  plan-same = λ x. first-same (same .count x) x
+
+  -- ---- the outcome of the planner
+  late-same : (rows : List Row) → lateFlows b rows ≡ lateFlows c rows
+  unfolding lateFlows
+  late-same rows = λ x. countTo (λ f. isLate (same .flow f x) (finishOf rows f)) (same .count x)
+
+  length-same : (rows : List Row) → tableLength b rows ≡ tableLength c rows
+  unfolding tableLength
+  length-same rows = rw (same .count) refl
+
+  table-same : (rows : List Row) → tableBytes b rows ≡ tableBytes c rows
+  unfolding tableBytes
+  table-same rows = rw (length-same rows, same .processors, same .count) refl
+
+  outcome-same : (out area : List ℕ) (p : Plan) → planOutcome b out area p ≡ planOutcome c out area p
+  unfolding planOutcome
+  outcome-same out area (infeasible f) = refl
+  outcome-same out area (planned rows) = rw (length-same rows, late-same rows, table-same rows) refl
+
+  pub plan-reading-same : (out area : List ℕ) → planReading out area (read b) ≡ planReading out area (read c)
+  unfolding planReading
+  plan-reading-same out area = rw (plan-same, outcome-same out area (plan c)) refl
+
+  -- ---- the outcome of the check
+  rows-same : (s : List ℕ) → tableRows b s ≡ tableRows c s
+  unfolding tableRows
+  rows-same s = rw (same .count) refl
+
+  head-same : (s : List ℕ) → tableHeadFault b s ≡ tableHeadFault c s
+  unfolding tableHeadFault
+  head-same s = rw (same .processors, same .count) refl
+
+  rises-same : (rows : List Row) (k : ℕ) → rises b rows k ≡ rises c rows k
+  unfolding rises rowBefore
+  rises-same rows zero = refl
+  rises-same rows (suc k) = rw (served-same (getD rows k noRow .flow) (getD rows (suc k) noRow .flow)) refl
+
+  row-same : (rows : List Row) (k : ℕ) → rowFault b rows k ≡ rowFault c rows k
+  unfolding rowFault beforeRelease lacksPredecessor
+  row-same rows k = rw (same .flow (getD rows k noRow .flow), same .count, rises-same rows k, same .processors) refl
+
+  total-same : (rows : List Row) (f i : ℕ) → totalFault b rows f i ≡ totalFault c rows f i
+  unfolding totalFault
+  total-same rows f i = rw (same .flow f) refl
+
+  fault-same : (s : List ℕ) → tableFault b s ≡ tableFault c s
+  unfolding tableFault
+  fault-same s = λ x.
+      let rows = rows-same s x in
+      head-same s x
+      andThen firstFault (λ k. row-same rows k x) (length rows)
+      andThen firstFault (λ f. firstFault (λ i. total-same rows f i x) (jobCount (same .flow f x))) (same .count x)
+      andThen firstFault (finishFault s rows) (same .count x)
+
+  judged-same : (s area : List ℕ) (v : Verdict) → checkOutcome b s area v ≡ checkOutcome c s area v
+  unfolding checkOutcome
+  judged-same s area (Refused n f j) = refl
+  judged-same s area Pass = rw (rows-same s, late-same (tableRows c s)) refl
+
+  pub check-reading-same : (s area : List ℕ) → checkReading s area (read b) ≡ checkReading s area (read c)
+  unfolding checkReading
+  check-reading-same s area = rw (fault-same s, judged-same s area (tableFault c s)) refl
