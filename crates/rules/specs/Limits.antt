@@ -27,7 +27,7 @@ mostJobs = 64
 abbrev pub mostSize : ℕ
 mostSize = 1000000
 
--- "A cap above P, up to 65,535, shall count as P"; "Only a cap of 0 is still 9" (02, Req 02): 65,535 is the most that the field holds
+-- "cap | 1 | P", and since "A cap above P, up to 65,535, shall count as P" and "Only a cap of 0 is still 9" (02, Req 02), all that its field holds
 abbrev pub mostCap : ℕ
 mostCap = 65535
 
