@@ -1,9 +1,11 @@
-// The calls that a dispatcher in C makes. Thin: each hands its slices to the proved core and has the core's contract. Neither has a
+// The calls that a dispatcher in C makes. Thin: each hands its slices to the proved core and has the core's contract. None has a
 // `requires`: every sequence of bytes is taken.
 ghost use mathlib.Core.Path.{_≡_};
 ghost use Rattle.rules.specs.Check.{checkCall};
+ghost use Rattle.rules.specs.Dispatch.{dispatchCall};
 ghost use Rattle.rules.specs.Planner.{planCall};
 use rules::CheckAnswer;
+use rules::ListAnswer;
 use rules::PlanAnswer;
 
 // The check of a table against a book.
@@ -23,4 +25,19 @@ pub extern "C" fn flowplan_plan(book: &[u8], output: &mut [u8], work: &mut [u8])
     ensures area { λ r. ⌜ now (work .exit) ≡ planCall (now (book .entry)) (now (output .entry)) (now (work .entry)) .area ⌝ }
 {
     place::planner::plan_book(book, output, work)
+}
+
+// The dispatch list of a table that the check accepts.
+#[no_mangle]
+pub extern "C" fn flowplan_dispatch(
+    book: &[u8],
+    table: &[u8],
+    output: &mut [u8],
+    work: &mut [u8],
+) -> ListAnswer
+    ensures answer { λ r. ⌜ r ≡ dispatchCall (now (book .entry)) (now (table .entry)) (now (output .entry)) (now (work .entry)) .answer ⌝ }
+    ensures output { λ r. ⌜ now (output .exit) ≡ dispatchCall (now (book .entry)) (now (table .entry)) (now (output .entry)) (now (work .entry)) .output ⌝ }
+    ensures area { λ r. ⌜ now (work .exit) ≡ dispatchCall (now (book .entry)) (now (table .entry)) (now (output .entry)) (now (work .entry)) .area ⌝ }
+{
+    dispatch::dispatch_table(book, table, output, work)
 }

@@ -115,6 +115,9 @@ module _ (b : Book) (range : InRange b) (rows : List Row) (pass : RowsPass b row
           omega (arith, sum-where-next in-slot rows k noRow l, counted-true in-slot r e)
       go false e ih = omega (arith, sum-where-next in-slot rows k noRow l, counted-false in-slot r e)
 
+  pub passing-use : (t : ℕ) → usedIn rows t ≤ b .processors
+  passing-use t = rw (← take-length rows) (use-kept t (length rows) (omega arith))
+
   slot-in : (f i t : ℕ) → slots ≤ t → scheduleOf rows f i t ≡ 0
   slot-in f i t l = schedule-none rows f i t (λ r m at-r. omega (arith, passing-is-row r m .slot-in, at-r .of-slot))
 
@@ -152,7 +155,7 @@ module _ (b : Book) (range : InRange b) (rows : List Row) (pass : RowsPass b row
   passing-valid = record {
     no-others = λ f i t n. schedule-none rows f i t (λ r m at-r. n (only-jobs f i t r m at-r));
     caps = λ f i t j. cap-kept f i t;
-    together = λ t. rw (← used-in-use b rows t (λ r m. passing-is-row r m .in-book), ← take-length rows) (use-kept t (length rows) (omega arith));
+    together = λ t. rw (← used-in-use b rows t (λ r m. passing-is-row r m .in-book)) (passing-use t);
     horizon = slots;
     nothing-after = slot-in;
     sizes = λ f i j. sum-schedule rows f i slots ∙ total-by rows f i slots (λ r m. passing-is-row r m .slot-in) ∙ pass .totals f i (j .flow-in) (j .job-in);

@@ -16,7 +16,7 @@ use Rattle.rules.specs.Fields.{AllBytes}
 use Rattle.rules.specs.Answers.{none, checkAccepted, checkRefused}
 use Rattle.rules.specs.Limits.{slots, workBytes}
 use Rattle.rules.specs.Book.{Book, InRange}
-use Rattle.rules.specs.Reading.Reading.{read}
+use Rattle.rules.specs.Reading.{read, readBook}
 use Rattle.rules.specs.Rows.{Row, lateFlows}
 use Rattle.rules.specs.Table.{tableLength, tableBytes}
 use Rattle.rules.specs.Check.{tableRows, tableFault, CheckOutcome, checkOutcome, checkReading, checkCall}
@@ -37,7 +37,7 @@ module _ (b : Book) (range : InRange b) (σ : Schedule) (valid : Valid b everyFl
   abbrev rows : List Row
   rows = scheduleRows b σ
 
-  row-fits : (r : Row) → r ∈ rows → RowFits r
+  pub row-fits : (r : Row) → r ∈ rows → RowFits r
   row-fits r m =
       let o = schedule-rows-in b σ r m in
       let j = row-is-job b r (o .is-row .in-book) in
@@ -82,29 +82,37 @@ rows-accepted b range rows same valid within = (
 )
 
 -- ---- an outcome that accepts
--- number 0 is that of a table without a fault
 module _ (b : Book) (s area : List ℕ) where
-  outcome-accepts : (v : Verdict) → Numbered ofTable v → checkOutcome b s area v .answer .number ≡ 0 →
-      (v ≡ Pass) × (checkOutcome b s area v .answer .late ≡ lateFlows b (tableRows b s))
+  -- number 0 is that of a table without a fault
+  outcome-accepts : (v : Verdict) → Numbered ofTable v → checkOutcome b s area v .answer .number ≡ 0 → v ≡ Pass
   unfolding checkOutcome
-  outcome-accepts Pass h e = (refl, refl)
+  outcome-accepts Pass h e = refl
   outcome-accepts (Refused n f j) h e = absurd (omega (arith, h .among n f j refl .0))
 
   reading-accepts : checkReading s area (read b) .answer .number ≡ 0 →
-      (tableFault b s ≡ Pass) × (checkReading s area (read b) .answer .late ≡ lateFlows b (tableRows b s))
+      (tableFault b s ≡ Pass) × (checkReading s area (read b) ≡ checkOutcome b s area Pass)
   unfolding checkReading
   reading-accepts e = go (ltb (length area) workBytes) e
     where
       outcome : Bool → CheckOutcome
       outcome t = if t then record { answer = checkRefused 11 none none; area = area } else checkOutcome b s area (tableFault b s)
 
-      go : (t : Bool) → outcome t .answer .number ≡ 0 → (tableFault b s ≡ Pass) × (outcome t .answer .late ≡ lateFlows b (tableRows b s))
+      go : (t : Bool) → outcome t .answer .number ≡ 0 → (tableFault b s ≡ Pass) × (outcome t ≡ checkOutcome b s area Pass)
       go true e = absurd (omega arith)
-      go false e = outcome-accepts (tableFault b s) (table-numbered b s) e
+      go false e = let pass = outcome-accepts (tableFault b s) (table-numbered b s) e in (pass, ap (checkOutcome b s area) pass)
 
-  passing-accepted : tableFault b s ≡ Pass → workBytes ≤ length area → checkReading s area (read b) .answer ≡ checkAccepted (lateFlows b (tableRows b s))
-  unfolding checkReading checkOutcome
+  passing-accepted : tableFault b s ≡ Pass → workBytes ≤ length area → checkReading s area (read b) ≡ checkOutcome b s area Pass
+  unfolding checkReading
   passing-accepted pass long = rw (le-ltb (length area) workBytes long, pass) refl
+
+-- a call that answers 0 has a table without a fault, and the outcome of such a table
+pub call-accepts : (book table area : List ℕ) (b : Book) → readBook book ≡ read b → checkCall book table area .answer .number ≡ 0 →
+    (tableFault b table ≡ Pass) × (checkCall book table area ≡ checkOutcome b table area Pass)
+unfolding checkCall
+call-accepts book table area b reads zero =
+    let same = ap (checkReading table area) reads in
+    let w = reading-accepts b table area (ap (λ o. o .answer .number) (sym same) ∙ zero) in
+    (w .0, same ∙ w .1)
 
 -- a table without a fault is that of the schedule that its rows state
 pub faultless-is-schedule : (b : Book) → InRange b → (s : List ℕ) → AllBytes s → tableFault b s ≡ Pass → IsScheduleTable b s (lateFlows b (tableRows b s))
@@ -122,18 +130,17 @@ faultless-is-schedule b range s bytes pass =
     }
 
 pub accepts-exactly : AcceptsExactly
-unfolding checkCall
+unfolding checkCall checkOutcome
 accepts-exactly = record {
   only-schedules = λ book table area b reads bytes zero.
-      let same = ap (checkReading table area) reads in
-      let w = reading-accepts b table area (ap (λ o. o .answer .number) (sym same) ∙ zero) in
-      subst (IsScheduleTable b table) (sym (ap (λ o. o .answer .late) same ∙ w .1))
+      let w = call-accepts book table area b reads zero in
+      subst (IsScheduleTable b table) (sym (ap (λ o. o .answer .late) (w .1)))
       (faultless-is-schedule b (read-in-range book b reads) table bytes (w .0));
   every-schedule = λ book table area b late reads long is.
       let range = read-in-range book b reads in
       let pass : tableFault b table ≡ Pass = rw (is .written) (schedule-table-passes b range (is .schedule) (is .valid) (is .in-slots)) in
       let rows : tableRows b table ≡ scheduleRows b (is .schedule) =
       rw (is .written) (schedule-table-rows b range (is .schedule) (is .valid) (is .in-slots)) in
-      ap (λ r. checkReading table area r .answer) reads ∙ passing-accepted b table area pass long
+      ap (λ r. checkReading table area r .answer) reads ∙ ap (λ o. o .answer) (passing-accepted b table area pass long)
       ∙ ap checkAccepted (ap (lateFlows b) rows ∙ sym (is .late-flows));
 }

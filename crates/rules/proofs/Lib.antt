@@ -4,8 +4,10 @@ pub mod Demands
 pub mod Demand3Values
 pub mod Demand3
 pub mod Refusals
+pub mod PlansByTheRules
 pub mod AcceptsExactly
 pub mod AcceptsPlans
+pub mod Dispatches
 -- laws that the proofs here and in the crates above cite
 pub mod Division
 pub mod Bits
@@ -30,6 +32,7 @@ pub mod Shares
 pub mod Rising
 pub mod RowOrder
 pub mod RowSums
+pub mod ListOrder
 pub mod ScheduleRows
 pub mod FlowRows
 pub mod RowsSoFar
@@ -46,5 +49,6 @@ pub mod PlannedTable
 pub mod Infeasible
 -- tables, and what the check accepts
 pub mod TableBytes
+pub mod ListBytes
 pub mod TablePasses
 pub mod AcceptedRows

@@ -39,7 +39,7 @@ module _ (b : Book) where
   unfolding lowerCap
   lowered-caps f i = rw (job-lowered (b .processors) (flowIn b f) i) (omega arith)
 
-  same-use : SameUse b (lowered b)
+  pub same-use : SameUse b (lowered b)
   unfolding lowered flowOf
   same-use = record {
     processors = refl;

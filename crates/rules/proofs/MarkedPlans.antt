@@ -1,12 +1,13 @@
--- The marked plans A to F of document 01, E as Req 02 has it, G for releases (02, Req 01) and H for caps above P (02, Req 02), shown of the rules
--- themselves by one theorem: whole outcomes, with output and work area. Each field is computed from the definitions. Assumes nothing.
+-- The marked plans A to F of document 01, E as Req 02 has it, G for releases (02, Req 01) and H for caps above P (02, Req 02), and the dispatch lists of
+-- A, D and F (02, Req 03), shown of the rules themselves by one theorem: whole outcomes, with output and work area. Each field is computed from the
+-- definitions. Assumes nothing.
 use mathlib.Core.Path.{_≡_, refl}
 use Prim.Native.Nat.{ℕ, zero, suc, _*_, _-_, _/_, _%_, _^_}
 use mathlib.Core.List.{List, [], _∷_, _++_}
 use lib.ListN.{replicate}
 use Rattle.rules.specs.Walks.{sumTo, maxTo, anyTo, allTo, listFrom, joinFrom}
 use Rattle.rules.specs.Fields.{field, bytesOf}
-use Rattle.rules.specs.Answers.{firstFault, planAccepted, planRefused, checkAccepted, checkRefused}
+use Rattle.rules.specs.Answers.{firstFault, planAccepted, planRefused, checkAccepted, checkRefused, listAccepted, listRefused}
 use Rattle.rules.specs.Book.{flowIn, lowerCap, lowerCaps, flowOf, jobOf, hasBit}
 use Rattle.rules.specs.Reading.{
   releaseSize,
@@ -71,6 +72,16 @@ use Rattle.rules.specs.Check.{
   checkReading,
   checkCall,
 }
+use Rattle.rules.specs.Dispatch.{
+  listedBefore,
+  insertRow,
+  listRows,
+  listLength,
+  listBytes,
+  listOutcome,
+  dispatchChecked,
+  dispatchCall,
+}
 
 -- n bytes, written as one hexadecimal number, so that a listing stands as the document has it
 abbrev hex : ℕ → ℕ → List ℕ
@@ -87,6 +98,13 @@ tableA =
     ++ hex 18 0x0000_01_00_0002_0001_01_00_0002_0002_01_00_0001
     ++ hex 24 0x0000_00_00_0001_0001_00_00_0001_0002_00_00_0002_0003_00_00_0001
     ++ hex 12 0x0004_00_01_0003_0005_00_01_0001
+
+-- its rows as the dispatcher works: in slots 0 to 2 flow 0 stands before flow 1, which is served first
+abbrev listA : List ℕ
+listA =
+    hex 7 0x0000003d_01_0003
+    ++ hex 24 0x0000_00_00_0001_0000_01_00_0002_0001_00_00_0001_0001_01_00_0002
+    ++ hex 30 0x0002_00_00_0002_0002_01_00_0001_0003_00_00_0001_0004_00_01_0003_0005_00_01_0001
 
 -- B: P 3. Flow 0: deadline 3, size 3 cap 1. Flow 1: deadline 4, two free jobs, size 4 cap 2 and size 2 cap 1
 abbrev bookB : List ℕ
@@ -203,6 +221,12 @@ pub record MarkedPlans : Type 0 where
   pub F-slot-3 : checkCall bookA (tableF 3) area ≡ record { answer = checkRefused 18 0 1; area = used 0 0 }
   pub F-slot-3-take-2 : checkCall bookA (tableF 2) area ≡ record { answer = checkRefused 19 0 1; area = used 0 0 }
   pub A-accepted : checkCall bookA tableA area ≡ record { answer = checkAccepted 1; area = used 6 0x0003_0003_0003_0001_0003_0001 }
+  pub A-listed : dispatchCall bookA tableA (out 62) area
+      ≡ record { answer = listAccepted 61; output = listA ++ out 1; area = used 6 0x0003_0003_0003_0001_0003_0001 }
+  pub A-list-too-long : dispatchCall bookA tableA (out 60) area ≡ record { answer = listRefused 13 255 255; output = out 60; area = used 0 0 }
+  pub D-listed : dispatchCall bookD (hex 8 0x00000008_01_0003_00) (out 7) area
+      ≡ record { answer = listAccepted 7; output = hex 7 0x00000007_01_0003; area = used 0 0 }
+  pub F-not-listed : dispatchCall bookA (tableF 3) (out 62) area ≡ record { answer = listRefused 18 0 1; output = out 62; area = used 0 0 }
   pub G : planCall bookG (out 60) area
       ≡ record { answer = planAccepted 0 54; output = tableG ++ out 6; area = used 6 0x0002_0002_0003_0002_0001_0001 }
   pub G-accepted : checkCall bookG tableG area ≡ record { answer = checkAccepted 0; area = used 6 0x0002_0002_0003_0002_0001_0001 }
@@ -212,7 +236,7 @@ pub record MarkedPlans : Type 0 where
   pub H-accepted : checkCall bookH tableH area ≡ record { answer = checkAccepted 0; area = used 5 0x0002_0002_0002_0002_0001 }
 
 pub marked-plans : MarkedPlans
-unfolding sumTo maxTo anyTo allTo listFrom joinFrom field bytesOf firstFault flowIn lowerCap lowerCaps flowOf jobOf hasBit releaseSize releaseAt jobsAt flowStart jobAt flowAt bookOf flowHeadFault jobFault flowFault leftoverFault bookFault readBook quotientUp duration lastTake startAfter endsBelow startOf endOf path takeOf unchanged prepend runs chain rate work servedBefore insertFlow orderOf serviceOrder rowFor sumWhere usedIn totalOf doneBefore finishOf isLate lateFlows workUsed workZero slotUnits units unitsOf share given afterSlot slotRows progress flowRows usable freeProcessors placeFlow placeFirst plan tableLength rowBytes rowsBytes tableBytes rowAt planOutcome planReading planCall tableRows tableHeadFault rowBefore rises lacksPredecessor beforeRelease rowFault totalFault finishFault tableFault checkOutcome checkReading checkCall
+unfolding sumTo maxTo anyTo allTo listFrom joinFrom field bytesOf firstFault flowIn lowerCap lowerCaps flowOf jobOf hasBit releaseSize releaseAt jobsAt flowStart jobAt flowAt bookOf flowHeadFault jobFault flowFault leftoverFault bookFault readBook quotientUp duration lastTake startAfter endsBelow startOf endOf path takeOf unchanged prepend runs chain rate work servedBefore insertFlow orderOf serviceOrder rowFor sumWhere usedIn totalOf doneBefore finishOf isLate lateFlows workUsed workZero slotUnits units unitsOf share given afterSlot slotRows progress flowRows usable freeProcessors placeFlow placeFirst plan tableLength rowBytes rowsBytes tableBytes rowAt planOutcome planReading planCall tableRows tableHeadFault rowBefore rises lacksPredecessor beforeRelease rowFault totalFault finishFault tableFault checkOutcome checkReading checkCall listedBefore insertRow listRows listLength listBytes listOutcome dispatchChecked dispatchCall
 marked-plans = record {
   A = refl;
   B = refl;
@@ -228,6 +252,10 @@ marked-plans = record {
   F-slot-3 = refl;
   F-slot-3-take-2 = refl;
   A-accepted = refl;
+  A-listed = refl;
+  A-list-too-long = refl;
+  D-listed = refl;
+  F-not-listed = refl;
   G = refl;
   G-accepted = refl;
   G-row-before-release = refl;

@@ -80,18 +80,18 @@ or-right false q e = e
 both-true : (p q : Bool) → p ≡ true → q ≡ true → (p && q) ≡ true
 both-true p q x y = and-eq-true-iff p q .1 (x, y)
 
-less-or-same : (a b : ℕ) (rest : Bool) → (ltb a b || eqb a b && rest) ≡ true → Lexical a b (rest ≡ true)
+pub less-or-same : (a b : ℕ) (rest : Bool) → (ltb a b || eqb a b && rest) ≡ true → Lexical a b (rest ≡ true)
 less-or-same a b rest e = go (or-cases (ltb a b) (eqb a b && rest) e)
   where
     go : (ltb a b ≡ true) ⊎ ((eqb a b && rest) ≡ true) → Lexical a b (rest ≡ true)
     go (inl l) = inl (ltb-true a b l)
     go (inr s) = let w = and-eq-true-iff (eqb a b) rest .0 s in inr (eqb-true a b (w .0), w .1)
 
-less-or-same-test : (a b : ℕ) (rest : Bool) → Lexical a b (rest ≡ true) → (ltb a b || eqb a b && rest) ≡ true
+pub less-or-same-test : (a b : ℕ) (rest : Bool) → Lexical a b (rest ≡ true) → (ltb a b || eqb a b && rest) ≡ true
 less-or-same-test a b rest (inl l) = or-left (ltb a b) (eqb a b && rest) (lt-ltb a b l)
 less-or-same-test a b rest (inr s) = or-right (ltb a b) (eqb a b && rest) (both-true (eqb a b) rest (eq-eqb a b (s .0)) (s .1))
 
-lexical-map : {a b : ℕ} {X Y : Type 0} → (X → Y) → Lexical a b X → Lexical a b Y
+pub lexical-map : {a b : ℕ} {X Y : Type 0} → (X → Y) → Lexical a b X → Lexical a b Y
 lexical-map h (inl l) = inl l
 lexical-map h (inr s) = inr (s .0, h (s .1))
 

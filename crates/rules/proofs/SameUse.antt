@@ -15,7 +15,8 @@ use Rattle.rules.specs.Rows.{Row, finishOf, isLate, lateFlows}
 use Rattle.rules.specs.Placing.{freeProcessors, Plan, planned, infeasible, placeFlow, thenPlace, placeFirst, plan}
 use Rattle.rules.specs.Table.{tableLength, tableBytes}
 use Rattle.rules.specs.Planner.{planOutcome, planReading}
-use Rattle.rules.specs.Check.{tableRows, tableHeadFault, rowBefore, rises, noRow, lacksPredecessor, beforeRelease, rowFault, totalFault, finishFault, tableFault, checkOutcome, checkReading}
+use Rattle.rules.specs.Check.{tableRows, tableHeadFault, rowBefore, rises, noRow, lacksPredecessor, beforeRelease, rowFault, totalFault, finishFault, tableFault, CheckOutcome, checkOutcome, checkReading}
+use Rattle.rules.specs.Dispatch.{listBytes, listOutcome, dispatchChecked}
 
 -- all that plan, table and faults read of a book
 pub record SameUse (b c : Book) : Type 0 where
@@ -123,3 +124,9 @@ module _ (b c : Book) (same : SameUse b c) where
   pub check-reading-same : (s area : List ℕ) → checkReading s area (read b) ≡ checkReading s area (read c)
   unfolding checkReading
   check-reading-same s area = rw (fault-same s, judged-same s area (tableFault c s)) refl
+
+  -- ---- the outcome of the dispatch list
+  pub dispatch-same : (table out area : List ℕ) (o : CheckOutcome) →
+      dispatchChecked b (tableRows b table) out area o ≡ dispatchChecked c (tableRows c table) out area o
+  unfolding dispatchChecked listOutcome listBytes
+  dispatch-same table out area o = rw (rows-same table, same .processors) refl

@@ -1,7 +1,7 @@
 -- The bytes of a table, written and read back.
 -- A table is its head, its finishes and its rows, one after the other; each stands where the check reads it. What is read of bytes that pass
 -- the test of the head gives the same bytes when it is written again. Assumes nothing.
-use mathlib.Core.Path.{_≡_, refl, sym, _∙_}
+use mathlib.Core.Path.{_≡_, refl, sym, subst, _∙_}
 use mathlib.Core.Bool.{false, not}
 use Prim.Native.Nat.{ℕ, zero, suc, _+_, _*_, _-_, _/_, _%_, _^_, _≤_, _<_}
 use native.Mathlib.Omega.{arith}
@@ -16,11 +16,11 @@ use Rattle.rules.specs.Answers.{none}
 use Rattle.rules.specs.Book.{Book, flowCount, InRange}
 use Rattle.rules.specs.Rows.{Row, finishOf}
 use Rattle.rules.specs.Table.{tableHead, rowLength, tableLength, rowBytes, rowsBytes, tableBytes, rowAt}
-use Rattle.rules.specs.Check.{tableRows, tableHeadFault, statedFinish}
-use Rattle.rules.proofs.Walks.{list-length}
-use Rattle.rules.proofs.Fields.{bytes-length, StandsAt, stands-whole, stands-first, stands-after, stands-empty, stands-append, stands-equal, field-written, byte-written, field-read, byte-read, join-bytes-length, join-stands, stands-join-at}
+use Rattle.rules.specs.Check.{noRow, tableRows, tableHeadFault, statedFinish}
+use Rattle.rules.proofs.Walks.{list-length, list-at-zero}
+use Rattle.rules.proofs.Fields.{bytes-length, field-lt, StandsAt, stands-whole, stands-first, stands-after, stands-empty, stands-append, stands-equal, field-written, byte-written, field-read, byte-read, join-bytes-length, join-stands, stands-join-at}
 use Rattle.rules.proofs.Passing.{test-passed, neither-true}
-use Rattle.rules.proofs.Rising.{_∈_, first-in}
+use Rattle.rules.proofs.Rising.{_∈_, first-in, in-at}
 
 -- ---- one row
 -- the fields hold the row
@@ -65,7 +65,7 @@ unfolding rowsBytes
 rows-bytes-length [] = refl
 rows-bytes-length (r ∷ rs) = length-append (rowBytes r) (rowsBytes rs) ∙ omega (arith, row-bytes-length r, rows-bytes-length rs)
 
-rows-written : (s : List ℕ) (at k : ℕ) (rows : List Row) → ((r : Row) → r ∈ rows → RowFits r) → StandsAt s (at + rowLength * k) (rowsBytes rows) →
+pub rows-written : (s : List ℕ) (at k : ℕ) (rows : List Row) → ((r : Row) → r ∈ rows → RowFits r) → StandsAt s (at + rowLength * k) (rowsBytes rows) →
     listFrom (λ j. rowAt s (at + rowLength * j)) (length rows) k ≡ rows
 unfolding rowsBytes listFrom
 rows-written s at k [] fits h = refl
@@ -77,7 +77,7 @@ rows-written s at k (r ∷ rs) fits h =
       rows-written s at (k + 1) rs (λ x m. fits x (List·Memᴰ·tail m)) rest,
     ) refl
 
-rows-read : (s : List ℕ) (at n k : ℕ) → AllBytes s → StandsAt s (at + rowLength * k) (rowsBytes (listFrom (λ j. rowAt s (at + rowLength * j)) n k))
+pub rows-read : (s : List ℕ) (at n k : ℕ) → AllBytes s → StandsAt s (at + rowLength * k) (rowsBytes (listFrom (λ j. rowAt s (at + rowLength * j)) n k))
 unfolding rowsBytes listFrom
 rows-read s at zero k h = stands-empty s (at + rowLength * k)
 rows-read s at (suc n) k h =
@@ -198,16 +198,35 @@ finish-written b rows f l fits =
     field-written 2 (finishOf rows f) (tableBytes b rows) (8 + 2 * f) fits (written-parts b rows .finish-stands f l)
 
 -- ---- writing again what was read
+-- what is read of bytes fits
+row-at-fits : (s : List ℕ) (at : ℕ) → AllBytes s → RowFits (rowAt s at)
+unfolding rowAt AllBytes
+row-at-fits s at h = record {
+  slot-fits = field-lt 2 s at h;
+  flow-fits = h (at + 2);
+  job-fits = h (at + 3);
+  processors-fit = field-lt 2 s (at + 4) h;
+}
+
+pub table-rows-fit : (b : Book) (s : List ℕ) → AllBytes s → (r : Row) → r ∈ tableRows b s → RowFits r
+unfolding tableRows
+table-rows-fit b s h r m =
+    let at : ℕ → ℕ = λ k. tableHead b + rowLength * k in
+    let n = (length s - tableHead b) / rowLength in
+    let w = in-at noRow m in
+    let k : w .0 < n = omega (arith, w .1, list-length (λ j. rowAt s (at j)) n 0) in
+    subst RowFits (sym (list-at-zero (λ j. rowAt s (at j)) n (w .0) noRow k) ∙ w .2) (row-at-fits s (at (w .0)) h)
+
 -- what the test of the head leaves
-record HeadPasses (b : Book) (s : List ℕ) : Type 0 where
+pub record HeadPasses (b : Book) (s : List ℕ) : Type 0 where
   head-whole : tableHead b ≤ length s
-  length-is : field 4 s 0 ≡ length s
+  pub length-is : field 4 s 0 ≡ length s
   version-is : byte s 4 ≡ 1
   processors-are : field 2 s 5 ≡ b .processors
   flows-are : byte s 7 ≡ flowCount b
   rows-whole : (length s - tableHead b) % rowLength ≡ 0
 
-head-passes : (b : Book) (s : List ℕ) → tableHeadFault b s ≡ Pass → HeadPasses b s
+pub head-passes : (b : Book) (s : List ℕ) → tableHeadFault b s ≡ Pass → HeadPasses b s
 unfolding tableHeadFault
 head-passes b s pass =
     let rows = neither-true _ _ (test-passed _ 14 none none Pass pass .0) in

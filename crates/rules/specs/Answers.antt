@@ -4,6 +4,7 @@ use Rattle.rules.specs.declared.Verdict.{Verdict}
 use Rattle.rules.specs.declared.Verdict.the-variants.{Pass, Refused}
 use Rattle.rules.specs.declared.PlanAnswer.{PlanAnswer}
 use Rattle.rules.specs.declared.CheckAnswer.{CheckAnswer}
+use Rattle.rules.specs.declared.ListAnswer.{ListAnswer}
 
 -- "'Place' is flow and job number; 255 stands where there is none."
 abbrev pub none : ℕ
@@ -28,12 +29,19 @@ planAccepted late length = record { number = 0; flow = none; job = none; late = 
 abbrev pub checkAccepted : ℕ → CheckAnswer
 checkAccepted late = record { number = 0; flow = none; job = none; late = late }
 
+-- "The answer is the list's length" (02, Req 03)
+abbrev pub listAccepted : ℕ → ListAnswer
+listAccepted length = record { number = 0; flow = none; job = none; length = length }
+
 -- "every count, length or finish returned with it [a refusal] is 0"
 abbrev pub planRefused : ℕ → ℕ → ℕ → PlanAnswer
 planRefused n f j = record { number = n; flow = f; job = j; late = 0; length = 0 }
 
 abbrev pub checkRefused : ℕ → ℕ → ℕ → CheckAnswer
 checkRefused n f j = record { number = n; flow = f; job = j; late = 0 }
+
+abbrev pub listRefused : ℕ → ℕ → ℕ → ListAnswer
+listRefused n f j = record { number = n; flow = f; job = j; length = 0 }
 
 -- the number of a verdict: 0 where it passes
 abbrev pub numberOf : Verdict → ℕ

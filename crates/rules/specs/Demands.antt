@@ -1,22 +1,24 @@
--- The demands as types: what is owed of the planner and of the table check, for every input. Later files prove them. Assumes nothing.
+-- The demands as types: what is owed of the planner, of the table check and of the dispatch list, for every input. Later files prove them. Assumes nothing.
 use mathlib.Core.Path.{_≡_}
 use mathlib.Core.Logic.{_⊎_}
-use Prim.Native.Nat.{ℕ, _*_, _≤_, _<_}
-use mathlib.Core.Bool.{Bool, true, false, _||_}
-use mathlib.Core.List.{List, _++_}
-use lib.ListN.{length, take, drop}
+use Prim.Native.Nat.{ℕ, suc, _+_, _*_, _≤_, _<_}
+use mathlib.Core.Bool.{Bool, true, false, _&&_, _||_}
+use mathlib.Core.List.{List, [], _∷_, _++_}
+use lib.ListN.{length, take, drop, getD}
 use lib.Dec.{leb, eqb}
-use Rattle.rules.specs.Fields.{AllBytes}
-use Rattle.rules.specs.Answers.{checkAccepted}
+use Rattle.rules.specs.Walks.{bit}
+use Rattle.rules.specs.Fields.{AllBytes, field, bytesOf}
+use Rattle.rules.specs.Answers.{none, checkAccepted, listAccepted, listRefused}
 use Rattle.rules.specs.Limits.{slots, workBytes}
 use Rattle.rules.specs.Book.{Book, flowCount, flowIn, flowOf, lowered, jobOf}
 use Rattle.rules.specs.Reading.{versionOf, read, readBook, bookBytes}
 use Rattle.rules.specs.Service.{servedBefore}
-use Rattle.rules.specs.Rows.{Row, lateFlows, workZero}
+use Rattle.rules.specs.Rows.{Row, usedIn, lateFlows, workZero}
 use Rattle.rules.specs.Placing.{planned, rowsOf, plan}
 use Rattle.rules.specs.Table.{tableLength, tableBytes}
 use Rattle.rules.specs.Planner.{PlanOutcome, planCall}
-use Rattle.rules.specs.Check.{CheckOutcome, checkCall}
+use Rattle.rules.specs.Check.{noRow, tableRows, CheckOutcome, checkCall}
+use Rattle.rules.specs.Dispatch.{listedBefore, listHead, listLength, rowsInList, DispatchOutcome, dispatchCall}
 use Rattle.rules.specs.Schedule.{Schedule, everyFlow, Valid, EndsBy, InSlots, scheduleOf, scheduleRows, scheduleTable}
 use Rattle.rules.specs.Cut.{cut}
 
@@ -155,6 +157,76 @@ pub record CapsLowered : Type 0 where
   -- caps at or below P are untouched: where no cap is above P, each flow is used as it stands in the book
   pub untouched : (b : Book) → ((f i : ℕ) → jobOf (flowIn b f) i .cap ≤ b .processors) → (f : ℕ) → flowOf b f ≡ flowIn b f
 
+-- ---- the dispatch list (02, Req 03)
+
+-- a refusal by 13 or by the check: "a refusal leaves the output untouched", and the length answered is 0
+pub record DispatchRefusal (out area : List ℕ) (o : DispatchOutcome) : Type 0 where
+  pub length-zero : o .answer .length ≡ 0
+  pub output-kept : o .output ≡ out
+  pub area-left : AreaAfterRefusal (o .answer .number) area (o .area)
+
+-- how often a row is among rows
+abbrev pub sameRow : Row → Row → Bool
+sameRow q r = eqb (q .slot) (r .slot) && eqb (q .flow) (r .flow) && eqb (q .job) (r .job) && eqb (q .processors) (r .processors)
+
+unfoldable pub timesIn : Row → List Row → ℕ
+timesIn r [] = 0
+timesIn r (q ∷ qs) = bit (sameRow q r) + timesIn r qs
+
+-- the list in a call's output, "The answer is the list's length", and the rows that stand in it
+abbrev pub listOf : DispatchOutcome → List ℕ
+listOf o = take (o .answer .length) (o .output)
+
+abbrev pub rowsListed : DispatchOutcome → List Row
+rowsListed o = rowsInList (listOf o)
+
+-- what an accepted call leaves, read off its bytes, for a table with these rows
+pub record ListsRows (b : Book) (rows : List Row) (out : List ℕ) (o : DispatchOutcome) : Type 0 where
+  pub length-is : o .answer .length ≡ listLength rows
+  -- "length (4), version 1 (1), P (2)"
+  pub head : take listHead (o .output) ≡ bytesOf 4 (listLength rows) ++ bytesOf 1 1 ++ bytesOf 2 (b .processors)
+  -- "Each row appears as often as in the table, so once."
+  pub as-often : (r : Row) → timesIn r (rowsListed o) ≡ timesIn r rows
+  pub once : (r : Row) → timesIn r (rowsListed o) ≤ 1
+  -- "ordered by slot, flow, job": each row comes before the next one
+  pub rising : (k : ℕ) → suc k < length (rowsListed o) → listedBefore (getD (rowsListed o) k noRow) (getD (rowsListed o) (suc k) noRow) ≡ true
+  -- "output past it is untouched"
+  pub past : drop (o .answer .length) (o .output) ≡ drop (listLength rows) out
+  -- "the work area ends as the check leaves it": slot by slot it holds the sum of the list's rows
+  pub sums : (t : ℕ) → t < slots → field 2 (o .area) (2 * t) ≡ usedIn (rowsListed o) t
+
+pub record Dispatches : Type 0 where
+  -- "The refusals of the check apply first", each with its number, place and area
+  pub check-first : (book table out area : List ℕ) → 0 < checkCall book table area .answer .number →
+      dispatchCall book table out area ≡ record {
+        answer = listRefused (checkCall book table area .answer .number) (checkCall book table area .answer .flow) (checkCall book table area .answer .job);
+        output = out;
+        area = checkCall book table area .area;
+      }
+  -- "then 13 if the list is longer than the lent output"; otherwise "The answer is the list's length"
+  pub too-long : (book table out area : List ℕ) (b : Book) → readBook book ≡ read b → checkCall book table area .answer .number ≡ 0 →
+      length out < listLength (tableRows b table) → dispatchCall book table out area .answer ≡ listRefused 13 none none
+  pub long-enough : (book table out area : List ℕ) (b : Book) → readBook book ≡ read b → checkCall book table area .answer .number ≡ 0 →
+      listLength (tableRows b table) ≤ length out → dispatchCall book table out area .answer ≡ listAccepted (listLength (tableRows b table))
+  pub refusal : (book table out area : List ℕ) → 0 < dispatchCall book table out area .answer .number →
+      DispatchRefusal out area (dispatchCall book table out area)
+  -- "the table's rows, ordered by slot, flow, job"
+  pub lists-table : (book table out area : List ℕ) (b : Book) → readBook book ≡ read b → AllBytes table →
+      dispatchCall book table out area .answer .number ≡ 0 → ListsRows b (tableRows b table) out (dispatchCall book table out area)
+  -- "Nothing is lost by it: two different accepted tables of one book never give equal lists."
+  pub nothing-lost : (book table other out out′ area area′ : List ℕ) → AllBytes table → AllBytes other →
+      dispatchCall book table out area .answer .number ≡ 0 → dispatchCall book other out′ area′ .answer .number ≡ 0 →
+      listOf (dispatchCall book table out area) ≡ listOf (dispatchCall book other out′ area′) → table ≡ other
+  -- the list of a table that the planner wrote has every row of the plan
+  pub lists-plan : (book out area list other : List ℕ) (b : Book) → readBook book ≡ read b → planCall book out area .answer .number ≡ 0 →
+      listLength (rowsOf (plan b)) ≤ length list → workBytes ≤ length other →
+      ListsRows b (rowsOf (plan b)) list (dispatchCall book (take (planCall book out area .answer .length) (planCall book out area .output)) list other)
+  -- as for planner and check: a version 1 book means release 0 (Req 01), and caps above P count as P (Req 02)
+  pub version-1-kept : (book : List ℕ) (b : Book) → readBook book ≡ read b → versionOf book ≡ 1 → (table out area : List ℕ) →
+      dispatchCall book table out area ≡ dispatchCall (bookBytes 2 b) table out area
+  pub caps-lowered : (book : List ℕ) (b : Book) → readBook book ≡ read b → (table out area : List ℕ) →
+      dispatchCall book table out area ≡ dispatchCall (bookBytes (versionOf book) (lowered b)) table out area
+
 -- ---- all of it
 pub record Demands : Type 0 where
   pub refuses-by-the-list : Demand1
@@ -164,3 +236,4 @@ pub record Demands : Type 0 where
   pub accepts-plans : AcceptsPlans
   pub version-1-kept : Version1Kept
   pub caps-lowered : CapsLowered
+  pub dispatches : Dispatches

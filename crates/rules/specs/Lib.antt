@@ -13,6 +13,7 @@ pub mod Placing
 pub mod Table
 pub mod Planner
 pub mod Check
+pub mod Dispatch
 pub mod Schedule
 pub mod Cut
 pub mod Text

@@ -24,3 +24,12 @@ pub struct CheckAnswer {
     pub job: u8,
     pub late: u8,
 }
+
+// What the dispatch list's call answers.
+#[repr(C)]
+pub struct ListAnswer {
+    pub number: u8,
+    pub flow: u8,
+    pub job: u8,
+    pub length: u32,
+}

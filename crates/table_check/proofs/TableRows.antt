@@ -13,11 +13,11 @@ use Rattle.rules.proofs.Walks.{list-length, list-at}
 use Rattle.table_check.specs.Tally.{rowsTo, Reached}
 use Rattle.table_check.proofs.Heads.{head-passes}
 
-rows-length : (b : Book) (s : List ℕ) → length (tableRows b s) ≡ (length s - tableHead b) / rowLength
+pub rows-length : (b : Book) (s : List ℕ) → length (tableRows b s) ≡ (length s - tableHead b) / rowLength
 unfolding tableRows
 rows-length b s = list-length (λ k. rowAt s (tableHead b + rowLength * k)) ((length s - tableHead b) / rowLength) 0
 
-row-at : (b : Book) (s : List ℕ) (k : ℕ) → k < length (tableRows b s) → getD (tableRows b s) k noRow ≡ rowAt s (tableHead b + rowLength * k)
+pub row-at : (b : Book) (s : List ℕ) (k : ℕ) → k < length (tableRows b s) → getD (tableRows b s) k noRow ≡ rowAt s (tableHead b + rowLength * k)
 unfolding tableRows
 row-at b s k h =
     let e : 0 + k ≡ k = omega arith in
@@ -25,7 +25,7 @@ row-at b s k h =
     ∙ ap (λ (j : ℕ). rowAt s (tableHead b + rowLength * j)) e
 
 -- the rows fill the table behind its head
-table-length : (b : Book) (s : List ℕ) → tableHeadFault b s ≡ Pass → length s ≡ tableHead b + rowLength * length (tableRows b s)
+pub table-length : (b : Book) (s : List ℕ) → tableHeadFault b s ≡ Pass → length s ≡ tableHead b + rowLength * length (tableRows b s)
 table-length b s e = let p = head-passes b s e in omega (arith, rows-length b s, p .head-inside, p .rows-whole)
 
 pub rows-to : (b : Book) (at k : ℕ) → at ≡ tableHead b + rowLength * k → rowsTo b at ≡ k

@@ -1,0 +1,150 @@
+-- A call and its outcome: what number 0 of the check leaves behind, the list put together from head and rows, and the refusal of a longer one.
+-- Assumes nothing.
+use mathlib.Core.Path.{_≡_, refl, sym, ap, _∙_}
+use mathlib.Core.Bool.{Bool, true, false}
+use Prim.Native.Nat.{ℕ, zero, suc, _+_, _*_, _-_, _^_, _≤_, _<_}
+use native.Mathlib.Nat.{div-one}
+use native.Mathlib.Numerals.{towards-suc}
+use native.Mathlib.Omega.{arith}
+use mathlib.Core.List.{List, [], _∷_, _++_}
+use lib.ListN.{length, set, drop, length-append}
+use lib.Seq.{sets, sets-eq}
+use lib.Dec.{ltb, eqb}
+use borrow.Author.Tests.{ltb-false, lt-ltb, le-ltb, eq-eqb}
+use Rattle.rules.specs.declared.ListAnswer.{ListAnswer}
+use Rattle.rules.specs.declared.Verdict.the-variants.{Pass}
+use Rattle.rules.specs.Walks.{if_then_else_, joinFrom}
+use Rattle.rules.specs.Fields.{field, bytesOf, AllBytes}
+use Rattle.rules.specs.Answers.{none, checkRefused, listAccepted, listRefused}
+use Rattle.rules.specs.Limits.{slots, workBytes}
+use Rattle.rules.specs.Book.{Book, flowCount}
+use Rattle.rules.specs.Reading.{Reading, read, unread, readBook, bookOf}
+use Rattle.rules.specs.Rows.{Row, usedIn, workUsed, workZero}
+use Rattle.rules.specs.Table.{tableHead, rowLength, rowsBytes}
+use Rattle.rules.specs.Check.{tableRows, tableFault, CheckOutcome, checkOutcome, checkReading, checkCall}
+use Rattle.rules.specs.Dispatch.{listHead, listRows, listLength, listBytes, DispatchOutcome, listOutcome, dispatchChecked, dispatchCall}
+use Rattle.rules.proofs.Fields.{bytes-length, field-lt, sets-append}
+use Rattle.rules.proofs.Passing.{read-passes}
+use Rattle.rules.proofs.WorkArea.{used-length, used-rest, used-cleared}
+use Rattle.rules.proofs.TableBytes.{rows-bytes-length, head-passes}
+use Rattle.rules.proofs.TablePasses.{table-passes}
+use Rattle.rules.proofs.ListOrder.{list-length}
+use Rattle.rules.proofs.AcceptsExactly.{call-accepts}
+use Rattle.rules.proofs.Dispatches.{check-reads, dispatches}
+use Rattle.dispatch.specs.Merge.{Accepted, rowsOf, InUse}
+use Rattle.dispatch.specs.Call.{headBytes, ListAsked, Leaves}
+use Rattle.dispatch.proofs.Tables.{rows-fill}
+
+-- ---- the check's number 0
+module _ (book table area : List ℕ) (zero : checkCall book table area .answer .number ≡ 0) where
+  reads : readBook book ≡ read (bookOf book)
+  reads = check-reads book table area zero
+
+  pub number-accepts : Accepted book table
+  number-accepts =
+      record { book-passes = read-passes book (bookOf book) reads .0; table-passes = call-accepts book table area (bookOf book) reads zero .0 }
+
+  pub area-used : checkCall book table area .area ≡ workUsed slots (rowsOf book table) area
+  unfolding checkOutcome
+  area-used = ap (λ (o : CheckOutcome). o .area) (call-accepts book table area (bookOf book) reads zero .1)
+
+  area-long : workBytes ≤ length area
+  unfolding checkCall checkReading
+  area-long = go (ltb (length area) workBytes) refl (sym (ap (λ (r : Reading). checkReading table area r .answer .number) reads) ∙ zero)
+    where
+      go : (t : Bool) → ltb (length area) workBytes ≡ t →
+          (if t then record { answer = checkRefused 11 none none; area = area } else checkOutcome (bookOf book) table area (tableFault (bookOf book) table)) .answer .number ≡ 0 →
+          workBytes ≤ length area
+      go true e z = absurd (omega arith)
+      go false e z = ltb-false (length area) workBytes e
+
+  pub left-in-use : {work : List ℕ} → work ≡ checkCall book table area .area → InUse book table work
+  unfolding workUsed
+  left-in-use {work} e =
+      let is : work ≡ workUsed slots (rowsOf book table) area = e ∙ area-used in
+      record {
+        room = omega (arith, area-long, ap length is ∙ used-length slots (rowsOf book table) area area-long);
+        used =
+            is
+            ∙ ap (joinFrom (λ t. bytesOf 2 (usedIn (rowsOf book table) t)) slots 0 ++_)
+            (sym (ap (drop (2 * slots)) is ∙ used-rest slots (rowsOf book table) area));
+      }
+
+-- ---- the length, and the bytes
+module _ (book table : List ℕ) (accepted : Accepted book table) where
+  abbrev rows : List Row
+  rows = rowsOf book table
+
+  pub size-of-list : (flows : ℕ) → flows ≡ flowCount (bookOf book) → length table - 2 * flows - 1 ≡ listLength rows
+  unfolding listLength
+  size-of-list flows e = omega (arith, rows-fill book table accepted)
+
+  pub size-of-table : AllBytes table → length table < 4294967296
+  size-of-table bytes =
+      omega (arith, field-lt 4 table 0 bytes, head-passes (bookOf book) table (table-passes (bookOf book) table (accepted .table-passes) .head-passes) .length-is)
+
+-- head and rows, stored one after the other
+pub head-stores : (s : List ℕ) (n processors : ℕ) → sets (set (sets s 0 (bytesOf 4 n)) 4 1) 5 (bytesOf 2 processors) ≡ sets s 0 (headBytes n processors)
+unfolding bytesOf headBytes
+head-stores s n processors = simp (towards-suc, div-one)
+
+pub list-length-is : (rows : List Row) → listLength rows ≡ 7 + 6 * length rows
+unfolding listLength
+list-length-is rows = refl
+
+pub list-stores : (b : Book) (rows : List Row) (out : List ℕ) (size : ℕ) → size ≡ listLength rows → size ≤ length out →
+    sets (sets out 0 (headBytes size (b .processors))) 7 (rowsBytes (listRows rows)) ≡ listBytes b rows ++ drop size out
+unfolding headBytes listBytes
+list-stores b rows out size e room =
+    let head = bytesOf 4 size ++ bytesOf 1 1 ++ bytesOf 2 (b .processors) in
+    let seven : length head ≡ 7 = simp (length-append, bytes-length) in
+    let long : length (head ++ rowsBytes (listRows rows)) ≡ size =
+    length-append head (rowsBytes (listRows rows)) ∙ omega (arith, seven, rows-bytes-length (listRows rows), list-length rows, e ∙ list-length-is rows) in
+    let n : 0 + length head ≡ 7 = omega (arith, seven) in
+    ap (λ (k : ℕ). sets (sets out 0 head) k (rowsBytes (listRows rows))) (sym n)
+    ∙ sets-append out 0 head (rowsBytes (listRows rows))
+    ∙ sets-eq (head ++ rowsBytes (listRows rows)) out 0 (omega (arith, long))
+    ∙ ap (λ (k : ℕ). head ++ rowsBytes (listRows rows) ++ drop k out) (let z : 0 + length (head ++ rowsBytes (listRows rows)) ≡ size = omega (arith, long) in z)
+    ∙ ap (λ (k : ℕ). bytesOf 4 k ++ bytesOf 1 1 ++ bytesOf 2 (b .processors) ++ rowsBytes (listRows rows) ++ drop size out) e
+
+-- ---- the outcome
+module _ (b : Book) (rows : List Row) (out area left : List ℕ) where
+  pub outcome-too-long : length out < listLength rows →
+      listOutcome b rows out area left ≡ record { answer = listRefused 13 none none; output = out; area = workZero slots area }
+  unfolding listOutcome
+  outcome-too-long h = rw (lt-ltb (length out) (listLength rows) h) refl
+
+  pub outcome-listed : listLength rows ≤ length out →
+      listOutcome b rows out area left
+      ≡ record { answer = listAccepted (listLength rows); output = listBytes b rows ++ drop (listLength rows) out; area = left }
+  unfolding listOutcome
+  outcome-listed h = rw (le-ltb (length out) (listLength rows) h) refl
+
+  -- where the area was left by the check, clearing it again gives what clearing it before gives
+  pub outcome-same : left ≡ workUsed slots rows area → listOutcome b rows out area left ≡ listOutcome b rows out left left
+  unfolding listOutcome
+  outcome-same e =
+      let cleared : workZero slots area ≡ workZero slots left = sym (ap (workZero slots) e ∙ used-cleared slots rows area) in
+      ap (λ (w : List ℕ).
+      if ltb (length out) (listLength rows)
+      then record { answer = listRefused 13 none none; output = out; area = w }
+      else record { answer = listAccepted (listLength rows); output = listBytes b rows ++ drop (listLength rows) out; area = left }) cleared
+
+pub positive : (n : ℕ) → (n ≡ 0 → ⊥) → 0 < n
+positive zero ne = absurd (ne refl)
+positive (suc n) ne = omega arith
+
+pub call-refused : (book table out area : List ℕ) → 0 < checkCall book table area .answer .number →
+    dispatchCall book table out area ≡ record {
+      answer = listRefused (checkCall book table area .answer .number) (checkCall book table area .answer .flow) (checkCall book table area .answer .job);
+      output = out;
+      area = checkCall book table area .area;
+    }
+call-refused = dispatches .check-first
+
+pub call-listed : (book table out area : List ℕ) → checkCall book table area .answer .number ≡ 0 →
+    dispatchCall book table out area ≡ listOutcome (bookOf book) (rowsOf book table) out (checkCall book table area .area) (checkCall book table area .area)
+unfolding dispatchCall dispatchChecked
+call-listed book table out area z =
+    rw (eq-eqb (checkCall book table area .answer .number) 0 z)
+    (outcome-same (bookOf book) (rowsOf book table) out area (checkCall book table area .area) (area-used book table area z))

@@ -1,0 +1,73 @@
+-- A slot without use has no row, since each row has a processor; the cursors stand before the next slot as they are. Assumes nothing.
+use mathlib.Core.Path.{_≡_, sym, ap, _∙_}
+use Prim.Native.Nat.{ℕ, _*_}
+use Rattle.rules.specs.Fields.{field}
+use Rattle.rules.specs.Book.{flowCount}
+use Rattle.rules.specs.Reading.{bookOf}
+use Rattle.rules.specs.Rows.{usedIn}
+use Rattle.dispatch.specs.Merge.{rowsOf}
+use Rattle.dispatch.proofs.Steps.{listed-none, pair-used, no-rows-in, cursors-pass}
+use borrow.Author.Needs.{needs}
+use native.Mathlib.Omega.{arith}
+use Rattle.dispatch.proofs.merge.list_used.Statement.{statement}
+use Rattle.dispatch.proofs.merge.list_used.Tie as tie
+
+wide16-requires : tie.Need-wide16-requires
+wide16-requires c κs = search needs
+
+mul-read16 : tie.Need-mul-read16
+mul-read16 c = omega (arith, c .wide16 .ensures .1)
+
+read16-requires : tie.Need-read16-requires
+read16-requires c κs =
+    let s = c .before .before .before .before .before .before .before in
+    let a = s .args in
+    let accepted = s .pre .0 .accepted in
+    omega (arith, c .wide16 .ensures .0, s .pre .0 .a-slot, s .pre .1 .room)
+
+returns : tie.Need-returns
+returns c =
+    let s = c .before .before .before .before .before .before .before .before .before in
+    let a = s .args in
+    let accepted = s .pre .0 .accepted in
+    let e : 2 * c .before .before .wide16 .result ≡ 2 * a .slot = ap (2 *_) (c .before .before .wide16 .ensures .0) in
+    let unused : usedIn (rowsOf (a .book .now) (a .table .now)) (a .slot) ≡ 0 =
+    sym (pair-used (a .book .now) (a .table .now) accepted (a .slot) (s .pre .0 .a-slot) (a .work .now) (s .pre .1))
+    ∙ ap (field 2 (a .work .now)) (sym e) ∙ sym (c .before .read16 .ensures) ∙ c .if1 .taken in
+    record {
+      cursors = cursors-pass (a .book .now) (a .table .now) accepted (a .slot) (s .pre .0 .a-slot) unused (a .ats .now) (a .dues .now) (s .pre .0 .cursors);
+      listed = rw (no-rows-in (a .book .now) (a .table .now) accepted (a .slot) (s .pre .0 .a-slot) unused (flowCount (bookOf (a .book .now)))) (listed-none (a .to) (a .out .now));
+    }
+
+list-slot-requires : tie.Need-list-slot-requires
+list-slot-requires c κs =
+    let s = c .before .before .before .before .before .before .before .before .before .before .before .before in
+    let a = s .args in
+    let accepted = s .pre .0 .accepted in
+    (s .pre .0, s .pre .2, s .pre .3)
+
+same-length : tie.Need-same-length
+same-length c = search needs
+
+same-length-2 : tie.Need-same-length-2
+same-length-2 c = search needs
+
+same-length-3 : tie.Need-same-length-3
+same-length-3 c = search needs
+
+returns-2 : tie.Need-returns-2
+returns-2 c = c .before .before .before .before .before .before .list-slot .ensures
+
+pub list-used-spec : {M : Type 1} → statement M
+list-used-spec =
+    tie.close
+    (tie.spec
+    wide16-requires
+    mul-read16
+    read16-requires
+    returns
+    list-slot-requires
+    same-length
+    same-length-2
+    same-length-3
+    returns-2)

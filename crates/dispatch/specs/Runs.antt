@@ -1,0 +1,55 @@
+-- Runs of rows in the bytes of a table: the rows of one flow in one slot, from a place on, and what copying them leaves. Assumes nothing.
+use mathlib.Core.Path.{_≡_}
+use Prim.Native.Nat.{ℕ, _+_, _*_, _-_, _≤_, _<_}
+use mathlib.Core.List.{List}
+use lib.ListN.{length}
+use lib.Seq.{sets}
+use lib.Dec.{leb, eqb}
+use Rattle.rules.specs.Walks.{if_then_else_, listFrom}
+use Rattle.rules.specs.Fields.{byte, field}
+
+-- n bytes of s, from `from` on
+unfoldable pub part : List ℕ → ℕ → ℕ → List ℕ
+part s from n = listFrom (byte s) n from
+
+-- the slot of the row at `at`, where it is one of this flow; 65,535, which no row has, where it is not or the table ends
+unfoldable pub dueAt : List ℕ → ℕ → ℕ → ℕ
+dueAt s at flow = if leb (length s) at then 65535 else if eqb (byte s (at + 2)) flow then field 2 s at else 65535
+
+-- nothing but whole rows stands from `at` on
+pub record WholeRows (s : List ℕ) (at : ℕ) : Type 0 where
+  pub count : ℕ
+  pub to-end : length s ≡ at + 6 * count
+
+-- n rows of this flow in this slot stand from `from` on
+unfoldable pub RunOf : List ℕ → ℕ → ℕ → ℕ → ℕ → Type 0
+RunOf s flow slot from n = (m : ℕ) → m < n → dueAt s (from + 6 * m) flow ≡ slot
+
+-- such rows, and no others, stand from `from` up to `at`
+pub record RunTo (s : List ℕ) (flow slot from at : ℕ) : Type 0 where
+  pub count : ℕ
+  pub at-is : at ≡ from + 6 * count
+  pub each : RunOf s flow slot from count
+
+-- and the run ends there
+pub record Run (s : List ℕ) (flow slot from end : ℕ) : Type 0 where
+  pub reaches : RunTo s flow slot from end
+  pub ends : dueAt s end flow ≡ slot → ⊥
+
+-- there is room for a run, however long it is
+pub record Room (s : List ℕ) (flow slot from to size : ℕ) : Type 0 where
+  pub whole : WholeRows s from
+  pub a-slot : slot < 65535
+  pub room : (n : ℕ) → RunOf s flow slot from n → to + 6 * n ≤ size
+
+-- the first rows of a run, at most 16, are copied to `to`
+pub record FirstCopied (s : List ℕ) (flow slot from to : ℕ) (out out′ : List ℕ) (next : ℕ) : Type 0 where
+  pub reaches : RunTo s flow slot from next
+  pub within : next ≤ from + 96
+  pub ends : next < from + 96 → dueAt s next flow ≡ slot → ⊥
+  pub copied : out′ ≡ sets out to (part s from (next - from))
+
+-- a whole run is copied to `to`
+pub record RunCopied (s : List ℕ) (flow slot from to : ℕ) (out out′ : List ℕ) (next : ℕ) : Type 0 where
+  pub run : Run s flow slot from next
+  pub copied : out′ ≡ sets out to (part s from (next - from))

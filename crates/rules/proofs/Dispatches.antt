@@ -1,0 +1,261 @@
+-- The dispatch list (02, Req 03): what a call answers, writes and leaves, and that nothing is lost by it.
+-- A call goes by the number that the check answers, then by the length of the output. The list that it writes reads back as the table's rows in the
+-- list's order, over the area that the check leaves. Equal lists have the rows of one table, and a table without a fault is the one that its rows give.
+-- Assumes nothing.
+use mathlib.Core.Path.{_≡_, refl, sym, ap, subst, _∙_}
+use mathlib.Core.Logic.{_⊎_, inl, inr}
+use mathlib.Core.Bool.{true, true≢false}
+use Prim.Native.Nat.{ℕ, suc, _≤_, _<_}
+use native.Mathlib.Omega.{arith}
+use mathlib.Core.List.{List, _++_}
+use lib.ListN.{length, take, drop, getD}
+use lib.Seq.{take-at}
+use lib.Dec.{eqb}
+use borrow.Author.Tests.{eq-eqb, ne-eqb, lt-ltb, le-ltb}
+use Rattle.rules.specs.declared.Verdict.the-variants.{Pass}
+use Rattle.rules.specs.Fields.{AllBytes}
+use Rattle.rules.specs.Answers.{none, listAccepted, listRefused}
+use Rattle.rules.specs.Limits.{slots, workBytes}
+use Rattle.rules.specs.Book.{Book, lowered, InRange}
+use Rattle.rules.specs.Reading.{versionOf, Reading, read, unread, bookOf, readBook, bookBytes}
+use Rattle.rules.specs.Rows.{Row, usedIn, workUsed, workZero}
+use Rattle.rules.specs.Placing.{rowsOf, plan}
+use Rattle.rules.specs.Schedule.{scheduleOf}
+use Rattle.rules.specs.Table.{tableLength, tableBytes}
+use Rattle.rules.specs.Planner.{planCall}
+use Rattle.rules.specs.Check.{noRow, tableRows, tableFault, CheckOutcome, checkOutcome, checkReading, checkCall}
+use Rattle.rules.specs.Dispatch.{listedBefore, listRows, listLength, listBytes, rowsInList, DispatchOutcome, listOutcome, dispatchChecked, dispatchCall}
+use Rattle.rules.specs.Demands.{PlansByTheRules, AcceptsPlans, Version1Kept, CheckRefusal, DispatchRefusal, timesIn, listOf, ListsRows, Dispatches}
+use Rattle.rules.proofs.Division.{lt-or-ge}
+use Rattle.rules.proofs.Passing.{read-passes, read-in-range}
+use Rattle.rules.proofs.RoundTrip.{writable-two, read-written}
+use Rattle.rules.proofs.Rising.{_∈_, Rising}
+use Rattle.rules.proofs.RowOrder.{Before}
+use Rattle.rules.proofs.ListOrder.{Listed, list-rising, list-as-often, list-sum, list-injective, listed-next, listed-once}
+use Rattle.rules.proofs.WorkArea.{used-pair}
+use Rattle.rules.proofs.TableBytes.{RowFits, table-rows-fit, table-bytes-length, table-read}
+use Rattle.rules.proofs.ListBytes.{list-rows-written, list-taken, list-past, list-head}
+use Rattle.rules.proofs.TablePasses.{TablePasses, table-passes}
+use Rattle.rules.proofs.AcceptedRows.{passing-rising, passing-use}
+use Rattle.rules.proofs.PlannedValid.{planned-valid, planned-in-slots}
+use Rattle.rules.proofs.PlannedTable.{planned-rows-are-schedule-rows}
+use Rattle.rules.proofs.Refusals.{demand-1}
+use Rattle.rules.proofs.AcceptsExactly.{row-fits, rows-accepted, call-accepts}
+use Rattle.rules.proofs.AcceptsPlans.{unread-number, accepts-plans}
+use Rattle.rules.proofs.PlansByTheRules.{plans-by-the-rules}
+use Rattle.rules.proofs.Versions.{version-1-kept}
+use Rattle.rules.proofs.SameUse.{dispatch-same}
+use Rattle.rules.proofs.Lowered.{same-use, caps-lowered}
+
+-- ---- the three outcomes of a call
+-- the list, over an area left by the check
+abbrev listing : Book → List Row → List ℕ → List ℕ → DispatchOutcome
+listing b rows out left = record { answer = listAccepted (listLength rows); output = listBytes b rows ++ drop (listLength rows) out; area = left }
+
+module _ (b : Book) (rows : List Row) (out area : List ℕ) (o : CheckOutcome) where
+  abbrev outcome : DispatchOutcome
+  outcome = dispatchChecked b rows out area o
+
+  -- the check's refusal, and 13
+  abbrev refusedByCheck : DispatchOutcome
+  refusedByCheck = record { answer = listRefused (o .answer .number) (o .answer .flow) (o .answer .job); output = out; area = o .area }
+
+  abbrev tooLong : DispatchOutcome
+  tooLong = record { answer = listRefused 13 none none; output = out; area = workZero slots area }
+
+  outcome-refused : 0 < o .answer .number → outcome ≡ refusedByCheck
+  unfolding dispatchChecked
+  outcome-refused h = rw (ne-eqb (o .answer .number) 0 (λ e. omega arith)) refl
+
+  outcome-listed : o .answer .number ≡ 0 → listLength rows ≤ length out → outcome ≡ listing b rows out (o .area)
+  unfolding dispatchChecked listOutcome
+  outcome-listed z l = rw (eq-eqb (o .answer .number) 0 z, le-ltb (length out) (listLength rows) l) refl
+
+  outcome-too-long : o .answer .number ≡ 0 → length out < listLength rows → outcome ≡ tooLong
+  unfolding dispatchChecked listOutcome
+  outcome-too-long z l = rw (eq-eqb (o .answer .number) 0 z, lt-ltb (length out) (listLength rows) l) refl
+
+  -- these are all
+  outcome-cases : {X : Type 0} → (0 < o .answer .number → X) → (o .answer .number ≡ 0 → listLength rows ≤ length out → X) →
+      (o .answer .number ≡ 0 → length out < listLength rows → X) → X
+  outcome-cases {X} refused long short = go (lt-or-ge 0 (o .answer .number)) (lt-or-ge (length out) (listLength rows))
+    where
+      go : (0 < o .answer .number) ⊎ (o .answer .number ≤ 0) → (length out < listLength rows) ⊎ (listLength rows ≤ length out) → X
+      go (inl h) l = refused h
+      go (inr h) (inl l) = short (omega arith) l
+      go (inr h) (inr l) = long (omega arith) l
+
+  -- number 0 is that of the list
+  outcome-zero : outcome .answer .number ≡ 0 → (o .answer .number ≡ 0) × (listLength rows ≤ length out)
+  outcome-zero z =
+      outcome-cases (λ h. absurd (omega (arith, ap (λ x. x .answer .number) (outcome-refused h)))) (λ e l. (e, l))
+      (λ e l. absurd (omega (arith, ap (λ x. x .answer .number) (outcome-too-long e l))))
+
+  outcome-refusal : (0 < o .answer .number → CheckRefusal area o) → 0 < outcome .answer .number → DispatchRefusal out area outcome
+  outcome-refusal refused p =
+      outcome-cases
+      (λ h. subst (DispatchRefusal out area) (sym (outcome-refused h))
+      (record { length-zero = refl; output-kept = refl; area-left = refused h .area-left }))
+      (λ e l. absurd (omega (arith, ap (λ x. x .answer .number) (outcome-listed e l))))
+      (λ e l. subst (DispatchRefusal out area) (sym (outcome-too-long e l))
+      (record { length-zero = refl; output-kept = refl; area-left = record { kept = λ k. absurd (true≢false (sym k)); zeroed = λ k. refl } }))
+
+-- ---- what the list holds
+module _ (b : Book) (rows : List Row) (out area : List ℕ) (fits : (r : Row) → r ∈ rows → RowFits r) (rising : Rising (Before b) rows) where
+  list-holds : ((t : ℕ) → usedIn rows t < 65536) → ListsRows b rows out (listing b rows out (workUsed slots rows area))
+  unfolding usedIn
+  list-holds fit = record {
+    length-is = refl;
+    head = list-head b rows out;
+    as-often = λ r. ap (timesIn r) back ∙ list-as-often r rows;
+    once = λ r. subst (λ l. timesIn r l ≤ 1) (sym back) (listed-once r (listRows rows) rises);
+    rising =
+        subst (λ l. (k : ℕ) → suc k < length l → listedBefore (getD l k noRow) (getD l (suc k) noRow) ≡ true) (sym back)
+        (listed-next (listRows rows) rises);
+    past = list-past b rows out;
+    sums = λ t l. used-pair slots rows area t l (fit t) ∙ sym (ap (λ rs. usedIn rs t) back ∙ list-sum (λ r. eqb (r .slot) t) rows);
+  }
+    where
+      back : rowsInList (take (listLength rows) (listBytes b rows ++ drop (listLength rows) out)) ≡ listRows rows
+      back = ap rowsInList (list-taken b rows out) ∙ list-rows-written b rows fits
+
+      rises : Rising Listed (listRows rows)
+      rises = list-rising b rows rising
+
+-- ---- a book that is read
+-- number 0 is answered of a book that is read
+pub check-reads : (book table area : List ℕ) → checkCall book table area .answer .number ≡ 0 → readBook book ≡ read (bookOf book)
+unfolding checkCall checkReading
+check-reads book table area = go (readBook book) refl
+  where
+    go : (r : Reading) → readBook book ≡ r → checkReading table area r .answer .number ≡ 0 → readBook book ≡ read (bookOf book)
+    go (read b) e z = e ∙ ap read (read-passes book b e .1)
+    go (unread n f j) e z = absurd (omega (arith, unread-number book n f j e))
+
+module _ (book : List ℕ) (b : Book) (reads : readBook book ≡ read b) (table out area : List ℕ) where
+  abbrev call : DispatchOutcome
+  call = dispatchCall book table out area
+
+  abbrev checked : CheckOutcome
+  checked = checkCall book table area
+
+  abbrev rows : List Row
+  rows = tableRows b table
+
+  range : InRange b
+  range = read-in-range book b reads
+
+  dispatch-read : call ≡ dispatchChecked b rows out area checked
+  unfolding dispatchCall
+  dispatch-read = ap (λ c. dispatchChecked c (tableRows c table) out area checked) (sym (read-passes book b reads .1))
+
+  -- number 0 is that of a table without a fault, and of its list over the area that its rows use
+  call-lists : call .answer .number ≡ 0 → (tableFault b table ≡ Pass) × (call ≡ listing b rows out (workUsed slots rows area))
+  unfolding checkOutcome
+  call-lists z =
+      let w = outcome-zero b rows out area checked (ap (λ o. o .answer .number) (sym dispatch-read) ∙ z) in
+      let c = call-accepts book table area b reads (w .0) in
+      (c .0, dispatch-read ∙ outcome-listed b rows out area checked (w .0) (w .1) ∙ ap (λ o. listing b rows out (o .area)) (c .1))
+
+  call-passes : call .answer .number ≡ 0 → TablePasses b table
+  call-passes z = table-passes b table (call-lists z .0)
+
+  call-rising : call .answer .number ≡ 0 → Rising (Before b) rows
+  call-rising z = passing-rising b range rows (call-passes z .rows-pass)
+
+  call-holds : ((r : Row) → r ∈ rows → RowFits r) → call .answer .number ≡ 0 → ListsRows b rows out call
+  call-holds fits z =
+      subst (ListsRows b rows out) (sym (call-lists z .1))
+      (list-holds b rows out area fits (call-rising z)
+      (λ t. omega (arith, passing-use b range rows (call-passes z .rows-pass) t, range .processors-most)))
+
+  call-too-long : checked .answer .number ≡ 0 → length out < listLength rows → call .answer ≡ listRefused 13 none none
+  call-too-long z l = ap (λ o. o .answer) (dispatch-read ∙ outcome-too-long b rows out area checked z l)
+
+  call-long-enough : checked .answer .number ≡ 0 → listLength rows ≤ length out → call .answer ≡ listAccepted (listLength rows)
+  call-long-enough z l = ap (λ o. o .answer) (dispatch-read ∙ outcome-listed b rows out area checked z l)
+
+  -- the list, as bytes
+  call-list : call .answer .number ≡ 0 → listOf call ≡ listBytes b rows
+  call-list z = ap listOf (call-lists z .1) ∙ list-taken b rows out
+
+  -- the table is the one that its rows give
+  call-table : AllBytes table → call .answer .number ≡ 0 → table ≡ tableBytes b rows
+  call-table bytes z = let p = call-passes z in table-read b table bytes (p .head-passes) (p .finishes)
+
+-- ---- nothing is lost
+nothing-lost : (book table other out out′ area area′ : List ℕ) → AllBytes table → AllBytes other →
+    dispatchCall book table out area .answer .number ≡ 0 → dispatchCall book other out′ area′ .answer .number ≡ 0 →
+    listOf (dispatchCall book table out area) ≡ listOf (dispatchCall book other out′ area′) → table ≡ other
+unfolding dispatchCall
+nothing-lost book table other out out′ area area′ bytes bytes′ z z′ same =
+    let b = bookOf book in
+    let rows = tableRows b table in
+    let rows′ = tableRows b other in
+    let reads = check-reads book table area (outcome-zero b rows out area (checkCall book table area) z .0) in
+    let equal : listBytes b rows ≡ listBytes b rows′ =
+    sym (call-list book b reads table out area z) ∙ same ∙ call-list book b reads other out′ area′ z′ in
+    let listed : listRows rows ≡ listRows rows′ =
+    sym (list-rows-written b rows (table-rows-fit b table bytes)) ∙ ap rowsInList equal ∙ list-rows-written b rows′ (table-rows-fit b other bytes′) in
+    let one : rows ≡ rows′ =
+    list-injective b rows rows′ (call-rising book b reads table out area z) (call-rising book b reads other out′ area′ z′) listed in
+    call-table book b reads table out area bytes z ∙ ap (tableBytes b) one ∙ sym (call-table book b reads other out′ area′ bytes′ z′)
+
+-- ---- the list of a plan
+lists-plan : (book out area list other : List ℕ) (b : Book) → readBook book ≡ read b → planCall book out area .answer .number ≡ 0 →
+    listLength (rowsOf (plan b)) ≤ length list → workBytes ≤ length other →
+    ListsRows b (rowsOf (plan b)) list (dispatchCall book (take (planCall book out area .answer .length) (planCall book out area .output)) list other)
+unfolding PlansByTheRules AcceptsPlans
+lists-plan book out area list other b reads z fit long =
+    let range = read-in-range book b reads in
+    let rows = rowsOf (plan b) in
+    let o = planCall book out area in
+    let p = plans-by-the-rules book out area b reads z in
+    let table = take (o .answer .length) (o .output) in
+    let written : table ≡ tableBytes b rows =
+    ap (λ n. take n (o .output)) (p .table-length) ∙ ap (take (tableLength b rows)) (p .table)
+    ∙ take-at (tableBytes b rows) (drop (tableLength b rows) out) (tableLength b rows) (table-bytes-length b rows) in
+    let same = planned-rows-are-schedule-rows b range rows (p .all-placed) in
+    let valid = planned-valid b range rows (p .all-placed) in
+    let within = planned-in-slots b range rows (p .all-placed) in
+    let back : tableRows b table ≡ rows = ap (tableRows b) written ∙ rows-accepted b range rows same valid within .1 in
+    let fits : (r : Row) → r ∈ rows → RowFits r =
+    subst (λ rs. (r : Row) → r ∈ rs → RowFits r) (sym same) (row-fits b range (scheduleOf rows) valid within) in
+    let zero = ap (λ a. a .number) (accepts-plans book out area other z long) in
+    let enough = call-long-enough book b reads table list other zero (subst (λ rs. listLength rs ≤ length list) (sym back) fit) in
+    subst (λ rs. ListsRows b rs list (dispatchCall book table list other)) back
+    (call-holds book b reads table list other (subst (λ rs. (r : Row) → r ∈ rs → RowFits r) (sym back) fits) (ap (λ a. a .number) enough))
+
+-- ---- books that are used alike: Req 01 and Req 02
+dispatch-version-1 : (book : List ℕ) (b : Book) → readBook book ≡ read b → versionOf book ≡ 1 → (table out area : List ℕ) →
+    dispatchCall book table out area ≡ dispatchCall (bookBytes 2 b) table out area
+unfolding Version1Kept
+dispatch-version-1 book b reads one table out area =
+    let range = read-in-range book b reads in
+    dispatch-read book b reads table out area
+    ∙ ap (dispatchChecked b (tableRows b table) out area) (version-1-kept book b reads one .same-check table area)
+    ∙ sym (dispatch-read (bookBytes 2 b) b (read-written 2 b range (writable-two b range)) table out area)
+
+dispatch-lowered : (book : List ℕ) (b : Book) → readBook book ≡ read b → (table out area : List ℕ) →
+    dispatchCall book table out area ≡ dispatchCall (bookBytes (versionOf book) (lowered b)) table out area
+dispatch-lowered book b reads table out area =
+    let w = caps-lowered .as-lowered book b reads in
+    dispatch-read book b reads table out area
+    ∙ ap (dispatchChecked b (tableRows b table) out area) (w .same-check table area)
+    ∙ dispatch-same b (lowered b) (same-use b) table out area (checkCall (bookBytes (versionOf book) (lowered b)) table area)
+    ∙ sym (dispatch-read (bookBytes (versionOf book) (lowered b)) (lowered b) (w .lowered-reads) table out area)
+
+pub dispatches : Dispatches
+unfolding dispatchCall
+dispatches = record {
+  check-first = λ book table out area. outcome-refused (bookOf book) (tableRows (bookOf book) table) out area (checkCall book table area);
+  too-long = λ book table out area b reads. call-too-long book b reads table out area;
+  long-enough = λ book table out area b reads. call-long-enough book b reads table out area;
+  refusal = λ book table out area.
+      outcome-refusal (bookOf book) (tableRows (bookOf book) table) out area (checkCall book table area) (demand-1 .check-refusal book table area);
+  lists-table = λ book table out area b reads bytes. call-holds book b reads table out area (table-rows-fit b table bytes);
+  nothing-lost = nothing-lost;
+  lists-plan = lists-plan;
+  version-1-kept = dispatch-version-1;
+  caps-lowered = dispatch-lowered;
+}
