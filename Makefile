@@ -12,6 +12,7 @@ bench:
 	rt staticlib flowplan
 	cd tests && cargo run --release --offline --quiet --bin bench_check
 	cd tests && cargo run --release --offline --quiet --bin bench_plan
+	cd tests && cargo run --release --offline --quiet --bin bench_dispatch
 
 # This library beside that of an earlier commit: make bench-between BEFORE=COMMIT
 SHARED = cc -shared -Wl,-u,flowplan_plan -Wl,-u,flowplan_check

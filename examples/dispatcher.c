@@ -1,5 +1,6 @@
 /*
- * Plans a book, checks the plan and hands out processors slot by slot:
+ * Plans a book, has the plan checked and listed, and hands out processors slot by
+ * slot:
  *
  *     dispatcher [BOOK]
  *
@@ -38,6 +39,9 @@ static const uint8_t book_g[] = {
     0x00, 0x00, 0x00, 0x00, 0x00, 0x00, 0x00, 0x00  /* free */
 };
 
+/* Lent to every call. */
+static uint8_t work[FLOWPLAN_WORK_BYTES];
+
 static unsigned be16(const uint8_t *bytes)
 {
     return (unsigned)bytes[0] << 8 | bytes[1];
@@ -49,79 +53,84 @@ static int refused(unsigned number, unsigned flow, unsigned job)
     return 1;
 }
 
-/* The rows of one flow that are still to be handed out. */
-struct stream {
-    const uint8_t *next;
-    const uint8_t *end;
-};
+/* The finish of each flow stands in the table. */
+static void print_finishes(const uint8_t *table)
+{
+    for (unsigned flow = 0; flow < table[7]; flow++)
+        printf("flow %u ends at %u\n", flow, be16(table + 8 + 2 * flow));
+}
 
 /*
- * Hands out the processors of an accepted table. Its rows stand flow by flow in
- * service order, each flow's by slot, so the next row of each flow is enough.
+ * Hands out the processors of a dispatch list. Its rows stand slot by slot, so each
+ * is looked at once; the work area has the use of each slot.
  */
-static void hand_out(const uint8_t *table, size_t length, const uint8_t *work)
+static void hand_out(const uint8_t *list, size_t length)
 {
-    struct stream streams[64];
-    unsigned flows = table[7], served = 0, last = 0;
+    const uint8_t *row = list + 7, *end = list + length;
 
-    for (unsigned flow = 0; flow < flows; flow++) {
-        unsigned finish = be16(table + 8 + 2 * flow);
-        printf("flow %u ends at %u\n", flow, finish);
-        if (finish > last)
-            last = finish;
-    }
-    for (const uint8_t *row = table + 8 + 2 * flows; row < table + length; row += 6) {
-        if (served == 0 || row[2] != streams[served - 1].next[2])
-            streams[served++].next = row;
-        streams[served - 1].end = row + 6;
-    }
-    for (unsigned slot = 0; slot < last; slot++) {
+    for (unsigned slot = 0; row < end; slot++) {
         printf("slot %u: %u in use\n", slot, be16(work + 2 * slot));
-        for (struct stream *flow = streams; flow < streams + served; flow++)
-            for (; flow->next < flow->end && be16(flow->next) == slot; flow->next += 6)
-                printf("  flow %u job %u: %u\n", (unsigned)flow->next[2],
-                       (unsigned)flow->next[3], be16(flow->next + 4));
+        for (; row < end && be16(row) == slot; row += 6)
+            printf("  flow %u job %u: %u\n", (unsigned)row[2], (unsigned)row[3],
+                   be16(row + 4));
     }
 }
 
-/* Plans, checks and hands out; `output` is grown until the table fits. */
+static int no_memory(void)
+{
+    fprintf(stderr, "no memory for table and list\n");
+    return 2;
+}
+
+/* Checks and lists a plan, and hands it out. A list is shorter than its table. */
+static int hand_out_plan(const uint8_t *book, size_t book_len, const uint8_t *table,
+                         size_t table_len)
+{
+    uint8_t *list = malloc(table_len);
+
+    if (list == NULL)
+        return no_memory();
+    struct flowplan_list_answer answer =
+        flowplan_dispatch(book, book_len, table, table_len, list, table_len, work, sizeof work);
+    if (answer.number != FLOWPLAN_ACCEPTED) {
+        free(list);
+        return refused(answer.number, answer.flow, answer.job);
+    }
+    printf("checked: list %lu\n", (unsigned long)answer.length);
+    print_finishes(table);
+    hand_out(list, answer.length);
+    free(list);
+    return 0;
+}
+
+/* Plans a book and hands the plan out; the table is grown until the plan fits. */
 static int dispatch(const uint8_t *book, size_t book_len)
 {
-    static uint8_t work[FLOWPLAN_WORK_BYTES];
     size_t room = 65536;
-    uint8_t *output = NULL;
+    uint8_t *table = NULL;
     struct flowplan_plan_answer plan;
 
     for (;;) {
-        uint8_t *larger = realloc(output, room);
+        uint8_t *larger = realloc(table, room);
         if (larger == NULL) {
-            fprintf(stderr, "no memory for the table\n");
-            free(output);
-            return 2;
+            free(table);
+            return no_memory();
         }
-        output = larger;
-        plan = flowplan_plan(book, book_len, output, room, work, sizeof work);
+        table = larger;
+        plan = flowplan_plan(book, book_len, table, room, work, sizeof work);
         if (plan.number != FLOWPLAN_OUTPUT || room >= FLOWPLAN_LONGEST_TABLE)
             break;
         room *= 2;
     }
     if (plan.number != FLOWPLAN_ACCEPTED) {
-        free(output);
+        free(table);
         return refused(plan.number, plan.flow, plan.job);
     }
     printf("planned: table %lu late %u\n", (unsigned long)plan.length, (unsigned)plan.late);
 
-    struct flowplan_check_answer check =
-        flowplan_check(book, book_len, output, plan.length, work, sizeof work);
-    if (check.number != FLOWPLAN_ACCEPTED) {
-        free(output);
-        return refused(check.number, check.flow, check.job);
-    }
-    printf("checked: late %u\n", (unsigned)check.late);
-
-    hand_out(output, plan.length, work);
-    free(output);
-    return 0;
+    int status = hand_out_plan(book, book_len, table, plan.length);
+    free(table);
+    return status;
 }
 
 int main(int count, char **arguments)

@@ -1,5 +1,5 @@
 /*
- * flowplan.h: flow planner and table check.
+ * flowplan.h: flow planner, table check and dispatch list.
  *
  * Version of this header, FLOWPLAN_HEADER_VERSION
  *   1  the base: planner and table check
@@ -8,6 +8,8 @@
  *      FLOWPLAN_LONGEST_BOOK
  *   3  Req 02, caps larger than the cluster: a cap above P, up to 65,535, counts
  *      as P; number 9 is only a cap of 0
+ *   4  Req 03, dispatch list: flowplan_dispatch with its answer, and the list's
+ *      layout; number 13 also for a list longer than the lent output
  *
  * Every call takes every sequence of bytes, comes to an end on each, allocates
  * nothing and keeps nothing between calls.
@@ -46,14 +48,24 @@
  *   Rows stand by service order of the flow, then slot, then job, all strictly
  *   rising. Service order is by deadline, equal deadlines by place in the book.
  *
+ * Dispatch list
+ *   length of the whole list in bytes    4
+ *   version = 1                          1
+ *   processors P                         2    as in the book
+ *   then the rows of a table, 6 bytes each as they stand there, every row once
+ *   Rows stand by slot, then flow, then job, all strictly rising; flows by number
+ *   and not by service order. A list is shorter than its table. Two different
+ *   tables of one book that the check accepts have different lists.
+ *
  * Work area
  *   At least FLOWPLAN_WORK_BYTES, two bytes for each of the slots 0 to 8,191.
  *   After acceptance each pair holds the processors in use in that slot. Bytes
  *   past FLOWPLAN_WORK_BYTES are never touched.
  *
  * Stack
- *   A call needs at most FLOWPLAN_CHECK_STACK or FLOWPLAN_PLAN_STACK bytes of
- *   stack (tested on x86-64 Linux, on full, small and refused input).
+ *   A call needs at most FLOWPLAN_CHECK_STACK, FLOWPLAN_PLAN_STACK or
+ *   FLOWPLAN_DISPATCH_STACK bytes of stack (tested on x86-64 Linux, on full,
+ *   small and refused input).
  *
  * Buffers
  *   The buffers of one call must not overlap. No pointer may be null, also
@@ -70,7 +82,7 @@ extern "C" {
 #endif
 
 /* What changed from version to version stands at the top. */
-#define FLOWPLAN_HEADER_VERSION 3
+#define FLOWPLAN_HEADER_VERSION 4
 
 /* Bytes of the work area that are used, and the slots that they stand for. */
 #define FLOWPLAN_WORK_BYTES 16384
@@ -79,6 +91,7 @@ extern "C" {
 /* Bytes of stack that a call needs at most. */
 #define FLOWPLAN_CHECK_STACK 16384
 #define FLOWPLAN_PLAN_STACK 20480
+#define FLOWPLAN_DISPATCH_STACK 20480
 
 /* The longest book that passes its checks: version 2, 64 flows of 64 jobs. */
 #define FLOWPLAN_LONGEST_BOOK 57672
@@ -93,8 +106,9 @@ extern "C" {
  * Numbers 1 to 4 are tested in that order; then for each flow 5, 6, 22, 7 and
  * for each of its jobs 5, 8, 9, 10; then bytes left over; then 11. The planner
  * goes on with 12, 13; the check with 14, with 15 to 19 in order for each row,
- * then 20, 21. The first fault met is answered. A flow head or job record must
- * be there whole before any of its fields is looked at.
+ * then 20, 21; the dispatch list as the check, and then 13. The first fault met
+ * is answered. A flow head or job record must be there whole before any of its
+ * fields is looked at.
  *
  * Numbers 1 to 11 and 22 leave the work area as it was; the others leave its
  * first FLOWPLAN_WORK_BYTES bytes zero.
@@ -129,7 +143,8 @@ enum flowplan_number {
     /* infeasible: a flow is not finished after slot 2 x deadline - 1; that
        flow, - */
     FLOWPLAN_INFEASIBLE = 12,
-    /* table longer than the lent output; -, - */
+    /* the planner's table, or the dispatch list, longer than the lent output;
+       -, - */
     FLOWPLAN_OUTPUT = 13,
     /* table too short for head and finishes, length field wrong, version not 1,
        P or flows unlike the book, rows not whole; -, - */
@@ -211,6 +226,38 @@ struct flowplan_plan_answer flowplan_plan(const uint8_t *book, size_t book_len,
                                           uint8_t *work, size_t work_len);
 
 /* ---- End of planner ---------------------------------------------------- */
+
+/* ---- Dispatch list ----------------------------------------------------- */
+
+/* The longest list: of a table whose rows fill every slot of every job. */
+#define FLOWPLAN_LONGEST_LIST 201326599
+
+struct flowplan_list_answer {
+    uint8_t number; /* 0 or the refusal, see enum flowplan_number */
+    uint8_t flow;   /* place of the refusal, else FLOWPLAN_NONE */
+    uint8_t job;
+    uint32_t length; /* accepted: bytes of the list; else 0 */
+};
+
+/*
+ * Checks a table and lists its rows in the order in which a dispatcher works:
+ * slot by slot, within a slot by flow number, then by job. What flowplan_check
+ * refuses is refused with the same number and place, however short the output
+ * is; then 13. An output as long as the table is always long enough.
+ *
+ * book, table: read only, any bytes, any length.
+ * output:      accepted: its first `length` bytes are the dispatch list, the
+ *              bytes past them are as they were. Refused: as it was.
+ * work:        accepted: the use of each slot by the table's rows. Number 1 to
+ *              11 or 22: as it was. Any other number: its first
+ *              FLOWPLAN_WORK_BYTES bytes are zero.
+ */
+struct flowplan_list_answer flowplan_dispatch(const uint8_t *book, size_t book_len,
+                                              const uint8_t *table, size_t table_len,
+                                              uint8_t *output, size_t output_len,
+                                              uint8_t *work, size_t work_len);
+
+/* ---- End of dispatch list ---------------------------------------------- */
 
 #ifdef __cplusplus
 }

@@ -1,4 +1,5 @@
-//! The answers of the table check and of the planner, laid out as in C.
+//! The answers of the table check, of the planner and of the dispatch list, laid
+//! out as in C.
 
 /// Stands in the place of a refusal where there is no flow or job.
 pub const NONE: u8 = 255;
@@ -89,6 +90,36 @@ impl PlanAnswer {
             flow: refusal.flow,
             job: refusal.job,
             late: 0,
+            length: 0,
+        }
+    }
+}
+
+/// What the dispatch list answers.
+#[repr(C)]
+#[derive(Clone, Copy, Debug, PartialEq, Eq)]
+pub struct ListAnswer {
+    pub number: u8,
+    pub flow: u8,
+    pub job: u8,
+    pub length: u32,
+}
+
+impl ListAnswer {
+    pub fn accepted(length: u32) -> ListAnswer {
+        ListAnswer {
+            number: 0,
+            flow: NONE,
+            job: NONE,
+            length,
+        }
+    }
+
+    pub fn refused(refusal: Refusal) -> ListAnswer {
+        ListAnswer {
+            number: refusal.number,
+            flow: refusal.flow,
+            job: refusal.job,
             length: 0,
         }
     }

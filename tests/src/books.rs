@@ -1,5 +1,6 @@
-//! Encoders of books and tables, seeded generators of order books over every
-//! range, of caps and of releases, and damage to books of either version.
+//! Encoders of books, tables and dispatch lists, seeded generators of order books
+//! over every range, of caps and of releases, and damage to books of either
+//! version.
 
 use crate::reader::{
     be16, Book, Flow, Job, Version, BOOK_HEAD, JOB_RECORD, MOST_CAP, MOST_DEADLINE, MOST_FLOWS,
@@ -40,13 +41,27 @@ pub fn encode_table(processors: u16, finishes: &[u16], rows: &[Row]) -> Vec<u8> 
     for finish in finishes {
         bytes.extend(finish.to_be_bytes());
     }
+    put_rows(&mut bytes, rows);
+    fit_length(&mut bytes);
+    bytes
+}
+
+/// The bytes of a dispatch list.
+pub fn encode_list(processors: u16, rows: &[Row]) -> Vec<u8> {
+    let mut bytes = Vec::with_capacity(7 + 6 * rows.len());
+    bytes.extend([0, 0, 0, 0, 1]);
+    bytes.extend(processors.to_be_bytes());
+    put_rows(&mut bytes, rows);
+    fit_length(&mut bytes);
+    bytes
+}
+
+fn put_rows(bytes: &mut Vec<u8>, rows: &[Row]) {
     for row in rows {
         bytes.extend(row.slot.to_be_bytes());
         bytes.extend([row.flow, row.job]);
         bytes.extend(row.take.to_be_bytes());
     }
-    fit_length(&mut bytes);
-    bytes
 }
 
 /// Makes the length field say how many bytes there are.

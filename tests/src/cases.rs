@@ -1,5 +1,6 @@
 //! What the benchmarks measure: books for the planner, and books whose plans are
-//! the tables of the check, each with how often it is measured.
+//! the tables of the check and of the dispatch list, each with how often it is
+//! measured.
 
 use crate::books::{full_book, largest_book, late_full_book, layered_book, usual_book, Family};
 use crate::marked;
@@ -175,6 +176,56 @@ pub fn check_cases() -> Vec<Case> {
         "growth with rows, free jobs:",
         growth
             .map(|n| case("  64 flows of 16 jobs", layered_book(64, 16, *n), 7, 1))
+            .collect(),
+    ));
+    cases
+}
+
+/// The books whose plans are listed.
+pub fn dispatch_cases() -> Vec<Case> {
+    let book_a = read_book(&marked::BOOK_A).expect("book A");
+    let mut small = vec![
+        case("  book A", book_a, 31, 1_000),
+        case("  free jobs, 8 flows of 4", layered_book(8, 4, 12), 31, 500),
+    ];
+    let mut rng = Rng::new(11);
+    small.extend((0..3).map(|_| case("  usual book", drawn_book(&mut rng), 31, 500)));
+    let mut cases = group("small tables:", small);
+    let full = planned_book(&mut rng, full_book);
+    let late = planned_book(&mut rng, late_full_book);
+    cases.extend(group(
+        "usual, full and large tables:",
+        vec![
+            case("  usual book, 20 flows of 10 jobs", shift_book(), 31, 100),
+            case("  full book, 64 flows of 64 jobs", full, 31, 20),
+            case("  version 2, full book with late releases", late, 31, 20),
+            case(
+                "  4 rows of a flow in a slot",
+                waiting_book(64, 16, 4, 256),
+                15,
+                1,
+            ),
+            case(
+                "  64 rows of a flow in a slot",
+                layered_book(64, 64, 256),
+                15,
+                1,
+            ),
+            case("  largest table", largest_book(), 5, 1),
+        ],
+    ));
+    let growth = [16, 256, 4_096].iter();
+    cases.extend(group(
+        "growth with rows, 64 flows of 16 free jobs over more slots:",
+        growth
+            .map(|n| case(format!("  {n} slots"), layered_book(64, 16, *n), 7, 1))
+            .collect(),
+    ));
+    let growth = [256, 1_024, 4_000].iter();
+    cases.extend(group(
+        "growth with slots, 63 flows waiting behind one:",
+        growth
+            .map(|n| case(format!("  {n} slots"), queue_book(*n), 15, 20))
             .collect(),
     ));
     cases

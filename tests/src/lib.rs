@@ -1,16 +1,19 @@
-//! A second planner and a second table check, made apart from the proved ones
-//! and from the rules alone, with generators of books and tables, for
-//! differential tests and as a baseline of speed.
+//! A second planner, a second table check and a second dispatch list, made apart
+//! from the proved ones and from the rules alone, with generators of books and
+//! tables, for differential tests and as a baseline of speed.
 
 pub mod answer;
 pub mod books;
 pub mod caps;
 pub mod cases;
+pub mod fast_dispatch;
 pub mod fast_planner;
 pub mod heads;
 pub mod lent;
 pub mod linked;
+pub mod linked_dispatch;
 pub mod linked_plan;
+pub mod lists;
 pub mod lowered;
 pub mod marked;
 pub mod measure;
@@ -18,6 +21,7 @@ pub mod painted;
 pub mod reader;
 pub mod rng;
 pub mod second_check;
+pub mod second_dispatch;
 pub mod second_planner;
 pub mod tables;
 pub mod twins;

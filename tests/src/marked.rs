@@ -1,12 +1,14 @@
-//! The marked plans A to G, held against any planner and any check.
+//! The marked plans A to G, held against any planner, any check and any dispatch
+//! list.
 
-use crate::answer::{CheckAnswer, PlanAnswer, Refusal, WORK_BYTES};
-use crate::books::{encode_book, encode_table, fit_length};
+use crate::answer::{CheckAnswer, ListAnswer, PlanAnswer, Refusal, WORK_BYTES};
+use crate::books::{encode_book, encode_list, encode_table, fit_length};
 use crate::reader::{Book, Flow, Job, Version, VERSIONS};
 use crate::second_check::Row;
 
 pub type Planner = fn(&[u8], &mut [u8], &mut [u8]) -> PlanAnswer;
 pub type Check = fn(&[u8], &[u8], &mut [u8]) -> CheckAnswer;
+pub type Dispatch = fn(&[u8], &[u8], &mut [u8], &mut [u8]) -> ListAnswer;
 
 const JUNK: u8 = 0xa5;
 
@@ -36,6 +38,20 @@ const ROWS_A: [[u16; 4]; 9] = [
     [5, 0, 1, 1],
 ];
 
+/// The dispatch list of plan A, byte for byte.
+pub const LIST_A: [u8; 61] = [
+    0x00, 0x00, 0x00, 0x3d, 0x01, 0x00, 0x03, // 61 bytes, version 1, P 3
+    0x00, 0x00, 0x00, 0x00, 0x00, 0x01, // slot, flow, job, take
+    0x00, 0x00, 0x01, 0x00, 0x00, 0x02, //
+    0x00, 0x01, 0x00, 0x00, 0x00, 0x01, //
+    0x00, 0x01, 0x01, 0x00, 0x00, 0x02, //
+    0x00, 0x02, 0x00, 0x00, 0x00, 0x02, //
+    0x00, 0x02, 0x01, 0x00, 0x00, 0x01, //
+    0x00, 0x03, 0x00, 0x00, 0x00, 0x01, //
+    0x00, 0x04, 0x00, 0x01, 0x00, 0x03, //
+    0x00, 0x05, 0x00, 0x01, 0x00, 0x01, //
+];
+
 /// Slot, flow, job and take of the rows of plan B.
 const ROWS_B: [[u16; 4]; 8] = [
     [0, 0, 0, 1],
@@ -48,6 +64,18 @@ const ROWS_B: [[u16; 4]; 8] = [
     [2, 1, 1, 1],
 ];
 
+/// The rows of the dispatch list of plan B.
+const LISTED_B: [[u16; 4]; 8] = [
+    [0, 0, 0, 1],
+    [0, 1, 0, 2],
+    [1, 0, 0, 1],
+    [1, 1, 0, 1],
+    [1, 1, 1, 1],
+    [2, 0, 0, 1],
+    [2, 1, 0, 1],
+    [2, 1, 1, 1],
+];
+
 /// Slot, flow, job and take of the rows of plan E. Flow 1 leaves one processor of
 /// slot 2. The chain of flow 0 is twice 2 and then 1 for job 0, and twice 2 for
 /// job 1, whose cap of 3 counts as 2; its first pseudo-job gets 1, 2 and 1.
@@ -56,6 +84,19 @@ const ROWS_E: [[u16; 4]; 9] = [
     [1, 1, 0, 2],
     [2, 1, 0, 1],
     [2, 0, 0, 1],
+    [3, 0, 0, 2],
+    [4, 0, 0, 1],
+    [5, 0, 0, 1],
+    [6, 0, 1, 2],
+    [7, 0, 1, 2],
+];
+
+/// The rows of the dispatch list of plan E.
+const LISTED_E: [[u16; 4]; 9] = [
+    [0, 1, 0, 2],
+    [1, 1, 0, 2],
+    [2, 0, 0, 1],
+    [2, 1, 0, 1],
     [3, 0, 0, 2],
     [4, 0, 0, 1],
     [5, 0, 0, 1],
@@ -115,6 +156,17 @@ const ROWS_G: [[u16; 4]; 7] = [
     [1, 1, 0, 2],
     [2, 1, 0, 2],
     [2, 0, 0, 1],
+    [3, 0, 0, 2],
+    [4, 0, 0, 1],
+    [5, 0, 0, 1],
+];
+
+/// The rows of the dispatch list of plan G.
+const LISTED_G: [[u16; 4]; 7] = [
+    [0, 1, 0, 2],
+    [1, 1, 0, 2],
+    [2, 0, 0, 1],
+    [2, 1, 0, 2],
     [3, 0, 0, 2],
     [4, 0, 0, 1],
     [5, 0, 0, 1],
@@ -182,6 +234,12 @@ pub fn book_d(processors: u32) -> Vec<u8> {
 
 pub fn table_d(processors: u16) -> Vec<u8> {
     encode_table(processors, &[], &[])
+}
+
+/// The dispatch list of plan D: its head alone.
+pub fn list_d(processors: u16) -> Vec<u8> {
+    let [high, low] = processors.to_be_bytes();
+    vec![0x00, 0x00, 0x00, 0x07, 0x01, high, low]
 }
 
 /// Book A with P 2.
@@ -286,6 +344,30 @@ pub fn not_checked(check: Check, book: &[u8], table: &[u8], refusal: Refusal) {
     let mut work = vec![JUNK; WORK_BYTES + 3];
     let answer = check(book, table, &mut work);
     assert_eq!(answer, CheckAnswer::refused(refusal));
+    left_by(refusal, &work);
+}
+
+pub fn listed(dispatch: Dispatch, book: &[u8], table: &[u8], list: &[u8], used: &[u16]) {
+    for room in [list.len(), list.len() + 1, list.len() + 100] {
+        let mut output = vec![JUNK; room];
+        let mut work = vec![JUNK; WORK_BYTES + 3];
+        let answer = dispatch(book, table, &mut output, &mut work);
+        assert_eq!(answer, ListAnswer::accepted(list.len() as u32));
+        assert_eq!(&output[..list.len()], list);
+        assert!(output[list.len()..].iter().all(|&byte| byte == JUNK));
+        holds_use(&work, used);
+    }
+    for room in [list.len() - 1, 0] {
+        not_listed(dispatch, book, table, room, Refusal::of_all(13));
+    }
+}
+
+pub fn not_listed(dispatch: Dispatch, book: &[u8], table: &[u8], room: usize, refusal: Refusal) {
+    let mut output = vec![JUNK; room];
+    let mut work = vec![JUNK; WORK_BYTES + 3];
+    let answer = dispatch(book, table, &mut output, &mut work);
+    assert_eq!(answer, ListAnswer::refused(refusal));
+    assert!(output.iter().all(|&byte| byte == JUNK));
     left_by(refusal, &work);
 }
 
@@ -402,4 +484,55 @@ pub fn hold_check(check: Check) {
         let book = book_g(Version::Two, release);
         not_checked(check, &book, &table_g(), Refusal::new(22, 0, 255));
     }
+}
+
+/// Holds the marked plans and tables against a dispatch list.
+pub fn hold_dispatch(dispatch: Dispatch) {
+    let listed = |book: &[u8], table: &[u8], list: &[u8], used: &[u16]| {
+        listed(dispatch, book, table, list, used);
+    };
+    // Refused whether a list of as many rows would have room or not.
+    let refused = |book: &[u8], table: &[u8], refusal| {
+        for room in [0, 6, 7, 60, 61, 100] {
+            not_listed(dispatch, book, table, room, refusal);
+        }
+    };
+    listed(&BOOK_A, &table_a(), &LIST_A, &[3, 3, 3, 1, 3, 1]);
+    let list_b = encode_list(3, &rows(&LISTED_B));
+    listed(&book_b(), &table_b(), &list_b, &[3, 3, 3]);
+    // One flow of one job: the rows of the table as they stand, also beyond twice
+    // the deadline.
+    for size in [2, 4, 5] {
+        let table = table_c(size);
+        let mut list = vec![0x00, 0x00, 0x00, 7 + 6 * size as u8, 0x01, 0x00, 0x02];
+        list.extend(&table[10..]);
+        let book = book_c(u32::from(size));
+        listed(&book, &table, &list, &vec![1; size as usize]);
+    }
+    for processors in [1, 3, 256, 4_096] {
+        let book = book_d(u32::from(processors));
+        listed(&book, &table_d(processors), &list_d(processors), &[]);
+        for room in 0..7 {
+            let table = table_d(processors);
+            not_listed(dispatch, &book, &table, room, Refusal::of_all(13));
+        }
+    }
+    let list_e = encode_list(2, &rows(&LISTED_E));
+    for version in VERSIONS {
+        for cap in [2, 3, 65_535] {
+            let book = book_e_capped(version, cap);
+            listed(&book, &TABLE_E, &list_e, &USED_E);
+            refused(&book, &table_e(7, 3), Refusal::new(17, 0, 1));
+        }
+        let book = book_e_capped(version, 0);
+        refused(&book, &TABLE_E, Refusal::new(9, 0, 1));
+    }
+    refused(&book_e(), &table_a(), Refusal::of_all(14));
+    refused(&BOOK_A, &table_f(3), Refusal::new(18, 0, 1));
+    refused(&BOOK_A, &table_f(2), Refusal::new(19, 0, 1));
+    let list_g = encode_list(3, &rows(&LISTED_G));
+    listed(&BOOK_G, &table_g(), &list_g, &[2, 2, 3, 2, 1, 1]);
+    refused(&BOOK_G, &moved_g(1, 1), Refusal::new(19, 0, 0));
+    let book = book_g(Version::Two, 6);
+    refused(&book, &table_g(), Refusal::new(22, 0, 255));
 }

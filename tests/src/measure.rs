@@ -1,8 +1,7 @@
-//! Timing for the benchmarks: two ways of doing the same, run in turn, with the
-//! median of each and of how they compare. What counts is the processor time of
-//! this thread, so that other programs on the machine disturb little.
+//! Timing for the benchmarks: ways of doing the same, run in turn, with the median
+//! of each and of how they compare. What counts is the processor time of this
+//! thread, so that other programs on the machine disturb little.
 
-use std::cmp::Ordering;
 use std::time::Duration;
 
 #[repr(C)]
@@ -29,48 +28,55 @@ fn thread_time() -> Duration {
     Duration::new(time.seconds as u64, time.nanoseconds as u32)
 }
 
-/// The medians of one comparison.
-pub struct Medians {
-    pub proved: Duration,
-    pub baseline: Duration,
-    /// How many times as long the proved one takes, each round by itself: the
-    /// pace of the machine changes from round to round.
-    pub ratio: f64,
-}
-
-fn median<T: Copy>(mut values: Vec<T>, order: impl Fn(&T, &T) -> Ordering) -> T {
-    values.sort_unstable_by(order);
-    values[values.len() / 2]
-}
-
-fn time(calls: u32, run: &mut dyn FnMut()) -> Duration {
+/// Seconds that one call takes.
+fn time(calls: u32, run: &mut dyn FnMut()) -> f64 {
     let from = thread_time();
     for _ in 0..calls {
         run();
     }
-    (thread_time() - from) / calls
+    (thread_time() - from).as_secs_f64() / f64::from(calls)
 }
 
-/// Runs both in turn `rounds` times, after one round that is not counted; each
-/// round makes `calls` calls of each.
+/// The seconds of one call of each way, round by round.
+pub struct Rounds<const WAYS: usize>(Vec<[f64; WAYS]>);
+
+impl<const WAYS: usize> Rounds<WAYS> {
+    /// Runs all ways in turn `rounds` times, after one round that is not counted;
+    /// each round makes `calls` calls of each.
+    pub fn run(rounds: usize, calls: u32, mut ways: [&mut dyn FnMut(); WAYS]) -> Rounds<WAYS> {
+        let mut round = |calls| ways.each_mut().map(|way| time(calls, way));
+        round(1);
+        Rounds((0..rounds).map(|_| round(calls)).collect())
+    }
+
+    /// The median of what is made of each round by itself: the pace of the machine
+    /// changes from round to round.
+    pub fn median(&self, of: impl Fn([f64; WAYS]) -> f64) -> f64 {
+        let mut values: Vec<f64> = self.0.iter().map(|&round| of(round)).collect();
+        values.sort_unstable_by(f64::total_cmp);
+        values[values.len() / 2]
+    }
+}
+
+/// The medians of one comparison.
+pub struct Medians {
+    pub proved: Duration,
+    pub baseline: Duration,
+    /// How many times as long the proved one takes.
+    pub ratio: f64,
+}
+
+/// Runs two ways in turn.
 pub fn in_turn(
     rounds: usize,
     calls: u32,
     proved: &mut dyn FnMut(),
     baseline: &mut dyn FnMut(),
 ) -> Medians {
-    time(1, proved);
-    time(1, baseline);
-    let (mut of_proved, mut of_baseline) = (Vec::new(), Vec::new());
-    for _ in 0..rounds {
-        of_proved.push(time(calls, proved));
-        of_baseline.push(time(calls, baseline));
-    }
-    let rounds = of_proved.iter().zip(&of_baseline);
-    let ratios = rounds.map(|(proved, baseline)| proved.as_secs_f64() / baseline.as_secs_f64());
+    let rounds = Rounds::run(rounds, calls, [proved, baseline]);
     Medians {
-        ratio: median(ratios.collect(), f64::total_cmp),
-        proved: median(of_proved, Duration::cmp),
-        baseline: median(of_baseline, Duration::cmp),
+        proved: Duration::from_secs_f64(rounds.median(|[proved, _]| proved)),
+        baseline: Duration::from_secs_f64(rounds.median(|[_, baseline]| baseline)),
+        ratio: rounds.median(|[proved, baseline]| proved / baseline),
     }
 }

@@ -1,6 +1,7 @@
-//! Valid tables that the planner would not make, and damage to tables such that
-//! every refusal of the check is met and several faults stand together, also
-//! before and about a release, and at jobs whose cap is above P.
+//! Valid tables that the planner would not make, tables near a valid one, and
+//! damage to tables such that every refusal of the check is met and several faults
+//! stand together, also before and about a release, and at jobs whose cap is above
+//! P.
 
 use crate::answer::{CheckAnswer, NUMBERS, SLOTS};
 use crate::books::{encode_table, fit_length};
@@ -120,6 +121,77 @@ pub fn delayed_table(rng: &mut Rng, book: &Book) -> Option<Table> {
         finishes: finishes_of(book, &rows),
         rows,
     })
+}
+
+/// A table near a valid one, which may be valid too: rows later, units in another
+/// row of the job, or two jobs or flows with each other's rows.
+pub fn varied(rng: &mut Rng, book: &Book, table: &Table) -> Table {
+    let mut rows = table.rows.clone();
+    if !rows.is_empty() {
+        vary(rng, book, &mut rows);
+    }
+    sort_rows(book, &mut rows);
+    Table {
+        finishes: finishes_of(book, &rows),
+        rows,
+    }
+}
+
+fn vary(rng: &mut Rng, book: &Book, rows: &mut Vec<Row>) {
+    let at = rng.index(rows.len());
+    let row = rows[at];
+    match rng.below(6) {
+        0 => {
+            // All rows from a slot on come later.
+            let wait = rng.skewed(1, 300) as u16;
+            for later in rows.iter_mut().filter(|other| other.slot >= row.slot) {
+                later.slot += wait;
+            }
+        }
+        1 => rows[at].slot += rng.skewed(1, 8) as u16,
+        2 => {
+            // Some units of a row in a slot of their own.
+            let units = rng.below(u64::from(row.take)) as u16;
+            rows[at].take -= units;
+            if units > 0 {
+                rows.push(Row {
+                    slot: row.slot + rng.skewed(1, 8) as u16,
+                    take: units,
+                    ..row
+                });
+            }
+        }
+        3 => {
+            // A unit in another row of the job.
+            let alike = |other: &Row| (other.flow, other.job) == (row.flow, row.job);
+            let others: Vec<usize> = (0..rows.len()).filter(|&k| alike(&rows[k])).collect();
+            rows[rng.pick(&others)].take += 1;
+            rows[at].take -= 1;
+            rows.retain(|row| row.take > 0);
+        }
+        4 => {
+            let jobs = book.flows[row.flow as usize].jobs.len();
+            let job = rng.index(jobs) as u8;
+            for of_flow in rows.iter_mut().filter(|other| other.flow == row.flow) {
+                of_flow.job = exchanged(of_flow.job, row.job, job);
+            }
+        }
+        _ => {
+            let flow = rng.index(book.flows.len()) as u8;
+            for any in rows {
+                any.flow = exchanged(any.flow, row.flow, flow);
+            }
+        }
+    }
+}
+
+/// A number, with two of the numbers exchanged.
+fn exchanged(number: u8, one: u8, other: u8) -> u8 {
+    match number {
+        _ if number == one => other,
+        _ if number == other => one,
+        _ => number,
+    }
 }
 
 /// A book of two jobs, the second after the first, and a table that would be

@@ -1,7 +1,7 @@
 //! The second implementations held against the marked plans and against each
 //! other, before they are held against the proved library.
 
-use flowplan_tests::answer::{CheckAnswer, PlanAnswer, Refusal, NUMBERS, WORK_BYTES};
+use flowplan_tests::answer::{CheckAnswer, ListAnswer, PlanAnswer, Refusal, NUMBERS, WORK_BYTES};
 use flowplan_tests::books::{self, encode_book};
 use flowplan_tests::reader::{read_book, Book, Version, MOST_CAP, MOST_DEADLINE, VERSIONS};
 use flowplan_tests::rng::Rng;
@@ -11,7 +11,8 @@ use flowplan_tests::second_planner::{
 };
 use flowplan_tests::tables::{self, Table, WideRows};
 use flowplan_tests::{
-    caps, fast_planner, heads, lowered, marked, second_check, second_planner, twins,
+    caps, fast_dispatch, fast_planner, heads, lists, lowered, marked, second_check,
+    second_dispatch, second_planner, twins,
 };
 
 #[test]
@@ -20,6 +21,8 @@ fn marked_plans() {
     marked::hold_planner(fast_planner::plan);
     marked::hold_check(second_check::check);
     marked::hold_check(second_check::check_by_definition);
+    marked::hold_dispatch(second_dispatch::dispatch);
+    marked::hold_dispatch(fast_dispatch::dispatch);
 }
 
 #[test]
@@ -487,6 +490,82 @@ fn answer_of_both(book: &[u8], table: &[u8], room: usize) -> CheckAnswer {
     one_pass
 }
 
+/// What both dispatch lists answer, with output and work area, which must be equal
+/// too.
+fn list_of_both(book: &[u8], table: &[u8], room: usize, area: usize) -> Listed {
+    let mut outputs = [vec![9; room], vec![9; room]];
+    let mut works = [vec![5; area], vec![5; area]];
+    let sorted = second_dispatch::dispatch(book, table, &mut outputs[0], &mut works[0]);
+    let merged = fast_dispatch::dispatch(book, table, &mut outputs[1], &mut works[1]);
+    assert_eq!(sorted, merged);
+    assert!(outputs[0] == outputs[1]);
+    assert!(works[0] == works[1]);
+    let ([output, _], [work, _]) = (outputs, works);
+    (sorted, output, work)
+}
+
+type Listed = (ListAnswer, Vec<u8>, Vec<u8>);
+
+/// The merge beside both sorts, on accepted and damaged tables, with outputs of every
+/// length class.
+#[test]
+fn merged_list_is_the_sorted_one() {
+    let mut rng = Rng::new(16);
+    let mut met = [0u32; NUMBERS];
+    let (mut orders_apart, mut blocks) = (0, 0);
+    for case in 0..12_000 {
+        let family = match case % 2_000 {
+            0..=2 => books::full_book,
+            3 => books::heavy_book,
+            _ => books::any_book,
+        };
+        let book = books::drawn(&mut rng, VERSIONS[case % 2], family);
+        let table = match case % 4 {
+            0 => tables::delayed_table(&mut rng, &book),
+            _ => tables::planned_table(&book),
+        };
+        let Some(table) = table else {
+            continue;
+        };
+        let mut bytes = encode_book(&book);
+        if rng.chance(1, 8) {
+            books::damage_book(&mut rng, &mut bytes);
+        }
+        let table = match rng.below(4) {
+            0 => tables::damaged(&mut rng, &book, &table),
+            _ => table.encode(&book),
+        };
+        let exact = lists::length_for(&table);
+        let room = rng.pick(&[0, exact - 1, exact, exact, exact, exact + 50]);
+        let area = WORK_BYTES + rng.index(9) - usize::from(rng.chance(1, 16));
+        let (answer, output, work) = list_of_both(&bytes, &table, room, area);
+        met[answer.number as usize] += 1;
+        if answer.number != 0 {
+            continue;
+        }
+        let mut again = vec![9; room];
+        assert_eq!(fast_dispatch::sort(&table, &mut again), exact);
+        assert!(again == output);
+        let book = read_book(&bytes).expect("a list has a book");
+        let list = &output[..exact];
+        lists::hold(&book, &table, list, &work);
+        orders_apart += usize::from(lists::tells_orders_apart(&book, list));
+        let rows = lists::rows_of(list);
+        let place = |row: &Row| (row.slot, row.flow);
+        let mut eights = rows.windows(8);
+        blocks += usize::from(eights.any(|eight| place(&eight[0]) == place(&eight[7])));
+    }
+    println!("numbers met by the dispatch lists: {met:?}");
+    println!(
+        "lists that tell service order from flow number: {orders_apart}; with eight rows of a \
+         flow in a slot: {blocks}"
+    );
+    for number in (1..=11).chain(13..=22) {
+        assert!(met[number] > 0, "number {number} was never met");
+    }
+    assert!(met[0] > 2_000 && orders_apart > 500 && blocks > 100);
+}
+
 /// On tiny books every valid schedule that ends each flow by its deadline is
 /// searched for; where the planner refuses there must be none up to the flow
 /// that it names.
@@ -616,4 +695,7 @@ fn answers_are_laid_out_as_in_c() {
     assert_eq!(std::mem::size_of::<CheckAnswer>(), 4);
     assert_eq!(std::mem::size_of::<PlanAnswer>(), 8);
     assert_eq!(std::mem::align_of::<PlanAnswer>(), 4);
+    assert_eq!(std::mem::size_of::<ListAnswer>(), 8);
+    assert_eq!(std::mem::align_of::<ListAnswer>(), 4);
+    assert_eq!(std::mem::offset_of!(ListAnswer, length), 4);
 }

@@ -7,12 +7,15 @@ use flowplan_tests::painted::stack_of;
 use flowplan_tests::reader::{read_book, Book};
 use flowplan_tests::rng::Rng;
 use flowplan_tests::tables::{self, Table};
-use flowplan_tests::{fast_planner, linked, linked_plan, marked, second_check};
+use flowplan_tests::{
+    fast_dispatch, fast_planner, linked, linked_dispatch, linked_plan, lists, marked, second_check,
+};
 use std::hint::black_box;
 
 /// The bytes that a call may take.
 const CHECK_STACK: usize = 16 * 1024;
 const PLAN_STACK: usize = 20 * 1024;
+const DISPATCH_STACK: usize = 20 * 1024;
 
 /// A book that can be planned, with its table.
 struct Case {
@@ -114,6 +117,24 @@ fn plan(book: &[u8], output: usize, work: usize) -> Seen {
     (expected.number, stack)
 }
 
+/// One proved dispatch list, whose answer must be that of the merge.
+fn dispatch(book: &[u8], table: &[u8], output: usize, work: usize) -> Seen {
+    let mut output = vec![0x5a; output];
+    let mut work = vec![0x5a; work];
+    let expected = fast_dispatch::dispatch(book, table, &mut output, &mut work);
+    let mut answer = None;
+    let stack = stack_of(&mut || {
+        answer = Some(linked_dispatch::dispatch(
+            book,
+            table,
+            &mut output,
+            &mut work,
+        ));
+    });
+    assert_eq!(answer, Some(expected));
+    (expected.number, stack)
+}
+
 /// Prints what the calls on one book took and gives the most. Each number by
 /// which the book can be refused must have been answered once, and so each of
 /// the others.
@@ -185,6 +206,32 @@ fn planner_in_little_stack() {
     }
     println!("plan: at most {most} bytes of stack");
     assert!(most <= PLAN_STACK, "{most} is above {PLAN_STACK}");
+}
+
+#[test]
+fn dispatch_list_in_little_stack() {
+    let mut rng = Rng::new(0x5eed_0006);
+    let mut most = 0;
+    for case in cases(&mut rng) {
+        let book = encode_book(&case.book);
+        let table = case.table.encode(&case.book);
+        let length = lists::length_for(&table);
+        let mut seen = vec![
+            dispatch(&book, &table, length, WORK_BYTES),
+            dispatch(&book, &table, length, WORK_BYTES - 1),
+            dispatch(&book, &table, length - 1, WORK_BYTES),
+        ];
+        for damaged in damaged_books(&mut rng, &case) {
+            seen.push(dispatch(&damaged, &table, length, WORK_BYTES));
+        }
+        for damaged in damaged_tables(&mut rng, &case) {
+            seen.push(dispatch(&book, &damaged, length, WORK_BYTES));
+        }
+        let others = [0, 11, 13].into_iter().chain(14..=21);
+        most = most.max(most_of("dispatch list", &case, seen, others));
+    }
+    println!("dispatch list: at most {most} bytes of stack");
+    assert!(most <= DISPATCH_STACK, "{most} is above {DISPATCH_STACK}");
 }
 
 const KNOWN_STACK: usize = 64 * 1024;
