@@ -2,37 +2,34 @@
 -- Assumes nothing.
 use mathlib.Core.Path.{_≡_, refl, sym, ap, _∙_}
 use mathlib.Core.Bool.{Bool, true, false}
-use Prim.Native.Nat.{ℕ, zero, suc, _+_, _*_, _-_, _^_, _≤_, _<_}
+use Prim.Native.Nat.{ℕ, zero, suc, _+_, _*_, _-_, _≤_, _<_}
 use native.Mathlib.Nat.{div-one}
 use native.Mathlib.Numerals.{towards-suc}
 use native.Mathlib.Omega.{arith}
-use mathlib.Core.List.{List, [], _∷_, _++_}
+use mathlib.Core.List.{List, _++_}
 use lib.ListN.{length, set, drop, length-append}
 use lib.Seq.{sets, sets-eq}
-use lib.Dec.{ltb, eqb}
+use lib.Dec.{ltb}
 use borrow.Author.Tests.{ltb-false, lt-ltb, le-ltb, eq-eqb}
-use Rattle.rules.specs.declared.ListAnswer.{ListAnswer}
-use Rattle.rules.specs.declared.Verdict.the-variants.{Pass}
 use Rattle.rules.specs.Walks.{if_then_else_, joinFrom}
-use Rattle.rules.specs.Fields.{field, bytesOf, AllBytes}
+use Rattle.rules.specs.Fields.{bytesOf}
 use Rattle.rules.specs.Answers.{none, checkRefused, listAccepted, listRefused}
 use Rattle.rules.specs.Limits.{slots, workBytes}
 use Rattle.rules.specs.Book.{Book, flowCount}
-use Rattle.rules.specs.Reading.{Reading, read, unread, readBook, bookOf}
+use Rattle.rules.specs.Reading.{Reading, read, readBook, bookOf}
 use Rattle.rules.specs.Rows.{Row, usedIn, workUsed, workZero}
-use Rattle.rules.specs.Table.{tableHead, rowLength, rowsBytes}
-use Rattle.rules.specs.Check.{tableRows, tableFault, CheckOutcome, checkOutcome, checkReading, checkCall}
-use Rattle.rules.specs.Dispatch.{listHead, listRows, listLength, listBytes, DispatchOutcome, listOutcome, dispatchChecked, dispatchCall}
-use Rattle.rules.proofs.Fields.{bytes-length, field-lt, sets-append}
+use Rattle.rules.specs.Table.{rowsBytes}
+use Rattle.rules.specs.Check.{tableFault, CheckOutcome, checkOutcome, checkReading, checkCall}
+use Rattle.rules.specs.Dispatch.{listRows, listLength, listBytes, listOutcome, dispatchChecked, dispatchCall}
+use Rattle.rules.proofs.Fields.{bytes-length, sets-append}
 use Rattle.rules.proofs.Passing.{read-passes}
 use Rattle.rules.proofs.WorkArea.{used-length, used-rest, used-cleared}
-use Rattle.rules.proofs.TableBytes.{rows-bytes-length, head-passes}
-use Rattle.rules.proofs.TablePasses.{table-passes}
+use Rattle.rules.proofs.TableBytes.{rows-bytes-length}
 use Rattle.rules.proofs.ListOrder.{list-length}
 use Rattle.rules.proofs.AcceptsExactly.{call-accepts}
 use Rattle.rules.proofs.Dispatches.{check-reads, dispatches}
 use Rattle.dispatch.specs.Merge.{Accepted, rowsOf, InUse}
-use Rattle.dispatch.specs.Call.{headBytes, ListAsked, Leaves}
+use Rattle.dispatch.specs.Call.{headBytes}
 use Rattle.dispatch.proofs.Tables.{rows-fill}
 
 -- ---- the check's number 0
@@ -78,10 +75,6 @@ module _ (book table : List ℕ) (accepted : Accepted book table) where
   pub size-of-list : (flows : ℕ) → flows ≡ flowCount (bookOf book) → length table - 2 * flows - 1 ≡ listLength rows
   unfolding listLength
   size-of-list flows e = omega (arith, rows-fill book table accepted)
-
-  pub size-of-table : AllBytes table → length table < 4294967296
-  size-of-table bytes =
-      omega (arith, field-lt 4 table 0 bytes, head-passes (bookOf book) table (table-passes (bookOf book) table (accepted .table-passes) .head-passes) .length-is)
 
 -- head and rows, stored one after the other
 pub head-stores : (s : List ℕ) (n processors : ℕ) → sets (set (sets s 0 (bytesOf 4 n)) 4 1) 5 (bytesOf 2 processors) ≡ sets s 0 (headBytes n processors)

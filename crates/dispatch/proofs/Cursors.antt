@@ -4,22 +4,22 @@
 -- run's end would be. Behind the run stands the cursor before the next slot. Assumes nothing.
 use mathlib.Core.Path.{_≡_, refl, sym, ap, _∙_}
 use mathlib.Core.Logic.{_⊎_, inl, inr}
-use mathlib.Core.Bool.{Bool, true, false, _&&_, and-eq-true-iff, false≢true}
+use mathlib.Core.Bool.{Bool, true, false, _&&_, and-eq-true-iff}
 use Prim.Native.Nat.{ℕ, zero, suc, _+_, _-_, _≤_, _<_}
 use native.Mathlib.Nat.{not-suc-le-zero}
 use native.Mathlib.Omega.{arith}
 use mathlib.Core.List.{List, [], _∷_, _++_, append-nil}
-use lib.ListN.{length, getD, take, drop, length-append, length-take, length-drop, take-append-drop}
-use lib.Seq.{take-add, drop-drop, getD-take, getD-drop, length-take-le}
+use lib.ListN.{length, getD, take, drop, length-append, length-drop, take-append-drop}
+use lib.Seq.{drop-drop, getD-take, getD-drop, length-take-le}
 use lib.Dec.{eqb}
-use borrow.Author.Tests.{eqb-true, eq-eqb, ne-eqb}
+use borrow.Author.Tests.{eqb-true, eq-eqb}
 use Rattle.rules.specs.Book.{Book}
 use Rattle.rules.specs.Rows.{Row}
 use Rattle.rules.specs.Service.{servedBefore}
 use Rattle.rules.specs.Check.{noRow}
 use Rattle.rules.proofs.Division.{lt-or-ge}
 use Rattle.rules.proofs.Rising.{at-in, Rising}
-use Rattle.rules.proofs.RowOrder.{Before, deadlineOf, Lexical, before-slot}
+use Rattle.rules.proofs.RowOrder.{Before, deadlineOf, before-slot}
 use Rattle.rules.proofs.ServiceOrder.{earlier-served, served-irreflexive, served-transitive, served-asymmetric}
 use Rattle.dispatch.specs.Merge.{keepRows, rowsAt, Cursor, FirstRow}
 use Rattle.dispatch.proofs.Keeping.{keep-append, keep-none, keep-all}
@@ -119,6 +119,17 @@ module _ (b : Book) (rows : List Row) (rising : Rising (Before b) rows) where
       go : (j < k) ⊎ (k ≤ j) → servedBefore b (row j .flow) f ≡ true
       go (inl m) = served (before-flow b (row j) (row k) (rising-at (Before b) rows rising j k m kn))
       go (inr m) = let e : j ≡ k = omega arith in rw e s
+
+  -- ---- rows from the cursor on
+  -- what stands from the cursor up to a row of the flow in the slot is of the flow and in the slot too
+  module _ (f t c j k : ℕ) (cursor : Cursor rows f t c) (from : c ≤ j) (to : j ≤ k) (within : k < length rows) (slot-is : row k .slot ≡ t)
+      (flow-is : row k .flow ≡ f) where
+    pub gapless-flow : row j .flow ≡ f
+    gapless-flow = flow-between f c j k from to within (cursor .here k (omega arith) within flow-is) flow-is
+
+    pub gapless-slot : row j .slot ≡ t
+    gapless-slot =
+        omega (arith, cursor .after j from (omega arith) gapless-flow, slot-rises f j k to within gapless-flow flow-is, slot-is)
 
   -- ---- a run from the cursor on
   module _ (f t c n : ℕ) (cursor : Cursor rows f t c) (within : c + n ≤ length rows)

@@ -1,8 +1,8 @@
--- The rows that pass a test: of rows one after the other, where none passes, where all do. Assumes nothing.
+-- The rows that pass a test: of rows one after the other, where none passes, where all do; no rows. Assumes nothing.
 use mathlib.Core.Path.{_≡_, refl, sym, ap, _∙_}
 use mathlib.Core.Logic.{_⊎_, inl, inr}
-use mathlib.Core.Bool.{Bool, true, false, _&&_, and-eq-true-iff, false≢true}
-use Prim.Native.Nat.{ℕ, zero, suc, _+_, _<_}
+use mathlib.Core.Bool.{Bool, true, false, false≢true}
+use Prim.Native.Nat.{ℕ, suc, _+_, _<_}
 use native.Mathlib.Omega.{arith}
 use mathlib.Core.List.{List, [], _∷_, _++_, List·Memᴰ·tail, List·Memᴰ·not-nil, List·Memᴰ·cases-cons}
 use lib.ListN.{length, getD}
@@ -11,6 +11,10 @@ use Rattle.rules.specs.Rows.{Row}
 use Rattle.rules.specs.Check.{noRow}
 use Rattle.rules.proofs.Rising.{_∈_, first-in, Rising}
 use Rattle.dispatch.specs.Merge.{keepRows}
+
+pub no-rows : (xs : List Row) → length xs ≡ 0 → xs ≡ []
+no-rows [] e = refl
+no-rows (x ∷ xs) e = absurd (omega arith)
 
 module _ (q : Row → Bool) where
   pub keep-append : (xs ys : List Row) → keepRows q (xs ++ ys) ≡ keepRows q xs ++ keepRows q ys

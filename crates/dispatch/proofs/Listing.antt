@@ -3,28 +3,25 @@
 -- is by job. So they are equal; and what is listed up to a slot is the front of it. Assumes nothing.
 use mathlib.Core.Path.{_≡_, refl, sym, ap, _∙_}
 use mathlib.Core.Logic.{_⊎_, inl, inr}
-use mathlib.Core.Bool.{Bool, true, false}
-use Prim.Native.Nat.{ℕ, zero, suc, _+_, _*_, _-_, _≤_, _<_}
-use native.Mathlib.Nat.{not-suc-le-zero}
+use Prim.Native.Nat.{ℕ, suc, _+_, _-_, _≤_, _<_}
 use native.Mathlib.Omega.{arith}
-use mathlib.Core.List.{List, [], _∷_, _++_, append-nil, List·Memᴰ·tail, List·Memᴰ·not-nil}
-use lib.ListN.{length, getD, length-append}
+use mathlib.Core.List.{List, [], _∷_, _++_, append-nil, List·Memᴰ·tail}
+use lib.ListN.{length, length-append}
 use Rattle.rules.specs.Walks.{joinFrom}
 use Rattle.rules.specs.Limits.{slots}
 use Rattle.rules.specs.Book.{Book, flowCount}
 use Rattle.rules.specs.Reading.{bookOf}
 use Rattle.rules.specs.Rows.{Row}
-use Rattle.rules.specs.Table.{rowLength}
 use Rattle.rules.specs.Check.{noRow}
-use Rattle.rules.specs.Dispatch.{listHead, listRows, listLength}
+use Rattle.rules.specs.Dispatch.{listRows}
 use Rattle.rules.proofs.Division.{lt-or-ge}
 use Rattle.rules.proofs.Walks.{join-last, join-split}
 use Rattle.rules.proofs.Rising.{_∈_, first-in, in-at, join-in, in-join, Rising, rising-join, rising-unique}
 use Rattle.rules.proofs.RowOrder.{Before, Lexical, lexical-rest, before-same-flow}
 use Rattle.rules.proofs.ListOrder as order
 use Rattle.rules.proofs.ListOrder.{listed-asymmetric, list-in, in-list, list-length, list-rising}
-use Rattle.dispatch.specs.Merge.{Accepted, rowsOf, keepRows, rowsAt, rowsIn, rowsBelow, placeAfter}
-use Rattle.dispatch.proofs.Keeping.{keep-in, in-keep, keep-rising}
+use Rattle.dispatch.specs.Merge.{Accepted, rowsOf, keepRows, rowsAt, rowsIn, rowsBelow}
+use Rattle.dispatch.proofs.Keeping.{no-rows, keep-in, in-keep, keep-rising}
 use Rattle.dispatch.proofs.Cursors.{isIn, is-in, in-is}
 use Rattle.dispatch.proofs.Tables.{row-passes, rows-rising}
 
@@ -137,11 +134,7 @@ module _ (book table : List ℕ) (accepted : Accepted book table) where
   whole-front t l h =
       let e = ap length (front t l) ∙ length-append (rowsBelow rows flows t) (joinFrom (rowsIn rows flows) (slots - t) t) in
       let z : length (joinFrom (rowsIn rows flows) (slots - t) t) ≡ 0 = omega (arith, e, list-length rows) in
-      sym (append-nil (rowsBelow rows flows t)) ∙ ap (rowsBelow rows flows t ++_) (sym (nothing (joinFrom (rowsIn rows flows) (slots - t) t) z)) ∙ sym (front t l)
-    where
-      nothing : (xs : List Row) → length xs ≡ 0 → xs ≡ []
-      nothing [] e = refl
-      nothing (x ∷ xs) e = absurd (omega arith)
+      sym (append-nil (rowsBelow rows flows t)) ∙ ap (rowsBelow rows flows t ++_) (sym (no-rows (joinFrom (rowsIn rows flows) (slots - t) t) z)) ∙ sym (front t l)
 
   -- while the list is longer, a slot is left
   pub slot-left : (t : ℕ) → t ≤ slots → length (rowsBelow rows flows t) < length rows → t < slots

@@ -1,17 +1,17 @@
 -- Parts of a table's bytes, and the runs in them.
 -- A part and the part behind it are one part, so that copies one after the other are one copy. A row of a run stands before the table's end,
--- since 65,535 is no slot; so whole rows stand behind it again. Assumes nothing.
+-- since 65,535 is no slot. What stands between two rows of a run belongs to it, so that the last of sixteen rows tells of all. Assumes nothing.
 use mathlib.Core.Path.{_≡_, refl, sym, ap, _∙_}
 use mathlib.Core.Logic.{_⊎_, inl, inr}
 use mathlib.Core.Bool.{Bool, true, false}
 use Prim.Native.Nat.{ℕ, zero, suc, _+_, _*_, _-_, _≤_, _<_}
 use native.Mathlib.Nat.{add-zero}
 use native.Mathlib.Omega.{arith}
-use mathlib.Core.List.{List, [], _∷_, _++_}
+use mathlib.Core.List.{List, _∷_, _++_}
 use lib.ListN.{length, set}
-use lib.Seq.{sets, length-sets}
+use lib.Seq.{sets}
 use lib.Dec.{leb, eqb}
-use borrow.Author.Tests.{leb-true, leb-false, le-leb, lt-leb, eqb-true, eq-eqb, ne-eqb}
+use borrow.Author.Tests.{leb-false, le-leb, lt-leb, eqb-true, eq-eqb, ne-eqb}
 use Rattle.rules.specs.Walks.{if_then_else_, listFrom}
 use Rattle.rules.specs.Fields.{byte, field}
 use Rattle.rules.proofs.Walks.{last-or, list-length}
@@ -85,14 +85,16 @@ module _ (s : List ℕ) (at flow : ℕ) where
 pub row-inside : (s : List ℕ) (at flow slot : ℕ) → slot < 65535 → dueAt s at flow ≡ slot → at < length s
 row-inside s at flow slot h e = due-inside s at flow (rw e h)
 
--- ---- runs
+-- ---- whole rows
 pub whole-inside : (s : List ℕ) (at : ℕ) → WholeRows s at → at < length s → at + 6 ≤ length s
-whole-inside s at w h = omega (arith, w .to-end)
+whole-inside s at w h = omega (arith, w .whole 0 (omega arith))
 
--- whole rows stand behind a row, and from the start on behind the rows passed
-pub whole-next : (s : List ℕ) (at : ℕ) → WholeRows s at → at < length s → WholeRows s (at + 6)
-whole-next s at w h = record { count = w .count - 1; to-end = omega (arith, w .to-end) }
+pub whole-shift : (s : List ℕ) (at k : ℕ) → WholeRows s at → WholeRows s (at + 6 * k)
+whole-shift s at k w = record {
+  whole = λ m h. let e : at + 6 * k + 6 * m ≡ at + 6 * (k + m) = omega arith in omega (arith, w .whole (k + m) (omega arith));
+}
 
+-- ---- runs
 module _ (s : List ℕ) (flow slot from : ℕ) where
   pub run-none : RunTo s flow slot from from
   unfolding RunOf
@@ -106,34 +108,75 @@ module _ (s : List ℕ) (flow slot from : ℕ) where
       each m l = last-or m (r .count) l (λ q. ap (λ k. dueAt s (from + 6 * k) flow) q ∙ ap (λ k. dueAt s k flow) (sym (r .at-is)) ∙ e) (λ b. r .each m b)
 
   -- whole rows stand where a run reaches
-  pub run-whole : (at : ℕ) → slot < 65535 → WholeRows s from → RunTo s flow slot from at → WholeRows s at
-  unfolding RunOf
-  run-whole at h w r = record { count = w .count - r .count; to-end = omega (arith, w .to-end, r .at-is, few) }
-    where
-      few : r .count ≤ w .count
-      few = go (r .count) (r .each)
-        where
-          go : (n : ℕ) → ((m : ℕ) → m < n → dueAt s (from + 6 * m) flow ≡ slot) → n ≤ w .count
-          go zero q = omega arith
-          go (suc n) q =
-              let e = q n (omega arith) in
-              let i = due-inside s (from + 6 * n) flow (rw e h) in
-              omega (arith, w .to-end)
+  pub run-whole : (at : ℕ) → WholeRows s from → RunTo s flow slot from at → WholeRows s at
+  run-whole at w r = rw (r .at-is) (whole-shift s from (r .count) w)
 
-  -- a run that is taken up again where it had got to
+  -- a run goes on where another one had got to
+  module _ (at n : ℕ) (r : RunTo s flow slot from at) where
+    pub run-of-joined : RunOf s flow slot at n → RunOf s flow slot from (r .count + n)
+    unfolding RunOf
+    run-of-joined each m l = go (lt-or-ge m (r .count))
+      where
+        go : (m < r .count) ⊎ (r .count ≤ m) → dueAt s (from + 6 * m) flow ≡ slot
+        go (inl b) = r .each m b
+        go (inr b) =
+            let p : from + 6 * m ≡ at + 6 * (m - r .count) = omega (arith, r .at-is) in
+            rw p (each (m - r .count) (omega arith))
+
+    pub run-of-rest : RunOf s flow slot from (r .count + n) → RunOf s flow slot at n
+    unfolding RunOf
+    run-of-rest each m l =
+        let p : at + 6 * m ≡ from + 6 * (r .count + m) = omega (arith, r .at-is) in
+        rw p (each (r .count + m) (omega arith))
+
   pub run-joined : (at end : ℕ) → RunTo s flow slot from at → Run s flow slot at end → Run s flow slot from end
+  run-joined at end r q = record {
+    reaches = record {
+      count = r .count + q .reaches .count;
+      at-is = omega (arith, r .at-is, q .reaches .at-is);
+      each = run-of-joined at (q .reaches .count) r (q .reaches .each);
+    };
+    ends = q .ends;
+  }
+
+-- where the last of sixteen rows is no more of the run, the run is shorter
+pub fewer : (s : List ℕ) (flow slot from next : ℕ) → RunTo s flow slot from next → next ≤ from + 96 → (dueAt s (from + 90) flow ≡ slot → ⊥) → next < from + 96
+unfolding RunOf
+fewer s flow slot from next r most last = go (lt-or-ge next (from + 96))
+  where
+    go : (next < from + 96) ⊎ (from + 96 ≤ next) → next < from + 96
+    go (inl l) = l
+    go (inr l) = absurd (last (r .each 15 (omega (arith, r .at-is))))
+
+-- ---- room for a run
+module _ (s : List ℕ) (flow slot from to size : ℕ) (p : Room s flow slot from to size) where
+  -- a run stays inside the table
+  pub run-inside : (at : ℕ) → RunTo s flow slot from at → at ≤ length s
   unfolding RunOf
-  run-joined at end r q =
-      record {
-        reaches = record { count = r .count + q .reaches .count; at-is = omega (arith, r .at-is, q .reaches .at-is); each = each };
-        ends = q .ends;
-      }
+  run-inside at r = go (r .count) refl
     where
-      each : (m : ℕ) → m < r .count + q .reaches .count → dueAt s (from + 6 * m) flow ≡ slot
-      each m l = go (lt-or-ge m (r .count))
-        where
-          go : (m < r .count) ⊎ (r .count ≤ m) → dueAt s (from + 6 * m) flow ≡ slot
-          go (inl b) = r .each m b
-          go (inr b) =
-              let p : from + 6 * m ≡ at + 6 * (m - r .count) = omega (arith, r .at-is) in
-              rw p (q .reaches .each (m - r .count) (omega arith))
+      go : (n : ℕ) → r .count ≡ n → at ≤ length s
+      go zero e = omega (arith, r .at-is, p .inside)
+      go (suc n) e =
+          let i = row-inside s (from + 6 * n) flow slot (p .a-slot) (r .each n (omega arith)) in
+          omega (arith, r .at-is, p .rows .whole n i)
+
+  -- and behind its first rows there is room for the rest
+  pub room-after : (done : ℕ) → RunTo s flow slot from (from + done) → Room s flow slot (from + done) (to + done) size
+  room-after done r = record {
+    rows = run-whole s flow slot from (from + done) (p .rows) r;
+    inside = run-inside (from + done) r;
+    short = p .short;
+    a-slot = p .a-slot;
+    gapless = λ m e.
+        let q : from + done + 6 * m ≡ from + 6 * (r .count + m) = omega (arith, r .at-is) in
+        let z : suc (r .count + m) ≡ r .count + suc m = omega arith in
+        run-of-rest s flow slot from (from + done) (suc m) r (rw z at (p .gapless (r .count + m) (rw q at e)));
+    room = λ n each. omega (arith, p .room (r .count + n) (run-of-joined s flow slot from (from + done) n r each), r .at-is);
+  }
+
+  -- sixteen rows more, where the last of them belongs to the run
+  pub run-block : (done : ℕ) → RunTo s flow slot from (from + done) → dueAt s (from + done + 90) flow ≡ slot → RunTo s flow slot from (from + done + 96)
+  run-block done r e =
+      let q : from + done + 90 ≡ from + 6 * (r .count + 15) = omega (arith, r .at-is) in
+      record { count = suc (r .count + 15); at-is = omega (arith, r .at-is); each = p .gapless (r .count + 15) (rw q at e) }

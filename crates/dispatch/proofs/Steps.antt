@@ -1,6 +1,5 @@
 -- One step of each loop of the merge: a cursor set, a flow's rows listed, a slot passed. Assumes nothing.
-use mathlib.Core.Path.{_≡_, refl, sym, ap, subst, _∙_}
-use mathlib.Core.Logic.{_⊎_, inl, inr, _≢_}
+use mathlib.Core.Path.{_≡_, refl, sym, ap, _∙_}
 use mathlib.Core.Bool.{Bool, true, false}
 use Prim.Native.Nat.{ℕ, zero, suc, _+_, _*_, _-_, _≤_, _<_}
 use native.Mathlib.Omega.{arith}
@@ -11,25 +10,24 @@ use lib.Dec.{eqb}
 use borrow.Author.Tests.{eqb-true, eqb-false, eq-eqb}
 use Rattle.rules.specs.Fields.{AllBytes, field}
 use Rattle.rules.specs.Walks.{joinFrom}
-use Rattle.rules.specs.Limits.{slots, workBytes}
+use Rattle.rules.specs.Limits.{slots}
 use Rattle.rules.specs.Book.{Book, flowCount}
 use Rattle.rules.specs.Reading.{bookOf}
-use Rattle.rules.specs.Rows.{Row, usedIn, sumWhere}
+use Rattle.rules.specs.Rows.{Row, usedIn}
 use Rattle.rules.specs.Table.{tableHead, rowLength, rowBytes, rowsBytes}
-use Rattle.rules.specs.Check.{noRow, tableRows}
-use Rattle.rules.proofs.Division.{lt-or-ge}
+use Rattle.rules.specs.Check.{noRow}
 use Rattle.rules.proofs.Walks.{last-or, join-last}
 use Rattle.rules.proofs.Fields.{sets-append}
-use Rattle.rules.proofs.Rising.{_∈_, at-in}
-use Rattle.rules.proofs.RowSums.{sum-where-least, used-in-use}
+use Rattle.rules.proofs.Rising.{at-in}
+use Rattle.rules.proofs.RowSums.{sum-where-least}
 use Rattle.rules.proofs.TableBytes.{rows-bytes-length}
 use Rattle.rules.proofs.WorkArea.{used-pair}
 use Rattle.dispatch.specs.Runs.{dueAt, Run, RunCopied}
-use Rattle.dispatch.specs.Merge.{Accepted, rowsOf, InUse, rowsAt, rowsIn, placeAfter, Cursor, CursorAt, Cursors, Listed}
+use Rattle.dispatch.specs.Merge.{Accepted, rowsOf, InUse, rowsAt, rowsIn, placeAfter, CursorAt, Cursors, RowsListed}
 use Rattle.dispatch.proofs.Runs.{run-none}
-use Rattle.dispatch.proofs.Keeping.{keep-none}
+use Rattle.dispatch.proofs.Keeping.{no-rows, keep-none}
 use Rattle.dispatch.proofs.Cursors.{isIn, not-in}
-use Rattle.dispatch.proofs.Tables.{in-range, row-passes, row-in, schedule-valid, due-within, due-row-slot, after-run, run-size, run-bytes}
+use Rattle.dispatch.proofs.Tables.{in-range, row-passes, use-within, due-within, due-row-slot, after-run, run-size, run-bytes}
 
 -- ---- arrays with one element set
 module _ (l : List ℕ) (f v : ℕ) (few : f < length l) where
@@ -122,21 +120,17 @@ module _ (b : Book) (s : List ℕ) where
       record { ats-long = p .ats-long; dues-long = p .dues-long; passed = λ f l. absurd (omega arith); ahead = λ f l m. p .passed f m; due = p .due }
 
 -- ---- rows listed, one list behind the other
-no-rows : (xs : List Row) → length xs ≡ 0 → xs ≡ []
-no-rows [] e = refl
-no-rows (x ∷ xs) e = absurd (omega arith)
-
 rows-bytes-append : (xs ys : List Row) → rowsBytes (xs ++ ys) ≡ rowsBytes xs ++ rowsBytes ys
 unfolding rowsBytes
 rows-bytes-append [] ys = refl
 rows-bytes-append (x ∷ xs) ys = ap (rowBytes x ++_) (rows-bytes-append xs ys) ∙ sym (append-assoc (rowBytes x) (rowsBytes xs) (rowsBytes ys))
 
-pub listed-none : (to : ℕ) (out : List ℕ) → Listed [] to out out to
+pub listed-none : (to : ℕ) (out : List ℕ) → RowsListed [] to out out to
 unfolding placeAfter rowsBytes
 listed-none to out = record { written = refl; next-is = omega arith }
 
-pub listed-append : {xs ys : List Row} {to next end : ℕ} {out mid out′ : List ℕ} → Listed xs to out mid next → Listed ys next mid out′ end →
-    Listed (xs ++ ys) to out out′ end
+pub listed-append : {xs ys : List Row} {to next end : ℕ} {out mid out′ : List ℕ} → RowsListed xs to out mid next → RowsListed ys next mid out′ end →
+    RowsListed (xs ++ ys) to out out′ end
 unfolding placeAfter
 listed-append {xs} {ys} {to} {next} {end} {out} p q = record {
   written =
@@ -153,7 +147,7 @@ module _ (book table : List ℕ) (accepted : Accepted book table) (f t at : ℕ)
     (cursor : CursorAt (bookOf book) table f t at) where
   -- a run that is copied lists the flow's rows in the slot
   pub run-listed : (to next : ℕ) (out out′ : List ℕ) → AllBytes table → RunCopied table f t at to out out′ next →
-      Listed (rowsAt (rowsOf book table) t f) to out out′ (to + (next - at))
+      RowsListed (rowsAt (rowsOf book table) t f) to out out′ (to + (next - at))
   unfolding placeAfter
   run-listed to next out out′ bytes r = record {
     written = r .copied ∙ ap (sets out to) (run-bytes book table accepted f t at cursor (omega arith) next (r .run) bytes);
@@ -173,7 +167,7 @@ module _ (book table : List ℕ) (accepted : Accepted book table) (f t at : ℕ)
         let e = run-size book table accepted f t at cursor (omega arith) at nothing in
         no-rows (rowsAt (rowsOf book table) t f) (omega (arith, e))
 
-    pub kept-listed : (to : ℕ) (out : List ℕ) → Listed (rowsAt (rowsOf book table) t f) to out out to
+    pub kept-listed : (to : ℕ) (out : List ℕ) → RowsListed (rowsAt (rowsOf book table) t f) to out out to
     kept-listed to out = rw none-there (listed-none to out)
 
 -- ---- a slot that is not in use
@@ -185,10 +179,7 @@ module _ (book table : List ℕ) (accepted : Accepted book table) (t : ℕ) (a-s
   pub pair-used : (work : List ℕ) → InUse book table work → field 2 work (2 * t) ≡ usedIn rows t
   pair-used work p =
       ap (λ (w : List ℕ). field 2 w (2 * t)) (p .used)
-      ∙ used-pair slots rows work t a-slot (omega (arith, few, in-range book table accepted .processors-most))
-    where
-      few : usedIn rows t ≤ bookOf book .processors
-      few = rw (used-in-use (bookOf book) rows t (λ r m. row-in book table accepted r m)) (schedule-valid book table accepted .together t)
+      ∙ used-pair slots rows work t a-slot (omega (arith, use-within book table accepted t, in-range book table accepted .processors-most))
 
   module _ (unused : usedIn rows t ≡ 0) where
     no-row : (k : ℕ) → k < length rows → getD rows k noRow .slot ≡ t → ⊥

@@ -1,34 +1,31 @@
 -- What an accepted table is: whole rows behind its head, in rising order, each with a flow of the book, a slot and processors; and how its rows stand in
 -- its bytes, where a run of rows is read and copied. Assumes nothing.
-use mathlib.Core.Path.{_≡_, refl, sym, ap, _∙_}
+use mathlib.Core.Path.{_≡_, sym, ap, _∙_}
 use Prim.Native.Nat.{ℕ, zero, suc, _+_, _*_, _-_, _≤_, _<_}
 use native.Mathlib.Omega.{arith}
-use mathlib.Core.List.{List, [], _∷_}
+use mathlib.Core.List.{List}
 use lib.ListN.{length, getD, take, drop, length-drop}
 use lib.Seq.{ext-getD, getD-take, getD-drop, length-take-le}
 use Rattle.rules.specs.Walks.{listFrom}
 use Rattle.rules.specs.Fields.{byte, field, AllBytes}
-use Rattle.rules.specs.Limits.{slots}
-use Rattle.rules.specs.Book.{Book, InRange, flowCount}
+use Rattle.rules.specs.Book.{Book, InRange}
 use Rattle.rules.specs.Reading.{bookOf}
-use Rattle.rules.specs.Rows.{Row}
+use Rattle.rules.specs.Rows.{Row, usedIn}
 use Rattle.rules.specs.Table.{tableHead, rowLength, rowsBytes, rowAt}
-use Rattle.rules.specs.Check.{noRow, tableRows}
-use Rattle.rules.specs.Schedule.{everyFlow, Valid, scheduleOf}
+use Rattle.rules.specs.Check.{noRow}
 use Rattle.rules.proofs.Walks.{list-length, list-at}
-use Rattle.rules.proofs.Fields.{StandsAt}
+use Rattle.rules.proofs.Fields.{StandsAt, field-lt}
 use Rattle.rules.proofs.Passing.{pass-in-range}
-use Rattle.rules.proofs.Rising.{_∈_, Rising}
+use Rattle.rules.proofs.Rising.{Rising}
 use Rattle.rules.proofs.RowOrder.{Before}
-use Rattle.rules.proofs.RowSums.{InBook}
-use Rattle.rules.proofs.TableBytes.{rows-bytes-length, rows-read}
+use Rattle.rules.proofs.TableBytes.{rows-bytes-length, rows-read, head-passes}
 use Rattle.rules.proofs.TablePasses.{RowPasses, TablePasses, table-passes}
-use Rattle.rules.proofs.AcceptedRows.{passing-is-row, passing-rising, passing-valid}
+use Rattle.rules.proofs.AcceptedRows.{passing-rising, passing-use}
 use Rattle.table_check.proofs.TableRows.{row-at, table-length}
-use Rattle.dispatch.specs.Runs.{part, dueAt, WholeRows, RunOf, RunTo, Run}
-use Rattle.dispatch.specs.Merge.{Accepted, rowsOf, rowsAt, placeAfter, Cursor, CursorAt}
+use Rattle.dispatch.specs.Runs.{part, dueAt, WholeRows, RunOf, Run}
+use Rattle.dispatch.specs.Merge.{Accepted, rowsOf, rowsAt, CursorAt}
 use Rattle.dispatch.proofs.Runs.{due-inside, due-flow, due-own}
-use Rattle.dispatch.proofs.Cursors.{run-few, run-rows, run-length, run-cursor}
+use Rattle.dispatch.proofs.Cursors.{gapless-flow, gapless-slot, run-few, run-rows, run-length, run-cursor}
 
 module _ (book table : List ℕ) (accepted : Accepted book table) where
   abbrev b : Book
@@ -46,11 +43,9 @@ module _ (book table : List ℕ) (accepted : Accepted book table) where
   pub row-passes : (k : ℕ) → k < length rows → RowPasses b rows k
   row-passes = passes .rows-pass .each-row
 
-  pub row-in : (r : Row) → r ∈ rows → InBook b r
-  row-in r m = passing-is-row b in-range rows (passes .rows-pass) r m .in-book
-
-  pub schedule-valid : Valid b everyFlow (scheduleOf rows)
-  schedule-valid = passing-valid b in-range rows (passes .rows-pass)
+  -- at most P in a slot
+  pub use-within : (t : ℕ) → usedIn rows t ≤ b .processors
+  use-within = passing-use b in-range rows (passes .rows-pass)
 
   pub rows-rising : Rising (Before b) rows
   rows-rising = passing-rising b in-range rows (passes .rows-pass)
@@ -98,8 +93,12 @@ module _ (book table : List ℕ) (accepted : Accepted book table) where
       due-own table (tableHead b + rowLength * k) f (omega (arith, rows-fill)) (sym (ap (λ (r : Row). r .flow) (row-at b table k l)) ∙ e)
       ∙ sym (ap (λ (r : Row). r .slot) (row-at b table k l))
 
-  pub whole-from : (c : ℕ) → c ≤ length rows → WholeRows table (tableHead b + rowLength * c)
-  whole-from c l = record { count = length rows - c; to-end = omega (arith, rows-fill) }
+  pub whole-from : (c : ℕ) → WholeRows table (tableHead b + rowLength * c)
+  whole-from c = record { whole = λ m h. omega (arith, rows-fill) }
+
+  -- its length field holds its length
+  pub size-of-table : AllBytes table → length table < 4294967296
+  size-of-table bytes = omega (arith, field-lt 4 table 0 bytes, head-passes b table (passes .head-passes) .length-is)
 
   -- ---- rows copied
   -- n rows from row c on, in the bytes
@@ -147,7 +146,23 @@ module _ (book table : List ℕ) (accepted : Accepted book table) where
     due-at-row m d = rw (cursor .at-is) at d
 
     pub cursor-whole : WholeRows table at
-    cursor-whole = rw (cursor .at-is) (whole-from c (cursor .stands .within))
+    cursor-whole = rw (cursor .at-is) (whole-from c)
+
+    pub cursor-inside : at ≤ length table
+    cursor-inside = omega (arith, cursor .at-is, cursor .stands .within, rows-fill)
+
+    -- what stands between two rows of the run belongs to it
+    pub run-gapless : (m : ℕ) → dueAt table (at + 6 * m) f ≡ t → RunOf table f t at (suc m)
+    unfolding RunOf
+    run-gapless m d j l =
+        let within = due-within f t c m a-slot (due-at-row m d) in
+        let slot-is = due-row-slot f t c m a-slot (due-at-row m d) in
+        let flow-is = due-row-flow f t c m a-slot (due-at-row m d) in
+        let p : at + 6 * j ≡ tableHead b + rowLength * (c + j) = omega (arith, cursor .at-is) in
+        rw p
+        (row-due f (c + j) (omega arith)
+        (gapless-flow b rows rows-rising f t c (c + j) (c + m) (cursor .stands) (omega arith) (omega arith) within slot-is flow-is)
+        ∙ gapless-slot b rows rows-rising f t c (c + j) (c + m) (cursor .stands) (omega arith) (omega arith) within slot-is flow-is)
 
     -- a run reaches no further than the table's rows
     run-within : (n : ℕ) → RunOf table f t at n → c + n ≤ length rows

@@ -1,6 +1,6 @@
 -- The merge of an accepted table's rows: where the cursors stand, and what is listed slot by slot, flow by flow. Assumes nothing.
 use mathlib.Core.Path.{_≡_}
-use Prim.Native.Nat.{ℕ, zero, suc, _+_, _*_, _≤_, _<_}
+use Prim.Native.Nat.{ℕ, suc, _+_, _*_, _≤_, _<_}
 use mathlib.Core.Bool.{Bool, true, false, _&&_}
 use mathlib.Core.List.{List, [], _∷_}
 use lib.ListN.{length, getD}
@@ -96,16 +96,16 @@ pub record Ahead (book table : List ℕ) (slot n : ℕ) (ats dues : List ℕ) : 
   pub cursors : Cursors (bookOf book) table slot n ats dues
 
 -- these rows are written from `to` on, and `next` is the place behind them
-pub record Listed (rows : List Row) (to : ℕ) (out out′ : List ℕ) (next : ℕ) : Type 0 where
+pub record RowsListed (rows : List Row) (to : ℕ) (out out′ : List ℕ) (next : ℕ) : Type 0 where
   pub written : out′ ≡ sets out to (rowsBytes rows)
   pub next-is : next ≡ placeAfter to rows
 
 -- the rows of flow f in a slot are listed
 pub record FlowListed (book table : List ℕ) (slot f to : ℕ) (out out′ ats dues : List ℕ) (next : ℕ) : Type 0 where
   pub cursors : Cursors (bookOf book) table slot (suc f) ats dues
-  pub listed : Listed (rowsAt (rowsOf book table) slot f) to out out′ next
+  pub listed : RowsListed (rowsAt (rowsOf book table) slot f) to out out′ next
 
 -- the rows of all flows in a slot are listed
 pub record SlotListed (book table : List ℕ) (slot to : ℕ) (out out′ ats dues : List ℕ) (next : ℕ) : Type 0 where
   pub cursors : Cursors (bookOf book) table (suc slot) 0 ats dues
-  pub listed : Listed (rowsIn (rowsOf book table) (flowCount (bookOf book)) slot) to out out′ next
+  pub listed : RowsListed (rowsIn (rowsOf book table) (flowCount (bookOf book)) slot) to out out′ next

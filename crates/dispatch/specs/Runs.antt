@@ -1,6 +1,6 @@
 -- Runs of rows in the bytes of a table: the rows of one flow in one slot, from a place on, and what copying them leaves. Assumes nothing.
 use mathlib.Core.Path.{_≡_}
-use Prim.Native.Nat.{ℕ, _+_, _*_, _-_, _≤_, _<_}
+use Prim.Native.Nat.{ℕ, suc, _+_, _*_, _-_, _≤_, _<_}
 use mathlib.Core.List.{List}
 use lib.ListN.{length}
 use lib.Seq.{sets}
@@ -18,8 +18,7 @@ dueAt s at flow = if leb (length s) at then 65535 else if eqb (byte s (at + 2)) 
 
 -- nothing but whole rows stands from `at` on
 pub record WholeRows (s : List ℕ) (at : ℕ) : Type 0 where
-  pub count : ℕ
-  pub to-end : length s ≡ at + 6 * count
+  pub whole : (m : ℕ) → at + 6 * m < length s → at + 6 * m + 6 ≤ length s
 
 -- n rows of this flow in this slot stand from `from` on
 unfoldable pub RunOf : List ℕ → ℕ → ℕ → ℕ → ℕ → Type 0
@@ -36,14 +35,24 @@ pub record Run (s : List ℕ) (flow slot from end : ℕ) : Type 0 where
   pub reaches : RunTo s flow slot from end
   pub ends : dueAt s end flow ≡ slot → ⊥
 
--- there is room for a run, however long it is
+-- what copying a run asks: whole rows from `from` on in a table whose length four bytes can hold, what stands between two rows of the run belongs to it, and
+-- there is room for the run, however long it is
 pub record Room (s : List ℕ) (flow slot from to size : ℕ) : Type 0 where
-  pub whole : WholeRows s from
+  pub rows : WholeRows s from
+  pub inside : from ≤ length s
+  pub short : length s < 4294967296
   pub a-slot : slot < 65535
+  pub gapless : (m : ℕ) → dueAt s (from + 6 * m) flow ≡ slot → RunOf s flow slot from (suc m)
   pub room : (n : ℕ) → RunOf s flow slot from n → to + 6 * n ≤ size
 
--- the first rows of a run, at most 16, are copied to `to`
-pub record FirstCopied (s : List ℕ) (flow slot from to : ℕ) (out out′ : List ℕ) (next : ℕ) : Type 0 where
+-- `done` bytes of a run are copied to `to`, and fewer than 16 rows of it are left
+pub record BlocksCopied (s : List ℕ) (flow slot from to : ℕ) (out out′ : List ℕ) (done : ℕ) : Type 0 where
+  pub reaches : RunTo s flow slot from (from + done)
+  pub few-left : dueAt s (from + done + 90) flow ≡ slot → ⊥
+  pub copied : out′ ≡ sets out to (part s from done)
+
+-- at most 16 rows of a run are copied to `to`
+pub record RestCopied (s : List ℕ) (flow slot from to : ℕ) (out out′ : List ℕ) (next : ℕ) : Type 0 where
   pub reaches : RunTo s flow slot from next
   pub within : next ≤ from + 96
   pub ends : next < from + 96 → dueAt s next flow ≡ slot → ⊥

@@ -3,7 +3,7 @@ ghost use mathlib.Core.Path.{_≡_};
 ghost use Prim.Native.Nat.{_+_, _<_, _≤_};
 ghost use lib.ListN.{length};
 ghost use lib.Seq.{sets};
-ghost use Rattle.dispatch.specs.Runs.{part, dueAt, WholeRows, Run, Room, FirstCopied, RunCopied};
+ghost use Rattle.dispatch.specs.Runs.{part, dueAt, WholeRows, Room, BlocksCopied, RestCopied, RunCopied};
 use book::bytes;
 
 // The slot of the row at `at`, where it is one of this flow; 65,535 where it is not, or where the table ends.
@@ -18,18 +18,6 @@ pub fn due_at(table: &[u8], at: usize, flow: u8) -> u16
         return 65535;
     }
     bytes::read16(table, at)
-}
-
-// Where the rows of a flow in a slot end that stand from `from` on.
-pub fn run_end(table: &[u8], from: usize, flow: u8, slot: u16) -> usize
-    requires { ⌜ WholeRows (now table) from × (slot < 65535) ⌝ }
-    ensures { λ end. ⌜ Run (now (table .entry)) flow slot from end ⌝ }
-{
-    let mut at = from;
-    while due_at(table, at, flow) == slot {
-        at = at + 6;
-    }
-    at
 }
 
 // One row, copied as it stands: read whole before it is written, so that it is compiled to two loads and two stores.
@@ -63,8 +51,8 @@ pub fn copy_bytes(table: &[u8], out: &mut [u8], from: usize, to: usize, count: u
     }
 }
 
-// The first rows of a run, at most 16, each copied when it is seen to belong to it; the place behind them in the table.
-pub fn copy_first(
+// The most of a run, sixteen rows at once: while the last of sixteen rows belongs to it, all of them do. The bytes copied.
+pub fn copy_blocks(
     table: &[u8],
     out: &mut [u8],
     from: usize,
@@ -73,7 +61,20 @@ pub fn copy_first(
     slot: u16,
 ) -> usize
     requires { ⌜ Room (now table) flow slot from to (length (now out)) ⌝ }
-    ensures { λ next. ⌜ FirstCopied (now (table .entry)) flow slot from to (now (out .entry)) (now (out .exit)) next ⌝ }
+    ensures { λ done. ⌜ BlocksCopied (now (table .entry)) flow slot from to (now (out .entry)) (now (out .exit)) done ⌝ }
+{
+    let mut done: usize = 0;
+    while due_at(table, from + done + 90, flow) == slot {
+        copy_bytes(table, out, from + done, to + done, 96);
+        done = done + 96;
+    }
+    done
+}
+
+// The rest of a run, at most sixteen rows, each copied when it is seen to belong to it; the place behind it in the table.
+pub fn copy_rest(table: &[u8], out: &mut [u8], from: usize, to: usize, flow: u8, slot: u16) -> usize
+    requires { ⌜ Room (now table) flow slot from to (length (now out)) ⌝ }
+    ensures { λ next. ⌜ RestCopied (now (table .entry)) flow slot from to (now (out .entry)) (now (out .exit)) next ⌝ }
 {
     let mut done: usize = 0;
     while done < 96 {
@@ -86,16 +87,11 @@ pub fn copy_first(
     from + 96
 }
 
-// A whole run; the place behind it in the table. Of a long run all that is behind the first rows is copied at once.
+// A whole run; the place behind it in the table.
 pub fn copy_run(table: &[u8], out: &mut [u8], from: usize, to: usize, flow: u8, slot: u16) -> usize
     requires { ⌜ Room (now table) flow slot from to (length (now out)) ⌝ }
     ensures { λ next. ⌜ RunCopied (now (table .entry)) flow slot from to (now (out .entry)) (now (out .exit)) next ⌝ }
 {
-    let next = copy_first(table, out, from, to, flow, slot);
-    if next < from + 96 {
-        return next;
-    }
-    let end = run_end(table, next, flow, slot);
-    copy_bytes(table, out, next, to + 96, end - next);
-    end
+    let done = copy_blocks(table, out, from, to, flow, slot);
+    copy_rest(table, out, from + done, to + done, flow, slot)
 }

@@ -23,7 +23,7 @@ use Rattle.rules.specs.Schedule.{Schedule, everyFlow, Valid, EndsBy, InS
 use Rattle.rules.specs.Cut.{cut}
 
 -- ---- demand 1: "turn down a faulty one by a number from the list. A refusal gives the number and the place, leaves the output untouched
--- and the work area as the list says." (That both calls take every sequence of bytes and end is what their contracts without a `requires`
+-- and the work area as the list says." (That the calls take every sequence of bytes and end is what their contracts without a `requires`
 -- say.)
 
 -- "A fault found before or by 11": a number up to 11, or 22, which is tested "directly after 6" (02, Req 01)

@@ -1,7 +1,7 @@
 -- The length is read off the table's own; by it the list is refused, or written. Assumes nothing.
 use mathlib.Core.Path.{_≡_, sym, ap, _∙_}
 use Prim.Native.Nat.{ℕ}
-use mathlib.Core.List.{List, _++_}
+use mathlib.Core.List.{_++_}
 use lib.ListN.{drop}
 use Rattle.rules.specs.Fields.{AllBytes}
 use Rattle.rules.specs.Answers.{listAccepted}
@@ -10,8 +10,8 @@ use Rattle.rules.specs.Reading.{bookOf}
 use Rattle.rules.specs.Dispatch.{listBytes, DispatchOutcome}
 use Rattle.rules.proofs.Passing.{flow-count, book-passes}
 use Rattle.dispatch.specs.Merge.{rowsOf}
-use Rattle.dispatch.proofs.Tables.{rows-fill}
-use Rattle.dispatch.proofs.Calls.{size-of-list, size-of-table, outcome-too-long, outcome-listed}
+use Rattle.dispatch.proofs.Tables.{rows-fill, size-of-table}
+use Rattle.dispatch.proofs.Calls.{size-of-list, outcome-too-long, outcome-listed}
 use borrow.Author.Needs.{needs}
 use native.Mathlib.Omega.{arith}
 use Rattle.dispatch.proofs.list_accepted.Statement.{statement}

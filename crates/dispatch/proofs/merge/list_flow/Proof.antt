@@ -1,13 +1,13 @@
 -- Where the cursor stands at another slot nothing is listed and it stays; otherwise the run that is copied is the flow's rows in the slot, and the
 -- cursor goes behind it. Assumes nothing.
 use mathlib.Core.Path.{_≡_, _∙_}
-use Prim.Native.Nat.{ℕ, suc, _+_, _*_, _-_, _≤_, _<_}
+use Prim.Native.Nat.{suc, _-_, _<_}
 use lib.ListN.{getD}
 use Rattle.rules.specs.Fields.{AllBytes}
 use Rattle.rules.specs.Reading.{bookOf}
 use Rattle.dispatch.specs.Runs.{dueAt}
 use Rattle.dispatch.specs.Merge.{placeAfter}
-use Rattle.dispatch.proofs.Tables.{in-range, cursor-whole, run-room, run-size, after-run}
+use Rattle.dispatch.proofs.Tables.{in-range, size-of-table, cursor-whole, cursor-inside, run-gapless, run-room, run-size, after-run}
 use Rattle.dispatch.proofs.Steps.{cursors-moved, cursors-kept, run-listed, kept-cursor, kept-listed}
 use borrow.Author.Needs.{needs}
 use native.Mathlib.Omega.{arith}
@@ -78,7 +78,7 @@ cast-flow c =
     omega (arith, few, s .pre .1, cursors .ats-long, cursors .dues-long)
 
 copy-run-requires : tie.Need-copy-run-requires
-unfolding placeAfter
+unfolding placeAfter AllBytes
 copy-run-requires c κs =
     let s = c .before .before .before .before .before .before .before .before .before in
     let a = s .args in
@@ -89,7 +89,10 @@ copy-run-requires c κs =
     let cursor = cursors .ahead (a .f) (omega arith) (s .pre .1) in
     let slot-few : a .slot < 65535 = omega (arith, s .pre .0 .a-slot) in
     record {
-      whole = cursor-whole (a .book .now) (a .table .now) accepted (a .f) (a .slot) from cursor slot-few;
+      rows = cursor-whole (a .book .now) (a .table .now) accepted (a .f) (a .slot) from cursor slot-few;
+      inside = cursor-inside (a .book .now) (a .table .now) accepted (a .f) (a .slot) from cursor slot-few;
+      short = size-of-table (a .book .now) (a .table .now) accepted (λ i. omega (arith, c .before .before .before .before .before .before .before .shared-slice-known2 .given i));
+      gapless = run-gapless (a .book .now) (a .table .now) accepted (a .f) (a .slot) from cursor slot-few;
       a-slot = slot-few;
       room = λ n each. omega (arith, run-room (a .book .now) (a .table .now) accepted (a .f) (a .slot) from cursor slot-few n each, s .pre .2);
     }

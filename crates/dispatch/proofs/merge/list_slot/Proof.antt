@@ -1,11 +1,11 @@
 -- The flows passed have listed their rows of the slot, and their cursors are behind it. Assumes nothing.
 use mathlib.Core.Path.{_≡_, refl, sym}
-use Prim.Native.Nat.{ℕ, suc, _+_, _*_, _-_, _≤_, _<_}
+use Prim.Native.Nat.{suc, _+_, _-_, _≤_}
 use lib.ListN.{length}
 use Rattle.rules.specs.Walks.{joinFrom}
 use Rattle.rules.specs.Book.{flowCount}
 use Rattle.rules.specs.Reading.{bookOf}
-use Rattle.dispatch.specs.Merge.{rowsOf, rowsIn, placeAfter, Cursors, Listed}
+use Rattle.dispatch.specs.Merge.{rowsOf, rowsIn, placeAfter, Cursors, RowsListed}
 use Rattle.dispatch.proofs.Listing.{slot-next, flow-room}
 use Rattle.dispatch.proofs.Steps.{cursors-next, listed-none, listed-append}
 use borrow.Author.Needs.{needs}
@@ -14,7 +14,7 @@ use Rattle.dispatch.proofs.merge.list_slot.Statement.{statement}
 use Rattle.dispatch.proofs.merge.list_slot.Tie as tie
 
 abbrev Inv-loop : tie.InvT-loop
-Inv-loop book table out₀ ats₀ dues₀ to flows slot next₀ f₀ out ats dues next f = (f ≤ flows) × (length out ≡ length out₀) × Cursors (bookOf book) table slot f ats dues × Listed (rowsIn (rowsOf book table) f slot) to out₀ out next
+Inv-loop book table out₀ ats₀ dues₀ to flows slot next₀ f₀ out ats dues next f = (f ≤ flows) × (length out ≡ length out₀) × Cursors (bookOf book) table slot f ats dues × RowsListed (rowsIn (rowsOf book table) f slot) to out₀ out next
 
 abbrev μ-loop : tie.MeasureT-loop
 μ-loop book table out₀ ats₀ dues₀ to flows slot next₀ f₀ out ats dues next f = flows - f

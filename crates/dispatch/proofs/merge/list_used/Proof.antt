@@ -1,6 +1,6 @@
 -- A slot without use has no row, since each row has a processor; the cursors stand before the next slot as they are. Assumes nothing.
 use mathlib.Core.Path.{_≡_, sym, ap, _∙_}
-use Prim.Native.Nat.{ℕ, _*_}
+use Prim.Native.Nat.{_*_}
 use Rattle.rules.specs.Fields.{field}
 use Rattle.rules.specs.Book.{flowCount}
 use Rattle.rules.specs.Reading.{bookOf}

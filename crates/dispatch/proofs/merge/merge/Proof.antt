@@ -1,6 +1,6 @@
 -- The slots passed are listed. While the list is longer a slot is left; when it is not, what is listed is the list. Assumes nothing.
 use mathlib.Core.Path.{_≡_, refl, sym, ap, _∙_}
-use Prim.Native.Nat.{ℕ, suc, _+_, _*_, _-_, _≤_, _<_}
+use Prim.Native.Nat.{suc, _+_, _-_, _≤_}
 use mathlib.Core.List.{List}
 use lib.ListN.{length}
 use lib.Seq.{sets}
@@ -11,7 +11,7 @@ use Rattle.rules.specs.Reading.{bookOf}
 use Rattle.rules.specs.Rows.{Row}
 use Rattle.rules.specs.Table.{rowsBytes}
 use Rattle.rules.specs.Dispatch.{listLength}
-use Rattle.dispatch.specs.Merge.{rowsOf, rowsBelow, placeAfter, Cursors, Listed}
+use Rattle.dispatch.specs.Merge.{rowsOf, rowsBelow, placeAfter, Cursors, RowsListed}
 use Rattle.dispatch.proofs.Listing.{whole-front, slot-left, below-next, slot-room}
 use Rattle.dispatch.proofs.Steps.{listed-none, listed-append}
 use borrow.Author.Needs.{needs}
@@ -20,7 +20,7 @@ use Rattle.dispatch.proofs.merge.merge.Statement.{statement}
 use Rattle.dispatch.proofs.merge.merge.Tie as tie
 
 abbrev Inv-loop : tie.InvT-loop
-Inv-loop book table work out₀ ats₀ dues₀ flows size to₀ slot₀ out ats dues to slot = (slot ≤ slots) × (length out ≡ length out₀) × Cursors (bookOf book) table slot 0 ats dues × Listed (rowsBelow (rowsOf book table) (flowCount (bookOf book)) slot) 7 out₀ out to
+Inv-loop book table work out₀ ats₀ dues₀ flows size to₀ slot₀ out ats dues to slot = (slot ≤ slots) × (length out ≡ length out₀) × Cursors (bookOf book) table slot 0 ats dues × RowsListed (rowsBelow (rowsOf book table) (flowCount (bookOf book)) slot) 7 out₀ out to
 
 abbrev μ-loop : tie.MeasureT-loop
 μ-loop book table work out₀ ats₀ dues₀ flows size to₀ slot₀ out ats dues to slot = slots - slot

@@ -1,6 +1,6 @@
 -- The rows passed are a run, and they are copied. Assumes nothing.
 use mathlib.Core.Path.{_≡_, refl, sym, ap, _∙_}
-use Prim.Native.Nat.{ℕ, _+_, _*_, _-_, _≤_, _<_}
+use Prim.Native.Nat.{ℕ, _+_, _-_, _≤_}
 use native.Mathlib.Nat.{add-zero}
 use mathlib.Core.List.{List}
 use lib.ListN.{length}
@@ -10,8 +10,8 @@ use Rattle.dispatch.specs.Runs.{part, dueAt, RunTo}
 use Rattle.dispatch.proofs.Runs.{row-inside, whole-inside, run-none, run-next, run-whole, copies-append}
 use borrow.Author.Needs.{needs}
 use native.Mathlib.Omega.{arith}
-use Rattle.dispatch.proofs.run.copy_first.Statement.{statement}
-use Rattle.dispatch.proofs.run.copy_first.Tie as tie
+use Rattle.dispatch.proofs.run.copy_rest.Statement.{statement}
+use Rattle.dispatch.proofs.run.copy_rest.Tie as tie
 
 abbrev Inv-loop : tie.InvT-loop
 Inv-loop table out₀ from to flow slot done₀ out done = (done ≤ 96) × (length out ≡ length out₀) × RunTo table flow slot from (from + done) × (out ≡ sets out₀ to (part table from done))
@@ -33,7 +33,7 @@ due-at-requires c κs =
     let s = c .before .before .before .before in
     let a = s .args in
     let l = c .before .loop in
-    run-whole (a .table .now) (a .flow) (a .slot) (a .from) (a .from + l .done) (s .pre .a-slot) (s .pre .whole) (l .inv .2)
+    run-whole (a .table .now) (a .flow) (a .slot) (a .from) (a .from + l .done) (s .pre .rows) (l .inv .2)
 
 add-result : tie.Need-add-result Inv-loop μ-loop
 add-result c = search needs
@@ -73,7 +73,7 @@ copy-row-requires c κs =
     let l = c .before .before .before .before .loop in
     let due : dueAt (a .table .now) (a .from + l .done) (a .flow) ≡ a .slot = sym (c .before .before .due-at .ensures) ∙ c .before .if1 .left in
     let r = run-next (a .table .now) (a .flow) (a .slot) (a .from) (a .from + l .done) (l .inv .2) due in
-    let w = run-whole (a .table .now) (a .flow) (a .slot) (a .from) (a .from + l .done) (s .pre .a-slot) (s .pre .whole) (l .inv .2) in (
+    let w = run-whole (a .table .now) (a .flow) (a .slot) (a .from) (a .from + l .done) (s .pre .rows) (l .inv .2) in (
       whole-inside (a .table .now) (a .from + l .done) w (row-inside (a .table .now) (a .from + l .done) (a .flow) (a .slot) (s .pre .a-slot) due),
       omega (arith, s .pre .room (r .count) (r .each), r .at-is, l .inv .1),
     )
@@ -115,8 +115,8 @@ returns-2 c =
     let n : a .from + 96 - a .from ≡ 96 = omega arith in
     record { reaches = rw d at (l .inv .2); within = omega arith; ends = λ h e. omega arith; copied = rw n (rw d at (l .inv .3)) }
 
-pub copy-first-spec : {M : Type 1} → statement M
-copy-first-spec =
+pub copy-rest-spec : {M : Type 1} → statement M
+copy-rest-spec =
     tie.close
     (tie.spec
     Inv-loop
