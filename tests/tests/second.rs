@@ -506,7 +506,7 @@ fn list_of_both(book: &[u8], table: &[u8], room: usize, area: usize) -> Listed {
 
 type Listed = (ListAnswer, Vec<u8>, Vec<u8>);
 
-/// The merge beside both sorts, on accepted and damaged tables, with outputs of every
+/// Both merges beside both sorts, on accepted and damaged tables, with outputs of every
 /// length class.
 #[test]
 fn merged_list_is_the_sorted_one() {
@@ -545,6 +545,10 @@ fn merged_list_is_the_sorted_one() {
         }
         let mut again = vec![9; room];
         assert_eq!(fast_dispatch::sort(&table, &mut again), exact);
+        assert!(again == output);
+        again.fill(9);
+        let length = fast_dispatch::merge_by_slots(&table, &work, &mut again);
+        assert_eq!(length, exact);
         assert!(again == output);
         let book = read_book(&bytes).expect("a list has a book");
         let list = &output[..exact];
