@@ -193,6 +193,20 @@ area = replicate 16384 9
 abbrev used : ℕ → ℕ → List ℕ
 used n x = hex (2 * n) x ++ replicate (16384 - 2 * n) 0
 
+-- the dispatch lists (02, Req 03)
+pub record MarkedLists : Type 0 where
+  pub A-listed : dispatchCall bookA tableA (out 62) area
+      ≡ record { answer = listAccepted 61; output = listA ++ out 1; area = used 6 0x0003_0003_0003_0001_0003_0001 }
+  pub A-list-too-long : dispatchCall bookA tableA (out 60) area ≡ record { answer = listRefused 13 255 255; output = out 60; area = used 0 0 }
+  pub D-listed : dispatchCall bookD (hex 8 0x00000008_01_0003_00) (out 7) area
+      ≡ record { answer = listAccepted 7; output = hex 7 0x00000007_01_0003; area = used 0 0 }
+  pub F-not-listed : dispatchCall bookA (tableF 3) (out 62) area ≡ record { answer = listRefused 18 0 1; output = out 62; area = used 0 0 }
+
+pub marked-lists : MarkedLists
+unfolding anyTo listFrom joinFrom field bytesOf firstFault flowIn lowerCap lowerCaps flowOf jobOf hasBit releaseSize releaseAt jobsAt flowStart jobAt flowAt bookOf flowHeadFault jobFault flowFault leftoverFault bookFault readBook sumTo servedBefore sumWhere usedIn totalOf doneBefore finishOf isLate lateFlows workUsed workZero rowBytes rowsBytes rowAt tableRows tableHeadFault rowBefore rises lacksPredecessor beforeRelease rowFault totalFault finishFault tableFault checkOutcome checkReading checkCall listedBefore insertRow listRows listLength listBytes listOutcome dispatchChecked dispatchCall
+marked-lists = record { A-listed = refl; A-list-too-long = refl; D-listed = refl; F-not-listed = refl }
+
+-- all of it
 pub record MarkedPlans : Type 0 where
   pub A : planCall bookA (out 70) area
       ≡ record { answer = planAccepted 1 66; output = tableA ++ out 4; area = used 6 0x0003_0003_0003_0001_0003_0001 }
@@ -221,12 +235,7 @@ pub record MarkedPlans : Type 0 where
   pub F-slot-3 : checkCall bookA (tableF 3) area ≡ record { answer = checkRefused 18 0 1; area = used 0 0 }
   pub F-slot-3-take-2 : checkCall bookA (tableF 2) area ≡ record { answer = checkRefused 19 0 1; area = used 0 0 }
   pub A-accepted : checkCall bookA tableA area ≡ record { answer = checkAccepted 1; area = used 6 0x0003_0003_0003_0001_0003_0001 }
-  pub A-listed : dispatchCall bookA tableA (out 62) area
-      ≡ record { answer = listAccepted 61; output = listA ++ out 1; area = used 6 0x0003_0003_0003_0001_0003_0001 }
-  pub A-list-too-long : dispatchCall bookA tableA (out 60) area ≡ record { answer = listRefused 13 255 255; output = out 60; area = used 0 0 }
-  pub D-listed : dispatchCall bookD (hex 8 0x00000008_01_0003_00) (out 7) area
-      ≡ record { answer = listAccepted 7; output = hex 7 0x00000007_01_0003; area = used 0 0 }
-  pub F-not-listed : dispatchCall bookA (tableF 3) (out 62) area ≡ record { answer = listRefused 18 0 1; output = out 62; area = used 0 0 }
+  pub lists : MarkedLists
   pub G : planCall bookG (out 60) area
       ≡ record { answer = planAccepted 0 54; output = tableG ++ out 6; area = used 6 0x0002_0002_0003_0002_0001_0001 }
   pub G-accepted : checkCall bookG tableG area ≡ record { answer = checkAccepted 0; area = used 6 0x0002_0002_0003_0002_0001_0001 }
@@ -236,7 +245,7 @@ pub record MarkedPlans : Type 0 where
   pub H-accepted : checkCall bookH tableH area ≡ record { answer = checkAccepted 0; area = used 5 0x0002_0002_0002_0002_0001 }
 
 pub marked-plans : MarkedPlans
-unfolding sumTo maxTo anyTo allTo listFrom joinFrom field bytesOf firstFault flowIn lowerCap lowerCaps flowOf jobOf hasBit releaseSize releaseAt jobsAt flowStart jobAt flowAt bookOf flowHeadFault jobFault flowFault leftoverFault bookFault readBook quotientUp duration lastTake startAfter endsBelow startOf endOf path takeOf unchanged prepend runs chain rate work servedBefore insertFlow orderOf serviceOrder rowFor sumWhere usedIn totalOf doneBefore finishOf isLate lateFlows workUsed workZero slotUnits units unitsOf share given afterSlot slotRows progress flowRows usable freeProcessors placeFlow placeFirst plan tableLength rowBytes rowsBytes tableBytes rowAt planOutcome planReading planCall tableRows tableHeadFault rowBefore rises lacksPredecessor beforeRelease rowFault totalFault finishFault tableFault checkOutcome checkReading checkCall listedBefore insertRow listRows listLength listBytes listOutcome dispatchChecked dispatchCall
+unfolding sumTo maxTo anyTo allTo listFrom joinFrom field bytesOf firstFault flowIn lowerCap lowerCaps flowOf jobOf hasBit releaseSize releaseAt jobsAt flowStart jobAt flowAt bookOf flowHeadFault jobFault flowFault leftoverFault bookFault readBook quotientUp duration lastTake startAfter endsBelow startOf endOf path takeOf unchanged prepend runs chain rate work servedBefore insertFlow orderOf serviceOrder rowFor sumWhere usedIn totalOf doneBefore finishOf isLate lateFlows workUsed workZero slotUnits units unitsOf share given afterSlot slotRows progress flowRows usable freeProcessors placeFlow placeFirst plan tableLength rowBytes rowsBytes tableBytes rowAt planOutcome planReading planCall tableRows tableHeadFault rowBefore rises lacksPredecessor beforeRelease rowFault totalFault finishFault tableFault checkOutcome checkReading checkCall
 marked-plans = record {
   A = refl;
   B = refl;
@@ -252,10 +261,7 @@ marked-plans = record {
   F-slot-3 = refl;
   F-slot-3-take-2 = refl;
   A-accepted = refl;
-  A-listed = refl;
-  A-list-too-long = refl;
-  D-listed = refl;
-  F-not-listed = refl;
+  lists = marked-lists;
   G = refl;
   G-accepted = refl;
   G-row-before-release = refl;
