@@ -9,7 +9,7 @@ use native.Mathlib.Nat.{add-zero}
 use native.Mathlib.Omega.{arith}
 use mathlib.Core.List.{List, _∷_, _++_}
 use lib.ListN.{length, set}
-use lib.Seq.{sets}
+use lib.Seq.{sets, length-sets}
 use lib.Dec.{leb, eqb}
 use borrow.Author.Tests.{leb-false, le-leb, lt-leb, eqb-true, eq-eqb, ne-eqb}
 use Rattle.rules.specs.Walks.{if_then_else_, listFrom}
@@ -17,7 +17,7 @@ use Rattle.rules.specs.Fields.{byte, field}
 use Rattle.rules.proofs.Walks.{last-or, list-length}
 use Rattle.rules.proofs.Division.{lt-or-ge}
 use Rattle.rules.proofs.Fields.{sets-append}
-use Rattle.dispatch.specs.Runs.{part, dueAt, WholeRows, RunOf, RunTo, Run, Room}
+use Rattle.dispatch.specs.Runs.{part, dueAt, WholeRows, RunOf, RunTo, Room, Copied, RunCopied}
 
 -- ---- parts
 list-split : {A : Type 0} (g : ℕ → A) (m n s : ℕ) → listFrom g (m + n) s ≡ listFrom g m s ++ listFrom g n (s + m)
@@ -27,10 +27,6 @@ list-split g (suc m) n s =
     let a : suc m + n ≡ suc (m + n) = omega arith in
     let e : s + suc m ≡ s + 1 + m = omega arith in
     rw (a, e) (ap (g s ∷_) (list-split g m n (s + 1)))
-
-pub part-length : (s : List ℕ) (from n : ℕ) → length (part s from n) ≡ n
-unfolding part
-part-length s from n = list-length (byte s) n from
 
 -- a copy, and behind it the copy of the part behind
 pub copies-append : (out s : List ℕ) (to from m n : ℕ) →
@@ -129,24 +125,50 @@ module _ (s : List ℕ) (flow slot from : ℕ) where
         let p : at + 6 * m ≡ from + 6 * (r .count + m) = omega (arith, r .at-is) in
         rw p (each (r .count + m) (omega arith))
 
-  pub run-joined : (at end : ℕ) → RunTo s flow slot from at → Run s flow slot at end → Run s flow slot from end
-  run-joined at end r q = record {
-    reaches = record {
-      count = r .count + q .reaches .count;
-      at-is = omega (arith, r .at-is, q .reaches .at-is);
-      each = run-of-joined at (q .reaches .count) r (q .reaches .each);
-    };
-    ends = q .ends;
-  }
-
 -- where the last of sixteen rows is no more of the run, the run is shorter
-pub fewer : (s : List ℕ) (flow slot from next : ℕ) → RunTo s flow slot from next → next ≤ from + 96 → (dueAt s (from + 90) flow ≡ slot → ⊥) → next < from + 96
+pub fewer : (s : List ℕ) (flow slot from next : ℕ) → RunTo s flow slot from next → (dueAt s (from + 90) flow ≡ slot → ⊥) → next < from + 96
 unfolding RunOf
-fewer s flow slot from next r most last = go (lt-or-ge next (from + 96))
+fewer s flow slot from next r last = go (lt-or-ge next (from + 96))
   where
     go : (next < from + 96) ⊎ (from + 96 ≤ next) → next < from + 96
     go (inl l) = l
     go (inr l) = absurd (last (r .each 15 (omega (arith, r .at-is))))
+
+-- ---- copies of a run's rows, one behind the other
+pub run-to-joined : {s : List ℕ} {flow slot from at end : ℕ} → RunTo s flow slot from at → RunTo s flow slot at end → RunTo s flow slot from end
+run-to-joined {s} {flow} {slot} {from} {at} {end} r q = record {
+  count = r .count + q .count;
+  at-is = omega (arith, r .at-is, q .at-is);
+  each = run-of-joined s flow slot from at (q .count) r (q .each);
+}
+
+pub copied-append : {s : List ℕ} {flow slot from to at end next : ℕ} {out mid out′ : List ℕ} → next ≡ to + (at - from) →
+    Copied s flow slot from to out mid at → Copied s flow slot at next mid out′ end → Copied s flow slot from to out out′ end
+copied-append {s} {flow} {slot} {from} {to} {at} {end} {next} {out} e p q =
+    let l : at - from + (end - at) ≡ end - from = omega (arith, p .reaches .at-is, q .reaches .at-is) in
+    let back : from + (at - from) ≡ at = omega (arith, p .reaches .at-is) in
+    record {
+      reaches = run-to-joined (p .reaches) (q .reaches);
+      copied =
+          q .copied
+          ∙ ap (λ (o : List ℕ). sets o next (part s at (end - at))) (p .copied)
+          ∙ ap (λ (n : ℕ). sets (sets out to (part s from (at - from))) n (part s at (end - at))) e
+          ∙ ap (λ (n : ℕ). sets (sets out to (part s from (at - from))) (to + (at - from)) (part s n (end - at))) (sym back)
+          ∙ copies-append out s to from (at - from) (end - at)
+          ∙ ap (λ (n : ℕ). sets out to (part s from n)) l;
+    }
+
+-- all of a run
+pub run-copied : {s : List ℕ} {flow slot from to next : ℕ} {out out′ : List ℕ} → Copied s flow slot from to out out′ next →
+    (dueAt s next flow ≡ slot → ⊥) → RunCopied s flow slot from to out out′ next
+run-copied p ends = record { run = record { reaches = p .reaches; ends = ends }; copied = p .copied }
+
+pub run-copied-behind : {s : List ℕ} {flow slot from to at end next : ℕ} {out mid out′ : List ℕ} → next ≡ to + (at - from) →
+    Copied s flow slot from to out mid at → RunCopied s flow slot at next mid out′ end → RunCopied s flow slot from to out out′ end
+run-copied-behind e p q = run-copied (copied-append e p (record { reaches = q .run .reaches; copied = q .copied })) (q .run .ends)
+
+pub copied-length : {s : List ℕ} {flow slot from to at : ℕ} {out out′ : List ℕ} → Copied s flow slot from to out out′ at → length out′ ≡ length out
+copied-length {s} {from = from} {to = to} {at = at} {out = out} p = ap length (p .copied) ∙ length-sets out to (part s from (at - from))
 
 -- ---- room for a run
 module _ (s : List ℕ) (flow slot from to size : ℕ) (p : Room s flow slot from to size) where
@@ -162,21 +184,75 @@ module _ (s : List ℕ) (flow slot from to size : ℕ) (p : Room s flow slot fro
           omega (arith, r .at-is, p .rows .whole n i)
 
   -- and behind its first rows there is room for the rest
-  pub room-after : (done : ℕ) → RunTo s flow slot from (from + done) → Room s flow slot (from + done) (to + done) size
-  room-after done r = record {
-    rows = run-whole s flow slot from (from + done) (p .rows) r;
-    inside = run-inside (from + done) r;
+  pub room-after : (at next : ℕ) → next ≡ to + (at - from) → RunTo s flow slot from at → Room s flow slot at next size
+  room-after at next is r = record {
+    rows = run-whole s flow slot from at (p .rows) r;
+    inside = run-inside at r;
     short = p .short;
     a-slot = p .a-slot;
     gapless = λ m e.
-        let q : from + done + 6 * m ≡ from + 6 * (r .count + m) = omega (arith, r .at-is) in
+        let q : at + 6 * m ≡ from + 6 * (r .count + m) = omega (arith, r .at-is) in
         let z : suc (r .count + m) ≡ r .count + suc m = omega arith in
-        run-of-rest s flow slot from (from + done) (suc m) r (rw z at (p .gapless (r .count + m) (rw q at e)));
-    room = λ n each. omega (arith, p .room (r .count + n) (run-of-joined s flow slot from (from + done) n r each), r .at-is);
+        run-of-rest s flow slot from at (suc m) r (rw z at (p .gapless (r .count + m) (rw q at e)));
+    room = λ n each. omega (arith, p .room (r .count + n) (run-of-joined s flow slot from at n r each), r .at-is);
   }
+
+  -- the place behind it in the output
+  pub place-inside : (at : ℕ) → RunTo s flow slot from at → to + (at - from) ≤ size
+  place-inside at r = omega (arith, p .room (r .count) (r .each), r .at-is)
 
   -- sixteen rows more, where the last of them belongs to the run
   pub run-block : (done : ℕ) → RunTo s flow slot from (from + done) → dueAt s (from + done + 90) flow ≡ slot → RunTo s flow slot from (from + done + 96)
   run-block done r e =
       let q : from + done + 90 ≡ from + 6 * (r .count + 15) = omega (arith, r .at-is) in
       record { count = suc (r .count + 15); at-is = omega (arith, r .at-is); each = p .gapless (r .count + 15) (rw q at e) }
+
+-- ---- a loop that copies a run
+-- `done` bytes of it are copied so far
+pub record Going (s : List ℕ) (flow slot from to : ℕ) (out₀ out : List ℕ) (done : ℕ) : Type 0 where
+  pub kept : length out ≡ length out₀
+  pub reaches : RunTo s flow slot from (from + done)
+  pub copied : out ≡ sets out₀ to (part s from done)
+
+module _ (s : List ℕ) (flow slot from to : ℕ) (out₀ : List ℕ) where
+  pub going-none : Going s flow slot from to out₀ out₀ 0
+  unfolding part listFrom
+  going-none = record { kept = refl; reaches = rw add-zero (run-none s flow slot from); copied = refl }
+
+  pub going-copied : {out : List ℕ} {done : ℕ} → Going s flow slot from to out₀ out done → Copied s flow slot from to out₀ out (from + done)
+  going-copied {done = done} g = let n : from + done - from ≡ done = omega arith in record { reaches = g .reaches; copied = rw n (g .copied) }
+
+  -- some bytes more
+  pub going-more : {out out′ : List ℕ} {done : ℕ} (n : ℕ) → RunTo s flow slot from (from + done + n) →
+      out′ ≡ sets out (to + done) (part s (from + done) n) → Going s flow slot from to out₀ out done → Going s flow slot from to out₀ out′ (done + n)
+  going-more {out} {done = done} n r e g =
+      let a : from + done + n ≡ from + (done + n) = omega arith in
+      record {
+        kept = ap length e ∙ length-sets out (to + done) (part s (from + done) n) ∙ g .kept;
+        reaches = rw a at r;
+        copied =
+            e
+            ∙ ap (λ (o : List ℕ). sets o (to + done) (part s (from + done) n)) (g .copied)
+            ∙ copies-append out₀ s to from done n;
+      }
+
+  module _ (p : Room s flow slot from to (length out₀)) {out : List ℕ} {done : ℕ} (g : Going s flow slot from to out₀ out done) where
+    pub going-inside : from + done ≤ length s
+    going-inside = run-inside s flow slot from to (length out₀) p (from + done) (g .reaches)
+
+    pub going-whole : (k : ℕ) → WholeRows s (from + done + 6 * k)
+    going-whole k = whole-shift s (from + done) k (run-whole s flow slot from (from + done) (p .rows) (g .reaches))
+
+    -- what the copy of n bytes more asks
+    pub going-fits : (n : ℕ) → RunTo s flow slot from (from + done + n) → (from + done + n ≤ length s) × (to + done + n ≤ length out)
+    going-fits n r = (
+      run-inside s flow slot from to (length out₀) p (from + done + n) r,
+      omega (arith, p .room (r .count) (r .each), r .at-is, g .kept),
+    )
+
+    -- one row more, and sixteen
+    pub going-row : dueAt s (from + done) flow ≡ slot → RunTo s flow slot from (from + done + 6)
+    going-row e = run-next s flow slot from (from + done) (g .reaches) e
+
+    pub going-block : dueAt s (from + done + 90) flow ≡ slot → RunTo s flow slot from (from + done + 96)
+    going-block e = run-block s flow slot from to (length out₀) p done (g .reaches) e

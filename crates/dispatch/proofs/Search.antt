@@ -31,9 +31,6 @@ module _ (b : Book) (rows : List Row) (f : ℕ) where
       record { within = omega (arith, w .span, w .within); earlier = w .earlier; others = λ k l m. w .others k (omega (arith, w .span)) m }
 
   module _ (low high middle : ℕ) (some : low < high) (half : middle ≡ (low + high) / 2) where
-    pub middle-below : middle < high
-    middle-below = omega arith
-
     pub halved-less : (t : Bool) → halved low high middle t .high - halved low high middle t .low < high - low
     halved-less true = omega arith
     halved-less false = omega arith

@@ -45,18 +45,21 @@ pub record Room (s : List ℕ) (flow slot from to size : ℕ) : Type 0 where
   pub gapless : (m : ℕ) → dueAt s (from + 6 * m) flow ≡ slot → RunOf s flow slot from (suc m)
   pub room : (n : ℕ) → RunOf s flow slot from n → to + 6 * n ≤ size
 
--- `done` bytes of a run are copied to `to`, and fewer than 16 rows of it are left
-pub record BlocksCopied (s : List ℕ) (flow slot from to : ℕ) (out out′ : List ℕ) (done : ℕ) : Type 0 where
-  pub reaches : RunTo s flow slot from (from + done)
-  pub few-left : dueAt s (from + done + 90) flow ≡ slot → ⊥
-  pub copied : out′ ≡ sets out to (part s from done)
+-- the rows of a run from `from` up to `at` are copied to `to`
+pub record Copied (s : List ℕ) (flow slot from to : ℕ) (out out′ : List ℕ) (at : ℕ) : Type 0 where
+  pub reaches : RunTo s flow slot from at
+  pub copied : out′ ≡ sets out to (part s from (at - from))
 
--- at most 16 rows of a run are copied to `to`
-pub record RestCopied (s : List ℕ) (flow slot from to : ℕ) (out out′ : List ℕ) (next : ℕ) : Type 0 where
-  pub reaches : RunTo s flow slot from next
-  pub within : next ≤ from + 96
-  pub ends : next < from + 96 → dueAt s next flow ≡ slot → ⊥
-  pub copied : out′ ≡ sets out to (part s from (next - from))
+-- the same, and fewer than 16 rows of the run are left
+pub record BlocksCopied (s : List ℕ) (flow slot from to : ℕ) (out out′ : List ℕ) (at : ℕ) : Type 0 where
+  pub some : Copied s flow slot from to out out′ at
+  pub few-left : dueAt s (at + 90) flow ≡ slot → ⊥
+
+-- the same, of at most `most` bytes of rows: all of the run, where it is fewer
+pub record SomeCopied (most : ℕ) (s : List ℕ) (flow slot from to : ℕ) (out out′ : List ℕ) (next : ℕ) : Type 0 where
+  pub some : Copied s flow slot from to out out′ next
+  pub within : next ≤ from + most
+  pub ends : next < from + most → dueAt s next flow ≡ slot → ⊥
 
 -- a whole run is copied to `to`
 pub record RunCopied (s : List ℕ) (flow slot from to : ℕ) (out out′ : List ℕ) (next : ℕ) : Type 0 where

@@ -44,6 +44,7 @@ pub fn write_list(book: &[u8], table: &[u8], work: &[u8], out: &mut [u8], flows:
 {
     let x = book::index_of(book);
     let deadlines = x.deadlines;
+    let jobs = x.jobs;
     let mut ats = [0usize; 64];
     let mut dues = [0u16; 64];
     merge::start_cursors(
@@ -56,7 +57,17 @@ pub fn write_list(book: &[u8], table: &[u8], work: &[u8], out: &mut [u8], flows:
         (size - 7) / 6,
     );
     put_head(out, size as u32, x.processors);
-    merge::merge(book, table, work, out, &mut ats, &mut dues, flows, size);
+    merge::merge(
+        book,
+        table,
+        &jobs,
+        work,
+        out,
+        &mut ats,
+        &mut dues,
+        flows,
+        size,
+    );
 }
 
 // 13 where the list of an accepted table is longer than the output; otherwise the list.

@@ -80,10 +80,11 @@ pub fn start_cursors(
     }
 }
 
-// The rows of flow f in a slot, where its cursor stands at one; the place behind them.
+// The rows of flow f in a slot, where its cursor stands at one; the place behind them. `jobs` has the number of jobs of each flow.
 pub fn list_flow(
     book: &[u8],
     table: &[u8],
+    jobs: &[u8],
     out: &mut [u8],
     ats: &mut [usize],
     dues: &mut [u16],
@@ -91,7 +92,7 @@ pub fn list_flow(
     f: usize,
     slot: u16,
 ) -> usize
-    requires { ⌜ Ahead (now book) (now table) slot f (now ats) (now dues) × (f < flowCount (bookOf (now book))) × (placeAfter to (rowsAt (rowsOf (now book) (now table)) slot f) ≤ length (now out)) ⌝ }
+    requires { ⌜ Ahead (now book) (now table) slot f (now ats) (now dues) × (length (now jobs) ≡ 64) × (f < flowCount (bookOf (now book))) × (placeAfter to (rowsAt (rowsOf (now book) (now table)) slot f) ≤ length (now out)) ⌝ }
     ensures { λ next. ⌜ FlowListed (now (book .entry)) (now (table .entry)) slot f to (now (out .entry)) (now (out .exit)) (now (ats .exit)) (now (dues .exit)) next ⌝ }
 {
     if dues[f] != slot {
@@ -99,7 +100,7 @@ pub fn list_flow(
     }
     let from = ats[f];
     let flow = f as u8;
-    let next = run::copy_run(table, out, from, to, flow, slot);
+    let next = run::copy_run(table, out, from, to, flow, slot, jobs[f]);
     ats[f] = next;
     dues[f] = run::due_at(table, next, flow);
     to + (next - from)
@@ -109,6 +110,7 @@ pub fn list_flow(
 pub fn list_slot(
     book: &[u8],
     table: &[u8],
+    jobs: &[u8],
     out: &mut [u8],
     ats: &mut [usize],
     dues: &mut [u16],
@@ -116,13 +118,13 @@ pub fn list_slot(
     flows: usize,
     slot: u16,
 ) -> usize
-    requires { ⌜ Ahead (now book) (now table) slot 0 (now ats) (now dues) × (flows ≡ flowCount (bookOf (now book))) × (placeAfter to (rowsIn (rowsOf (now book) (now table)) flows slot) ≤ length (now out)) ⌝ }
+    requires { ⌜ Ahead (now book) (now table) slot 0 (now ats) (now dues) × (length (now jobs) ≡ 64) × (flows ≡ flowCount (bookOf (now book))) × (placeAfter to (rowsIn (rowsOf (now book) (now table)) flows slot) ≤ length (now out)) ⌝ }
     ensures { λ next. ⌜ SlotListed (now (book .entry)) (now (table .entry)) slot to (now (out .entry)) (now (out .exit)) (now (ats .exit)) (now (dues .exit)) next ⌝ }
 {
     let mut next = to;
     let mut f: usize = 0;
     while f < flows {
-        next = list_flow(book, table, out, ats, dues, next, f, slot);
+        next = list_flow(book, table, jobs, out, ats, dues, next, f, slot);
         f = f + 1;
     }
     next
@@ -132,6 +134,7 @@ pub fn list_slot(
 pub fn list_used(
     book: &[u8],
     table: &[u8],
+    jobs: &[u8],
     work: &[u8],
     out: &mut [u8],
     ats: &mut [usize],
@@ -140,19 +143,20 @@ pub fn list_used(
     flows: usize,
     slot: u16,
 ) -> usize
-    requires { ⌜ Ahead (now book) (now table) slot 0 (now ats) (now dues) × InUse (now book) (now table) (now work) × (flows ≡ flowCount (bookOf (now book))) × (placeAfter to (rowsIn (rowsOf (now book) (now table)) flows slot) ≤ length (now out)) ⌝ }
+    requires { ⌜ Ahead (now book) (now table) slot 0 (now ats) (now dues) × (length (now jobs) ≡ 64) × InUse (now book) (now table) (now work) × (flows ≡ flowCount (bookOf (now book))) × (placeAfter to (rowsIn (rowsOf (now book) (now table)) flows slot) ≤ length (now out)) ⌝ }
     ensures { λ next. ⌜ SlotListed (now (book .entry)) (now (table .entry)) slot to (now (out .entry)) (now (out .exit)) (now (ats .exit)) (now (dues .exit)) next ⌝ }
 {
     if bytes::read16(work, 2 * bytes::wide16(slot)) == 0 {
         return to;
     }
-    list_slot(book, table, out, ats, dues, to, flows, slot)
+    list_slot(book, table, jobs, out, ats, dues, to, flows, slot)
 }
 
 // All rows, slot by slot, until the list is as long as it is to be.
 pub fn merge(
     book: &[u8],
     table: &[u8],
+    jobs: &[u8],
     work: &[u8],
     out: &mut [u8],
     ats: &mut [usize],
@@ -160,13 +164,13 @@ pub fn merge(
     flows: usize,
     size: usize,
 )
-    requires { ⌜ Ahead (now book) (now table) 0 0 (now ats) (now dues) × InUse (now book) (now table) (now work) × (flows ≡ flowCount (bookOf (now book))) × (size ≡ listLength (rowsOf (now book) (now table))) × (size ≤ length (now out)) ⌝ }
+    requires { ⌜ Ahead (now book) (now table) 0 0 (now ats) (now dues) × (length (now jobs) ≡ 64) × InUse (now book) (now table) (now work) × (flows ≡ flowCount (bookOf (now book))) × (size ≡ listLength (rowsOf (now book) (now table))) × (size ≤ length (now out)) ⌝ }
     ensures { λ _. ⌜ now (out .exit) ≡ sets (now (out .entry)) 7 (rowsBytes (listRows (rowsOf (now (book .entry)) (now (table .entry))))) ⌝ }
 {
     let mut to: usize = 7;
     let mut slot: u16 = 0;
     while to < size {
-        to = list_used(book, table, work, out, ats, dues, to, flows, slot);
+        to = list_used(book, table, jobs, work, out, ats, dues, to, flows, slot);
         slot = slot + 1;
     }
 }

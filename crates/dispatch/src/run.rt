@@ -3,7 +3,7 @@ ghost use mathlib.Core.Path.{_≡_};
 ghost use Prim.Native.Nat.{_+_, _<_, _≤_};
 ghost use lib.ListN.{length};
 ghost use lib.Seq.{sets};
-ghost use Rattle.dispatch.specs.Runs.{part, dueAt, WholeRows, Room, BlocksCopied, RestCopied, RunCopied};
+ghost use Rattle.dispatch.specs.Runs.{part, dueAt, WholeRows, Room, BlocksCopied, SomeCopied, RunCopied};
 use book::bytes;
 
 // The slot of the row at `at`, where it is one of this flow; 65,535 where it is not, or where the table ends.
@@ -51,7 +51,7 @@ pub fn copy_bytes(table: &[u8], out: &mut [u8], from: usize, to: usize, count: u
     }
 }
 
-// The most of a run, sixteen rows at once: while the last of sixteen rows belongs to it, all of them do. The bytes copied.
+// The most of a run, sixteen rows at once: while the last of sixteen rows belongs to it, all of them do. The place behind them in the table.
 pub fn copy_blocks(
     table: &[u8],
     out: &mut [u8],
@@ -61,20 +61,36 @@ pub fn copy_blocks(
     slot: u16,
 ) -> usize
     requires { ⌜ Room (now table) flow slot from to (length (now out)) ⌝ }
-    ensures { λ done. ⌜ BlocksCopied (now (table .entry)) flow slot from to (now (out .entry)) (now (out .exit)) done ⌝ }
+    ensures { λ at. ⌜ BlocksCopied (now (table .entry)) flow slot from to (now (out .entry)) (now (out .exit)) at ⌝ }
 {
     let mut done: usize = 0;
     while due_at(table, from + done + 90, flow) == slot {
         copy_bytes(table, out, from + done, to + done, 96);
         done = done + 96;
     }
-    done
+    from + done
 }
 
-// The rest of a run, at most sixteen rows, each copied when it is seen to belong to it; the place behind it in the table.
+// The first rows of a run, at most eight, each copied when it is seen to belong to it; the place behind them in the table.
+pub fn copy_few(table: &[u8], out: &mut [u8], from: usize, to: usize, flow: u8, slot: u16) -> usize
+    requires { ⌜ Room (now table) flow slot from to (length (now out)) ⌝ }
+    ensures { λ next. ⌜ SomeCopied 48 (now (table .entry)) flow slot from to (now (out .entry)) (now (out .exit)) next ⌝ }
+{
+    let mut done: usize = 0;
+    while done < 48 {
+        if due_at(table, from + done, flow) != slot {
+            return from + done;
+        }
+        copy_row(table, out, from + done, to + done);
+        done = done + 6;
+    }
+    from + 48
+}
+
+// The last rows of a run, at most sixteen, each copied when it is seen to belong to it; the place behind them in the table.
 pub fn copy_rest(table: &[u8], out: &mut [u8], from: usize, to: usize, flow: u8, slot: u16) -> usize
     requires { ⌜ Room (now table) flow slot from to (length (now out)) ⌝ }
-    ensures { λ next. ⌜ RestCopied (now (table .entry)) flow slot from to (now (out .entry)) (now (out .exit)) next ⌝ }
+    ensures { λ next. ⌜ SomeCopied 96 (now (table .entry)) flow slot from to (now (out .entry)) (now (out .exit)) next ⌝ }
 {
     let mut done: usize = 0;
     while done < 96 {
@@ -87,11 +103,34 @@ pub fn copy_rest(table: &[u8], out: &mut [u8], from: usize, to: usize, flow: u8,
     from + 96
 }
 
-// A whole run; the place behind it in the table.
-pub fn copy_run(table: &[u8], out: &mut [u8], from: usize, to: usize, flow: u8, slot: u16) -> usize
+// A run that may be long: its blocks, then the fewer than sixteen rows that are left; the place behind it in the table.
+pub fn copy_long(table: &[u8], out: &mut [u8], from: usize, to: usize, flow: u8, slot: u16) -> usize
     requires { ⌜ Room (now table) flow slot from to (length (now out)) ⌝ }
     ensures { λ next. ⌜ RunCopied (now (table .entry)) flow slot from to (now (out .entry)) (now (out .exit)) next ⌝ }
 {
-    let done = copy_blocks(table, out, from, to, flow, slot);
-    copy_rest(table, out, from + done, to + done, flow, slot)
+    let at = copy_blocks(table, out, from, to, flow, slot);
+    copy_rest(table, out, at, to + (at - from), flow, slot)
+}
+
+// A whole run; the place behind it in the table. A flow of fewer than sixteen jobs has no block of sixteen rows, so none is looked for at once.
+pub fn copy_run(
+    table: &[u8],
+    out: &mut [u8],
+    from: usize,
+    to: usize,
+    flow: u8,
+    slot: u16,
+    jobs: u8,
+) -> usize
+    requires { ⌜ Room (now table) flow slot from to (length (now out)) ⌝ }
+    ensures { λ next. ⌜ RunCopied (now (table .entry)) flow slot from to (now (out .entry)) (now (out .exit)) next ⌝ }
+{
+    if 16 <= jobs {
+        return copy_long(table, out, from, to, flow, slot);
+    }
+    let next = copy_few(table, out, from, to, flow, slot);
+    if next < from + 48 {
+        return next;
+    }
+    copy_long(table, out, next, to + 48, flow, slot)
 }

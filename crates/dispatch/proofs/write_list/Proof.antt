@@ -30,29 +30,29 @@ slice-aggregate-start-cursors-3 c = search needs
 
 sub-start-cursors : tie.Need-sub-start-cursors
 sub-start-cursors c =
-    let s = c .before .before .before .before .before .before .before .before .before in
+    let s = c .before .before .before .before .before .before .before .before .before .before in
     let a = s .args in
     let whole = s .pre .size-is ∙ list-length-is (rowsOf (a .book .now) (a .table .now)) in
     omega (arith, whole)
 
 start-cursors-requires : tie.Need-start-cursors-requires
 start-cursors-requires c κs =
-    let s = c .before .before .before .before .before .before .before .before .before in
+    let s = c .before .before .before .before .before .before .before .before .before .before in
     let a = s .args in
     let whole = s .pre .size-is ∙ list-length-is (rowsOf (a .book .now) (a .table .now)) in
-    let x = c .before .before .before .before .index-of .result in
+    let x = c .before .before .before .before .before .index-of .result in
     let long : length (x .deadlines) ≡ 64 = search needs in
-    (s .pre .accepted, index-deadlines (a .book .now) x (c .before .before .before .before .index-of .ensures) long, s .pre .flows-are, omega (arith, whole), refl, refl)
+    (s .pre .accepted, index-deadlines (a .book .now) x (c .before .before .before .before .before .index-of .ensures) long, s .pre .flows-are, omega (arith, whole), refl, refl)
 
 cast-put-head : tie.Need-cast-put-head
 cast-put-head c =
-    let s = c .before .before .before .before .before .before .before .before .before .before .before .before .before in
+    let s = c .before .before .before .before .before .before .before .before .before .before .before .before .before .before in
     let a = s .args in
     omega (arith, s .pre .size-fits)
 
 put-head-requires : tie.Need-put-head-requires
 put-head-requires c κs =
-    let s = c .before .before .before .before .before .before .before .before .before .before .before .before .before in
+    let s = c .before .before .before .before .before .before .before .before .before .before .before .before .before .before in
     let a = s .args in
     let whole = s .pre .size-is ∙ list-length-is (rowsOf (a .book .now) (a .table .now)) in
     omega (arith, whole, s .pre .has-room)
@@ -63,12 +63,18 @@ slice-aggregate-merge c = search needs
 slice-aggregate-merge-2 : tie.Need-slice-aggregate-merge-2
 slice-aggregate-merge-2 c = search needs
 
+slice-aggregate-merge-3 : tie.Need-slice-aggregate-merge-3
+slice-aggregate-merge-3 c = search needs
+
 merge-requires : tie.Need-merge-requires
 merge-requires c κs =
-    let s = c .before .before .before .before .before .before .before .before .before .before .before .before .before .before .before .before .before .before .before in
+    let s = c .before .before .before .before .before .before .before .before .before .before .before .before .before .before .before .before .before .before .before .before .before in
     let a = s .args in
-    let kept = ap length (c .before .before .before .before .before .put-head .ensures) ∙ length-sets (a .out .now) 0 (headBytes (a .size) (c .before .before .before .before .before .before .before .before .before .before .before .before .before .before .index-of .result .processors)) in (
-      record { accepted = s .pre .accepted; a-slot = omega arith; cursors = c .before .before .before .before .before .before .before .before .before .start-cursors .ensures },
+    let x = c .before .before .before .before .before .before .before .before .before .before .before .before .before .before .before .before .index-of .result in
+    let long : length (x .jobs) ≡ 64 = search (needs, c .before .before .before .before .before .before .before .before .before .before .before .before .before .before .before .before .index-of) in
+    let kept = ap length (c .before .before .before .before .before .before .put-head .ensures) ∙ length-sets (a .out .now) 0 (headBytes (a .size) (x .processors)) in (
+      record { accepted = s .pre .accepted; a-slot = omega arith; cursors = c .before .before .before .before .before .before .before .before .before .before .start-cursors .ensures },
+      long,
       s .pre .in-use,
       s .pre .flows-are,
       s .pre .size-is,
@@ -80,13 +86,12 @@ same-length c = search needs
 
 returns : tie.Need-returns
 returns c =
-    let s = c .before .before .before .before .before .before .before .before .before .before .before .before .before .before .before .before .before .before .before .before .before .before .before .before in
+    let s = c .before .before .before .before .before .before .before .before .before .before .before .before .before .before .before .before .before .before .before .before .before .before .before .before .before .before in
     let a = s .args in
-    let x = c .before .before .before .before .before .before .before .before .before .before .before .before .before .before .before .before .before .before .before .index-of .result in
     let rows = rowsOf (a .book .now) (a .table .now) in
     c .before .before .before .before .merge .ensures
-    ∙ ap (λ (o : List ℕ). sets o 7 (rowsBytes (listRows rows))) (c .before .before .before .before .before .before .before .before .before .before .put-head .ensures)
-    ∙ ap (λ (p : ℕ). sets (sets (a .out .now) 0 (headBytes (a .size) p)) 7 (rowsBytes (listRows rows))) (c .before .before .before .before .before .before .before .before .before .before .before .before .before .before .before .before .before .before .before .index-of .ensures .processors)
+    ∙ ap (λ (o : List ℕ). sets o 7 (rowsBytes (listRows rows))) (c .before .before .before .before .before .before .before .before .before .before .before .put-head .ensures)
+    ∙ ap (λ (p : ℕ). sets (sets (a .out .now) 0 (headBytes (a .size) p)) 7 (rowsBytes (listRows rows))) (c .before .before .before .before .before .before .before .before .before .before .before .before .before .before .before .before .before .before .before .before .before .index-of .ensures .processors)
     ∙ list-stores (bookOf (a .book .now)) rows (a .out .now) (a .size) (s .pre .size-is) (s .pre .has-room)
 
 pub write-list-spec : {M : Type 1} → statement M
@@ -103,6 +108,7 @@ write-list-spec =
     put-head-requires
     slice-aggregate-merge
     slice-aggregate-merge-2
+    slice-aggregate-merge-3
     merge-requires
     same-length
     returns)

@@ -14,15 +14,15 @@ use Rattle.dispatch.proofs.merge.list_slot.Statement.{statement}
 use Rattle.dispatch.proofs.merge.list_slot.Tie as tie
 
 abbrev Inv-loop : tie.InvT-loop
-Inv-loop book table out₀ ats₀ dues₀ to flows slot next₀ f₀ out ats dues next f = (f ≤ flows) × (length out ≡ length out₀) × Cursors (bookOf book) table slot f ats dues × RowsListed (rowsIn (rowsOf book table) f slot) to out₀ out next
+Inv-loop book table jobs out₀ ats₀ dues₀ to flows slot next₀ f₀ out ats dues next f = (f ≤ flows) × (length out ≡ length out₀) × Cursors (bookOf book) table slot f ats dues × RowsListed (rowsIn (rowsOf book table) f slot) to out₀ out next
 
 abbrev μ-loop : tie.MeasureT-loop
-μ-loop book table out₀ ats₀ dues₀ to flows slot next₀ f₀ out ats dues next f = flows - f
+μ-loop book table jobs out₀ ats₀ dues₀ to flows slot next₀ f₀ out ats dues next f = flows - f
 
 loop-holds : tie.Need-loop-holds Inv-loop μ-loop
 unfolding rowsIn joinFrom
 loop-holds c =
-    let s = c .before .before .before .before .before in
+    let s = c .before .before .before .before .before .before in
     let a = s .args in
     let accepted = s .pre .0 .accepted in
     let rows = rowsOf (a .book .now) (a .table .now) in
@@ -31,14 +31,15 @@ loop-holds c =
 list-flow-requires : tie.Need-list-flow-requires Inv-loop μ-loop
 unfolding placeAfter
 list-flow-requires c κs =
-    let s = c .before .before .before .before .before .before .before .before .before .before in
+    let s = c .before .before .before .before .before .before .before .before .before .before .before in
     let a = s .args in
     let accepted = s .pre .0 .accepted in
     let rows = rowsOf (a .book .now) (a .table .now) in
     let l = c .before .before .before .before .loop in (
       record { accepted = accepted; a-slot = s .pre .0 .a-slot; cursors = l .inv .2 },
-      omega (arith, s .pre .1),
-      omega (arith, l .inv .1, l .inv .3 .next-is, flow-room rows (a .slot) (l .f) (a .flows) (omega arith), s .pre .2),
+      s .pre .1,
+      omega (arith, s .pre .2),
+      omega (arith, l .inv .1, l .inv .3 .next-is, flow-room rows (a .slot) (l .f) (a .flows) (omega arith), s .pre .3),
     )
 
 add-f : tie.Need-add-f Inv-loop μ-loop
@@ -49,7 +50,7 @@ loop-less c = search needs
 
 loop-again : tie.Need-loop-again Inv-loop μ-loop
 loop-again c =
-    let s = c .before .before .before .before .before .before .before .before .before .before .before .before .before .before .before .before .before in
+    let s = c .before .before .before .before .before .before .before .before .before .before .before .before .before .before .before .before .before .before in
     let a = s .args in
     let accepted = s .pre .0 .accepted in
     let rows = rowsOf (a .book .now) (a .table .now) in
@@ -73,12 +74,12 @@ same-length-3 c = search needs
 
 returns : tie.Need-returns Inv-loop μ-loop
 returns c =
-    let s = c .before .before .before .before .before .before .before in
+    let s = c .before .before .before .before .before .before .before .before in
     let a = s .args in
     let accepted = s .pre .0 .accepted in
     let rows = rowsOf (a .book .now) (a .table .now) in
     let l = c .before .loop in
-    let all : l .f ≡ flowCount (bookOf (a .book .now)) = omega (arith, s .pre .1) in
+    let all : l .f ≡ flowCount (bookOf (a .book .now)) = omega (arith, s .pre .2) in
     record {
       cursors = cursors-next (bookOf (a .book .now)) (a .table .now) (a .slot) (l .ats) (l .dues) (rw all at (l .inv .2));
       listed = rw all at (l .inv .3);

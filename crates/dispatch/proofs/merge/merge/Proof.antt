@@ -20,63 +20,64 @@ use Rattle.dispatch.proofs.merge.merge.Statement.{statement}
 use Rattle.dispatch.proofs.merge.merge.Tie as tie
 
 abbrev Inv-loop : tie.InvT-loop
-Inv-loop book table work out₀ ats₀ dues₀ flows size to₀ slot₀ out ats dues to slot = (slot ≤ slots) × (length out ≡ length out₀) × Cursors (bookOf book) table slot 0 ats dues × RowsListed (rowsBelow (rowsOf book table) (flowCount (bookOf book)) slot) 7 out₀ out to
+Inv-loop book table jobs work out₀ ats₀ dues₀ flows size to₀ slot₀ out ats dues to slot = (slot ≤ slots) × (length out ≡ length out₀) × Cursors (bookOf book) table slot 0 ats dues × RowsListed (rowsBelow (rowsOf book table) (flowCount (bookOf book)) slot) 7 out₀ out to
 
 abbrev μ-loop : tie.MeasureT-loop
-μ-loop book table work out₀ ats₀ dues₀ flows size to₀ slot₀ out ats dues to slot = slots - slot
+μ-loop book table jobs work out₀ ats₀ dues₀ flows size to₀ slot₀ out ats dues to slot = slots - slot
 
 loop-holds : tie.Need-loop-holds Inv-loop μ-loop
 unfolding rowsBelow joinFrom
 loop-holds c =
-    let s = c .before .before .before .before .before .before in
+    let s = c .before .before .before .before .before .before .before in
     (search needs, refl, s .pre .0 .cursors, listed-none 7 (s .args .out .now))
 
 list-used-requires : tie.Need-list-used-requires Inv-loop μ-loop
 unfolding placeAfter listLength
 list-used-requires c κs =
-    let s = c .before .before .before .before .before .before .before .before .before .before .before in
+    let s = c .before .before .before .before .before .before .before .before .before .before .before .before in
     let a = s .args in
     let accepted = s .pre .0 .accepted in
     let rows = rowsOf (a .book .now) (a .table .now) in
     let l = c .before .before .before .before .loop in
-    let left = slot-left (a .book .now) (a .table .now) accepted (l .slot) (l .inv .0) (omega (arith, l .inv .3 .next-is, s .pre .3)) in (
+    let left = slot-left (a .book .now) (a .table .now) accepted (l .slot) (l .inv .0) (omega (arith, l .inv .3 .next-is, s .pre .4)) in (
       record { accepted = accepted; a-slot = left; cursors = l .inv .2 },
       s .pre .1,
       s .pre .2,
-      rw (s .pre .2) (omega (arith, l .inv .1, l .inv .3 .next-is, slot-room (a .book .now) (a .table .now) accepted (l .slot) left, s .pre .3, s .pre .4)),
+      s .pre .3,
+      rw (s .pre .3) (omega (arith, l .inv .1, l .inv .3 .next-is, slot-room (a .book .now) (a .table .now) accepted (l .slot) left, s .pre .4, s .pre .5)),
     )
 
 add-slot : tie.Need-add-slot Inv-loop μ-loop
 unfolding placeAfter listLength
 add-slot c =
-    let s = c .before .before .before .before .before .before .before .before .before .before .before .before .before .before .before .before .before .before in
+    let s = c .before .before .before .before .before .before .before .before .before .before .before .before .before .before .before .before .before .before .before in
     let a = s .args in
     let accepted = s .pre .0 .accepted in
     let rows = rowsOf (a .book .now) (a .table .now) in
     let l = c .before .before .before .before .before .before .before .before .before .before .before .loop in
-    let left = slot-left (a .book .now) (a .table .now) accepted (l .slot) (l .inv .0) (omega (arith, l .inv .3 .next-is, s .pre .3)) in
+    let left = slot-left (a .book .now) (a .table .now) accepted (l .slot) (l .inv .0) (omega (arith, l .inv .3 .next-is, s .pre .4)) in
     omega (arith, left)
 
 loop-less : tie.Need-loop-less Inv-loop μ-loop
 unfolding placeAfter listLength
 loop-less c =
-    let s = c .before .before .before .before .before .before .before .before .before .before .before .before .before .before .before .before .before .before in
+    let s = c .before .before .before .before .before .before .before .before .before .before .before .before .before .before .before .before .before .before .before in
     let a = s .args in
     let accepted = s .pre .0 .accepted in
     let rows = rowsOf (a .book .now) (a .table .now) in
     let l = c .before .before .before .before .before .before .before .before .before .before .before .loop in
-    let left = slot-left (a .book .now) (a .table .now) accepted (l .slot) (l .inv .0) (omega (arith, l .inv .3 .next-is, s .pre .3)) in
+    let left = slot-left (a .book .now) (a .table .now) accepted (l .slot) (l .inv .0) (omega (arith, l .inv .3 .next-is, s .pre .4)) in
     omega (arith, left)
 
 loop-again : tie.Need-loop-again Inv-loop μ-loop
 unfolding placeAfter listLength
 loop-again c =
-    let s = c .before .before .before .before .before .before .before .before .before .before .before .before .before .before .before .before .before .before in
+    let s = c .before .before .before .before .before .before .before .before .before .before .before .before .before .before .before .before .before .before .before in
     let a = s .args in
     let accepted = s .pre .0 .accepted in
     let rows = rowsOf (a .book .now) (a .table .now) in
     let l = c .before .before .before .before .before .before .before .before .before .before .before .loop in
-    let left = slot-left (a .book .now) (a .table .now) accepted (l .slot) (l .inv .0) (omega (arith, l .inv .3 .next-is, s .pre .3)) in
+    let left = slot-left (a .book .now) (a .table .now) accepted (l .slot) (l .inv .0) (omega (arith, l .inv .3 .next-is, s .pre .4)) in
     let r = c .before .before .before .before .before .before .list-used .ensures in
     let e : suc (l .slot) ≡ l .slot + 1 = omega arith in (
       omega (arith, left),
@@ -97,14 +98,14 @@ same-length-3 c = search needs
 returns : tie.Need-returns Inv-loop μ-loop
 unfolding placeAfter listLength
 returns c =
-    let s = c .before .before .before .before .before .before .before .before in
+    let s = c .before .before .before .before .before .before .before .before .before in
     let a = s .args in
     let accepted = s .pre .0 .accepted in
     let rows = rowsOf (a .book .now) (a .table .now) in
     let l = c .before .loop in
     l .inv .3 .written
     ∙ ap (λ (r : List Row). sets (a .out .now) 7 (rowsBytes r))
-    (whole-front (a .book .now) (a .table .now) accepted (l .slot) (l .inv .0) (omega (arith, l .inv .3 .next-is, s .pre .3)))
+    (whole-front (a .book .now) (a .table .now) accepted (l .slot) (l .inv .0) (omega (arith, l .inv .3 .next-is, s .pre .4)))
 
 pub merge-spec : {M : Type 1} → statement M
 merge-spec =

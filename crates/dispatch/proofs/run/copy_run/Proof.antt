@@ -1,78 +1,86 @@
--- Behind the blocks of a run fewer than sixteen rows are left, which are copied one by one; together they are the run. Assumes nothing.
-use mathlib.Core.Path.{_≡_, ap, _∙_}
-use Prim.Native.Nat.{ℕ, _+_, _-_}
-use mathlib.Core.List.{List}
+-- A flow of many jobs goes by blocks at once; of another one the first eight rows are copied one by one, which mostly are all. Assumes nothing.
+use mathlib.Core.Path.{_≡_}
+use Prim.Native.Nat.{_+_, _-_}
 use lib.ListN.{length}
-use lib.Seq.{sets, length-sets}
-use Rattle.dispatch.specs.Runs.{part}
-use Rattle.dispatch.proofs.Runs.{fewer, run-joined, room-after, copies-append}
+use Rattle.dispatch.proofs.Runs.{copied-length, run-copied, run-copied-behind, room-after, place-inside}
 use borrow.Author.Needs.{needs}
 use native.Mathlib.Omega.{arith}
 use Rattle.dispatch.proofs.run.copy_run.Statement.{statement}
 use Rattle.dispatch.proofs.run.copy_run.Tie as tie
 
-copy-blocks-requires : tie.Need-copy-blocks-requires
-copy-blocks-requires c κs = search needs
-
-add-copy-rest : tie.Need-add-copy-rest
-add-copy-rest c =
-    let s = c .before .before .before .before .before .before .before in
-    let a = s .args in
-    let done = c .before .before .before .copy-blocks .result in
-    let f = c .before .before .before .copy-blocks .ensures in
-    let after = room-after (a .table .now) (a .flow) (a .slot) (a .from) (a .to) (length (a .out .now)) (s .pre) done (f .reaches) in
-    omega (arith, after .inside, s .pre .short)
-
-add-copy-rest-2 : tie.Need-add-copy-rest-2
-add-copy-rest-2 c =
-    let s = c .before .before .before .before .before .before .before in
-    let a = s .args in
-    let done = c .before .before .before .copy-blocks .result in
-    let f = c .before .before .before .copy-blocks .ensures in
-    let after = room-after (a .table .now) (a .flow) (a .slot) (a .from) (a .to) (length (a .out .now)) (s .pre) done (f .reaches) in
-    omega (arith, s .pre .room (f .reaches .count) (f .reaches .each), f .reaches .at-is)
-
-copy-rest-requires : tie.Need-copy-rest-requires
-copy-rest-requires c κs =
-    let s = c .before .before .before .before .before .before .before in
-    let a = s .args in
-    let done = c .before .before .before .copy-blocks .result in
-    let f = c .before .before .before .copy-blocks .ensures in
-    let after = room-after (a .table .now) (a .flow) (a .slot) (a .from) (a .to) (length (a .out .now)) (s .pre) done (f .reaches) in
-    let kept = ap length (f .copied) ∙ length-sets (a .out .now) (a .to) (part (a .table .now) (a .from) done) in
-    rw kept after
+copy-long-requires : tie.Need-copy-long-requires
+copy-long-requires c κs = search needs
 
 same-length : tie.Need-same-length
 same-length c = search needs
 
 returns : tie.Need-returns
-returns c =
-    let s = c .before .before .before .before .before .before .before .before .before .before in
+returns c = search needs
+
+copy-few-requires : tie.Need-copy-few-requires
+copy-few-requires c κs = search needs
+
+add-if2 : tie.Need-add-if2
+add-if2 c = search needs
+
+same-length-2 : tie.Need-same-length-2
+same-length-2 c = search needs
+
+returns-2 : tie.Need-returns-2
+returns-2 c =
+    let s = c .before .before .before .before .before .before .before .before in
     let a = s .args in
-    let done = c .before .before .before .before .before .before .copy-blocks .result in
-    let f = c .before .before .before .before .before .before .copy-blocks .ensures in
-    let after = room-after (a .table .now) (a .flow) (a .slot) (a .from) (a .to) (length (a .out .now)) (s .pre) done (f .reaches) in
-    let next = c .before .before .copy-rest .result in
-    let r = c .before .before .copy-rest .ensures in
-    let e : done + (next - (a .from + done)) ≡ next - a .from = omega (arith, r .reaches .at-is) in
-    record {
-      run =
-          run-joined (a .table .now) (a .flow) (a .slot) (a .from) (a .from + done) next (f .reaches)
-          (record { reaches = r .reaches; ends = r .ends (fewer (a .table .now) (a .flow) (a .slot) (a .from + done) next (r .reaches) (r .within) (f .few-left)) });
-      copied =
-          r .copied
-          ∙ ap (λ (o : List ℕ). sets o (a .to + done) (part (a .table .now) (a .from + done) (next - (a .from + done)))) (f .copied)
-          ∙ copies-append (a .out .now) (a .table .now) (a .to) (a .from) done (next - (a .from + done))
-          ∙ ap (λ (k : ℕ). sets (a .out .now) (a .to) (part (a .table .now) (a .from) k)) e;
-    }
+    let next = c .before .before .before .copy-few .result in
+    let q = c .before .before .before .copy-few .ensures in
+    run-copied (q .some) (q .ends (c .if2 .taken))
+
+add-copy-long : tie.Need-add-copy-long
+add-copy-long c =
+    let s = c .before .before .before .before .before .before .before .before .before in
+    let a = s .args in
+    let next = c .before .before .before .before .copy-few .result in
+    let q = c .before .before .before .before .copy-few .ensures in
+    let is : next ≡ a .from + 48 = omega (arith, q .within, c .before .if2 .left) in
+    let place : a .to + 48 ≡ a .to + (next - a .from) = omega arith in
+    let inside = place-inside (a .table .now) (a .flow) (a .slot) (a .from) (a .to) (length (a .out .now)) (s .pre) next (q .some .reaches) in
+    omega (arith, inside, place)
+
+copy-long-requires-2 : tie.Need-copy-long-requires-2
+copy-long-requires-2 c κs =
+    let s = c .before .before .before .before .before .before .before .before .before in
+    let a = s .args in
+    let next = c .before .before .before .before .copy-few .result in
+    let q = c .before .before .before .before .copy-few .ensures in
+    let is : next ≡ a .from + 48 = omega (arith, q .within, c .before .if2 .left) in
+    let place : a .to + 48 ≡ a .to + (next - a .from) = omega arith in
+    rw (copied-length (q .some))
+    (room-after (a .table .now) (a .flow) (a .slot) (a .from) (a .to) (length (a .out .now)) (s .pre) next (a .to + 48) place (q .some .reaches))
+
+same-length-3 : tie.Need-same-length-3
+same-length-3 c = search needs
+
+returns-3 : tie.Need-returns-3
+returns-3 c =
+    let s = c .before .before .before .before .before .before .before .before .before .before .before .before in
+    let a = s .args in
+    let next = c .before .before .before .before .before .before .before .copy-few .result in
+    let q = c .before .before .before .before .before .before .before .copy-few .ensures in
+    let is : next ≡ a .from + 48 = omega (arith, q .within, c .before .before .before .before .if2 .left) in
+    let place : a .to + 48 ≡ a .to + (next - a .from) = omega arith in
+    run-copied-behind place (q .some) (c .before .before .copy-long2 .ensures)
 
 pub copy-run-spec : {M : Type 1} → statement M
 copy-run-spec =
     tie.close
     (tie.spec
-    copy-blocks-requires
-    add-copy-rest
-    add-copy-rest-2
-    copy-rest-requires
+    copy-long-requires
     same-length
-    returns)
+    returns
+    copy-few-requires
+    add-if2
+    same-length-2
+    returns-2
+    add-copy-long
+    copy-long-requires-2
+    same-length-3
+    returns-3)
