@@ -159,7 +159,7 @@ pub record CapsLowered : Type 0 where
 
 -- ---- the dispatch list (02, Req 03)
 
--- a refusal by 13 or by the check: "a refusal leaves the output untouched", and the length answered is 0
+-- a refusal, by the check or by 13: "The output is never touched by a refusal, and every count, length or finish returned with it is 0."
 pub record DispatchRefusal (out area : List ℕ) (o : DispatchOutcome) : Type 0 where
   pub length-zero : o .answer .length ≡ 0
   pub output-kept : o .output ≡ out
