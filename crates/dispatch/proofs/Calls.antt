@@ -10,7 +10,7 @@ use mathlib.Core.List.{List, _++_}
 use lib.ListN.{length, set, drop, length-append}
 use lib.Seq.{sets, sets-eq}
 use lib.Dec.{ltb}
-use borrow.Author.Tests.{ltb-false, lt-ltb, le-ltb, eq-eqb}
+use borrow.Author.Tests.{ltb-false, eq-eqb}
 use Rattle.rules.specs.Walks.{if_then_else_, joinFrom}
 use Rattle.rules.specs.Fields.{bytesOf}
 use Rattle.rules.specs.Answers.{none, checkRefused, listAccepted, listRefused}
@@ -102,17 +102,6 @@ list-stores b rows out size e room =
 
 -- ---- the outcome
 module _ (b : Book) (rows : List Row) (out area left : List ℕ) where
-  pub outcome-too-long : length out < listLength rows →
-      listOutcome b rows out area left ≡ record { answer = listRefused 13 none none; output = out; area = workZero slots area }
-  unfolding listOutcome
-  outcome-too-long h = rw (lt-ltb (length out) (listLength rows) h) refl
-
-  pub outcome-listed : listLength rows ≤ length out →
-      listOutcome b rows out area left
-      ≡ record { answer = listAccepted (listLength rows); output = listBytes b rows ++ drop (listLength rows) out; area = left }
-  unfolding listOutcome
-  outcome-listed h = rw (le-ltb (length out) (listLength rows) h) refl
-
   -- where the area was left by the check, clearing it again gives what clearing it before gives
   pub outcome-same : left ≡ workUsed slots rows area → listOutcome b rows out area left ≡ listOutcome b rows out left left
   unfolding listOutcome

@@ -1,6 +1,6 @@
 // Runs of rows: the rows of one flow in one slot stand together in a table, and are copied as they stand.
 ghost use mathlib.Core.Path.{_≡_};
-ghost use Prim.Native.Nat.{_+_, _<_, _≤_};
+ghost use Prim.Native.Nat.{_+_, _%_, _<_, _≤_};
 ghost use lib.ListN.{length};
 ghost use lib.Seq.{sets};
 ghost use Rattle.dispatch.specs.Runs.{part, dueAt, WholeRows, Room, BlocksCopied, SomeCopied, RunCopied};
@@ -71,36 +71,28 @@ pub fn copy_blocks(
     from + done
 }
 
-// The first rows of a run, at most eight, each copied when it is seen to belong to it; the place behind them in the table.
-pub fn copy_few(table: &[u8], out: &mut [u8], from: usize, to: usize, flow: u8, slot: u16) -> usize
-    requires { ⌜ Room (now table) flow slot from to (length (now out)) ⌝ }
-    ensures { λ next. ⌜ SomeCopied 48 (now (table .entry)) flow slot from to (now (out .entry)) (now (out .exit)) next ⌝ }
+// Rows of a run, at most `most` bytes of them, each copied when it is seen to belong to it; the place behind them in the table.
+pub fn copy_some(
+    table: &[u8],
+    out: &mut [u8],
+    from: usize,
+    to: usize,
+    flow: u8,
+    slot: u16,
+    most: usize,
+) -> usize
+    requires { ⌜ Room (now table) flow slot from to (length (now out)) × (most % 6 ≡ 0) ⌝ }
+    ensures { λ next. ⌜ SomeCopied most (now (table .entry)) flow slot from to (now (out .entry)) (now (out .exit)) next ⌝ }
 {
     let mut done: usize = 0;
-    while done < 48 {
+    while done < most {
         if due_at(table, from + done, flow) != slot {
             return from + done;
         }
         copy_row(table, out, from + done, to + done);
         done = done + 6;
     }
-    from + 48
-}
-
-// The last rows of a run, at most sixteen, each copied when it is seen to belong to it; the place behind them in the table.
-pub fn copy_rest(table: &[u8], out: &mut [u8], from: usize, to: usize, flow: u8, slot: u16) -> usize
-    requires { ⌜ Room (now table) flow slot from to (length (now out)) ⌝ }
-    ensures { λ next. ⌜ SomeCopied 96 (now (table .entry)) flow slot from to (now (out .entry)) (now (out .exit)) next ⌝ }
-{
-    let mut done: usize = 0;
-    while done < 96 {
-        if due_at(table, from + done, flow) != slot {
-            return from + done;
-        }
-        copy_row(table, out, from + done, to + done);
-        done = done + 6;
-    }
-    from + 96
+    from + most
 }
 
 // A run that may be long: its blocks, then the fewer than sixteen rows that are left; the place behind it in the table.
@@ -109,7 +101,7 @@ pub fn copy_long(table: &[u8], out: &mut [u8], from: usize, to: usize, flow: u8,
     ensures { λ next. ⌜ RunCopied (now (table .entry)) flow slot from to (now (out .entry)) (now (out .exit)) next ⌝ }
 {
     let at = copy_blocks(table, out, from, to, flow, slot);
-    copy_rest(table, out, at, to + (at - from), flow, slot)
+    copy_some(table, out, at, to + (at - from), flow, slot, 96)
 }
 
 // A whole run; the place behind it in the table. A flow of fewer than sixteen jobs has no block of sixteen rows, so none is looked for at once.
@@ -128,7 +120,7 @@ pub fn copy_run(
     if 16 <= jobs {
         return copy_long(table, out, from, to, flow, slot);
     }
-    let next = copy_few(table, out, from, to, flow, slot);
+    let next = copy_some(table, out, from, to, flow, slot, 48);
     if next < from + 48 {
         return next;
     }

@@ -49,31 +49,42 @@ use Rattle.rules.proofs.Lowered.{same-use, caps-lowered}
 
 -- ---- the three outcomes of a call
 -- the list, over an area left by the check
-abbrev listing : Book → List Row → List ℕ → List ℕ → DispatchOutcome
+abbrev pub listing : Book → List Row → List ℕ → List ℕ → DispatchOutcome
 listing b rows out left = record { answer = listAccepted (listLength rows); output = listBytes b rows ++ drop (listLength rows) out; area = left }
+
+-- 13, over an area as it was
+abbrev pub tooLong : List ℕ → List ℕ → DispatchOutcome
+tooLong out area = record { answer = listRefused 13 none none; output = out; area = workZero slots area }
+
+-- a table that the check accepts is listed, or its list is too long
+module _ (b : Book) (rows : List Row) (out area left : List ℕ) where
+  pub rows-listed : listLength rows ≤ length out → listOutcome b rows out area left ≡ listing b rows out left
+  unfolding listOutcome
+  rows-listed l = rw (le-ltb (length out) (listLength rows) l) refl
+
+  pub rows-too-long : length out < listLength rows → listOutcome b rows out area left ≡ tooLong out area
+  unfolding listOutcome
+  rows-too-long l = rw (lt-ltb (length out) (listLength rows) l) refl
 
 module _ (b : Book) (rows : List Row) (out area : List ℕ) (o : CheckOutcome) where
   abbrev outcome : DispatchOutcome
   outcome = dispatchChecked b rows out area o
 
-  -- the check's refusal, and 13
+  -- the check's refusal
   abbrev refusedByCheck : DispatchOutcome
   refusedByCheck = record { answer = listRefused (o .answer .number) (o .answer .flow) (o .answer .job); output = out; area = o .area }
-
-  abbrev tooLong : DispatchOutcome
-  tooLong = record { answer = listRefused 13 none none; output = out; area = workZero slots area }
 
   outcome-refused : 0 < o .answer .number → outcome ≡ refusedByCheck
   unfolding dispatchChecked
   outcome-refused h = rw (ne-eqb (o .answer .number) 0 (λ e. omega arith)) refl
 
   outcome-listed : o .answer .number ≡ 0 → listLength rows ≤ length out → outcome ≡ listing b rows out (o .area)
-  unfolding dispatchChecked listOutcome
-  outcome-listed z l = rw (eq-eqb (o .answer .number) 0 z, le-ltb (length out) (listLength rows) l) refl
+  unfolding dispatchChecked
+  outcome-listed z l = rw (eq-eqb (o .answer .number) 0 z) (rows-listed b rows out area (o .area) l)
 
-  outcome-too-long : o .answer .number ≡ 0 → length out < listLength rows → outcome ≡ tooLong
-  unfolding dispatchChecked listOutcome
-  outcome-too-long z l = rw (eq-eqb (o .answer .number) 0 z, lt-ltb (length out) (listLength rows) l) refl
+  outcome-too-long : o .answer .number ≡ 0 → length out < listLength rows → outcome ≡ tooLong out area
+  unfolding dispatchChecked
+  outcome-too-long z l = rw (eq-eqb (o .answer .number) 0 z) (rows-too-long b rows out area (o .area) l)
 
   -- these are all
   outcome-cases : {X : Type 0} → (0 < o .answer .number → X) → (o .answer .number ≡ 0 → listLength rows ≤ length out → X) →

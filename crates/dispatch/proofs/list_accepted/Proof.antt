@@ -9,9 +9,10 @@ use Rattle.rules.specs.Book.{flowCount}
 use Rattle.rules.specs.Reading.{bookOf}
 use Rattle.rules.specs.Dispatch.{listBytes, DispatchOutcome}
 use Rattle.rules.proofs.Passing.{flow-count, book-passes}
+use Rattle.rules.proofs.Dispatches.{rows-listed, rows-too-long}
 use Rattle.dispatch.specs.Merge.{rowsOf}
 use Rattle.dispatch.proofs.Tables.{rows-fill, size-of-table}
-use Rattle.dispatch.proofs.Calls.{size-of-list, outcome-too-long, outcome-listed}
+use Rattle.dispatch.proofs.Calls.{size-of-list}
 use borrow.Author.Needs.{needs}
 use native.Mathlib.Omega.{arith}
 use Rattle.dispatch.proofs.list_accepted.Statement.{statement}
@@ -68,7 +69,7 @@ returns c =
     let rows = rowsOf (a .book .now) (a .table .now) in
     let flows : c .before .before .before .before .before .before .wide .result ≡ flowCount (bookOf (a .book .now)) = c .before .before .before .before .before .before .wide .ensures .0 ∙ sym (flow-count (a .book .now)) in
     let size = size-of-list (a .book .now) (a .table .now) accepted (c .before .before .before .before .before .before .wide .result) flows in
-    let q = outcome-too-long (bookOf (a .book .now)) rows (a .output .now) (a .work .now) (a .work .now) (omega (arith, size, c .before .before .before .before .before .if1 .taken)) in
+    let q = rows-too-long (bookOf (a .book .now)) rows (a .output .now) (a .work .now) (a .work .now) (omega (arith, size, c .before .before .before .before .before .if1 .taken)) in
     record {
       answers = c .refusal .ensures ∙ sym (ap (λ (o : DispatchOutcome). o .answer) q);
       output-left = sym (ap (λ (o : DispatchOutcome). o .output) q);
@@ -118,7 +119,7 @@ returns-2 c =
     let rows = rowsOf (a .book .now) (a .table .now) in
     let flows : c .before .before .before .before .before .before .wide .result ≡ flowCount (bookOf (a .book .now)) = c .before .before .before .before .before .before .wide .ensures .0 ∙ sym (flow-count (a .book .now)) in
     let size = size-of-list (a .book .now) (a .table .now) accepted (c .before .before .before .before .before .before .wide .result) flows in
-    let q = outcome-listed (bookOf (a .book .now)) rows (a .output .now) (a .work .now) (a .work .now) (omega (arith, size, c .before .before .before .before .before .if1 .left)) in
+    let q = rows-listed (bookOf (a .book .now)) rows (a .output .now) (a .work .now) (a .work .now) (omega (arith, size, c .before .before .before .before .before .if1 .left)) in
     record {
       answers = ap listAccepted size ∙ sym (ap (λ (o : DispatchOutcome). o .answer) q);
       output-left =

@@ -11,11 +11,11 @@ use Rattle.dispatch.proofs.run.copy_long.Tie as tie
 copy-blocks-requires : tie.Need-copy-blocks-requires
 copy-blocks-requires c κs = search needs
 
-sub-copy-rest : tie.Need-sub-copy-rest
-sub-copy-rest c = omega (arith, c .before .before .before .copy-blocks .ensures .some .reaches .at-is)
+sub-copy-some : tie.Need-sub-copy-some
+sub-copy-some c = omega (arith, c .before .before .before .copy-blocks .ensures .some .reaches .at-is)
 
-add-copy-rest : tie.Need-add-copy-rest
-add-copy-rest c =
+add-copy-some : tie.Need-add-copy-some
+add-copy-some c =
     let s = c .before .before .before .before .before .before .before in
     let a = s .args in
     let at = c .before .before .before .copy-blocks .result in
@@ -23,14 +23,14 @@ add-copy-rest c =
     let inside = place-inside (a .table .now) (a .flow) (a .slot) (a .from) (a .to) (length (a .out .now)) (s .pre) at (p .some .reaches) in
     omega (arith, inside)
 
-copy-rest-requires : tie.Need-copy-rest-requires
-copy-rest-requires c κs =
+copy-some-requires : tie.Need-copy-some-requires
+copy-some-requires c κs =
     let s = c .before .before .before .before .before .before .before in
     let a = s .args in
     let at = c .before .before .before .copy-blocks .result in
     let p = c .before .before .before .copy-blocks .ensures in
-    rw (copied-length (p .some))
-    (room-after (a .table .now) (a .flow) (a .slot) (a .from) (a .to) (length (a .out .now)) (s .pre) at (a .to + (at - a .from)) refl (p .some .reaches))
+    let after = room-after (a .table .now) (a .flow) (a .slot) (a .from) (a .to) (length (a .out .now)) (s .pre) at (a .to + (at - a .from)) refl (p .some .reaches) in
+    (rw (copied-length (p .some)) after, refl)
 
 same-length : tie.Need-same-length
 same-length c = search needs
@@ -41,17 +41,17 @@ returns c =
     let a = s .args in
     let at = c .before .before .before .before .before .before .copy-blocks .result in
     let p = c .before .before .before .before .before .before .copy-blocks .ensures in
-    let q = c .before .before .copy-rest .ensures in
+    let q = c .before .before .copy-some .ensures in
     run-copied (copied-append refl (p .some) (q .some))
-    (q .ends (fewer (a .table .now) (a .flow) (a .slot) at (c .before .before .copy-rest .result) (q .some .reaches) (p .few-left)))
+    (q .ends (fewer (a .table .now) (a .flow) (a .slot) at (c .before .before .copy-some .result) (q .some .reaches) (p .few-left)))
 
 pub copy-long-spec : {M : Type 1} → statement M
 copy-long-spec =
     tie.close
     (tie.spec
     copy-blocks-requires
-    sub-copy-rest
-    add-copy-rest
-    copy-rest-requires
+    sub-copy-some
+    add-copy-some
+    copy-some-requires
     same-length
     returns)

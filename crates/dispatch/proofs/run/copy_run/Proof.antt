@@ -17,8 +17,8 @@ same-length c = search needs
 returns : tie.Need-returns
 returns c = search needs
 
-copy-few-requires : tie.Need-copy-few-requires
-copy-few-requires c κs = search needs
+copy-some-requires : tie.Need-copy-some-requires
+copy-some-requires c κs = search needs
 
 add-if2 : tie.Need-add-if2
 add-if2 c = search needs
@@ -30,16 +30,16 @@ returns-2 : tie.Need-returns-2
 returns-2 c =
     let s = c .before .before .before .before .before .before .before .before in
     let a = s .args in
-    let next = c .before .before .before .copy-few .result in
-    let q = c .before .before .before .copy-few .ensures in
+    let next = c .before .before .before .copy-some .result in
+    let q = c .before .before .before .copy-some .ensures in
     run-copied (q .some) (q .ends (c .if2 .taken))
 
 add-copy-long : tie.Need-add-copy-long
 add-copy-long c =
     let s = c .before .before .before .before .before .before .before .before .before in
     let a = s .args in
-    let next = c .before .before .before .before .copy-few .result in
-    let q = c .before .before .before .before .copy-few .ensures in
+    let next = c .before .before .before .before .copy-some .result in
+    let q = c .before .before .before .before .copy-some .ensures in
     let is : next ≡ a .from + 48 = omega (arith, q .within, c .before .if2 .left) in
     let place : a .to + 48 ≡ a .to + (next - a .from) = omega arith in
     let inside = place-inside (a .table .now) (a .flow) (a .slot) (a .from) (a .to) (length (a .out .now)) (s .pre) next (q .some .reaches) in
@@ -49,8 +49,8 @@ copy-long-requires-2 : tie.Need-copy-long-requires-2
 copy-long-requires-2 c κs =
     let s = c .before .before .before .before .before .before .before .before .before in
     let a = s .args in
-    let next = c .before .before .before .before .copy-few .result in
-    let q = c .before .before .before .before .copy-few .ensures in
+    let next = c .before .before .before .before .copy-some .result in
+    let q = c .before .before .before .before .copy-some .ensures in
     let is : next ≡ a .from + 48 = omega (arith, q .within, c .before .if2 .left) in
     let place : a .to + 48 ≡ a .to + (next - a .from) = omega arith in
     rw (copied-length (q .some))
@@ -63,8 +63,8 @@ returns-3 : tie.Need-returns-3
 returns-3 c =
     let s = c .before .before .before .before .before .before .before .before .before .before .before .before in
     let a = s .args in
-    let next = c .before .before .before .before .before .before .before .copy-few .result in
-    let q = c .before .before .before .before .before .before .before .copy-few .ensures in
+    let next = c .before .before .before .before .before .before .before .copy-some .result in
+    let q = c .before .before .before .before .before .before .before .copy-some .ensures in
     let is : next ≡ a .from + 48 = omega (arith, q .within, c .before .before .before .before .if2 .left) in
     let place : a .to + 48 ≡ a .to + (next - a .from) = omega arith in
     run-copied-behind place (q .some) (c .before .before .copy-long2 .ensures)
@@ -76,7 +76,7 @@ copy-run-spec =
     copy-long-requires
     same-length
     returns
-    copy-few-requires
+    copy-some-requires
     add-if2
     same-length-2
     returns-2

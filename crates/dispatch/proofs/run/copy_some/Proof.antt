@@ -5,14 +5,14 @@ use Rattle.dispatch.specs.Runs.{dueAt}
 use Rattle.dispatch.proofs.Runs.{Going, going-none, going-copied, going-more, going-inside, going-whole, going-fits, going-row}
 use borrow.Author.Needs.{needs}
 use native.Mathlib.Omega.{arith}
-use Rattle.dispatch.proofs.run.copy_few.Statement.{statement}
-use Rattle.dispatch.proofs.run.copy_few.Tie as tie
+use Rattle.dispatch.proofs.run.copy_some.Statement.{statement}
+use Rattle.dispatch.proofs.run.copy_some.Tie as tie
 
 abbrev Inv-loop : tie.InvT-loop
-Inv-loop table out₀ from to flow slot done₀ out done = (done ≤ 48) × Going table flow slot from to out₀ out done
+Inv-loop table out₀ from to flow slot most done₀ out done = (done ≤ most) × Going table flow slot from to out₀ out done
 
 abbrev μ-loop : tie.MeasureT-loop
-μ-loop table out₀ from to flow slot done₀ out done = 48 - done
+μ-loop table out₀ from to flow slot most done₀ out done = most - done
 
 loop-holds : tie.Need-loop-holds Inv-loop μ-loop
 loop-holds c = let a = c .before .before .args in (search needs, going-none (a .table .now) (a .flow) (a .slot) (a .from) (a .to) (a .out .now))
@@ -22,21 +22,21 @@ add-due-at c =
     let s = c .before .before .before .before in
     let a = s .args in
     let l = c .before .loop in
-    let inside = going-inside (a .table .now) (a .flow) (a .slot) (a .from) (a .to) (a .out .now) (s .pre) (l .inv .1) in omega (arith, inside, s .pre .short)
+    let inside = going-inside (a .table .now) (a .flow) (a .slot) (a .from) (a .to) (a .out .now) (s .pre .0) (l .inv .1) in omega (arith, inside, s .pre .0 .short)
 
 due-at-requires : tie.Need-due-at-requires Inv-loop μ-loop
 due-at-requires c κs =
     let s = c .before .before .before .before in
     let a = s .args in
     let l = c .before .loop in
-    let z : a .from + l .done + 6 * 0 ≡ a .from + l .done = omega arith in rw z at (going-whole (a .table .now) (a .flow) (a .slot) (a .from) (a .to) (a .out .now) (s .pre) (l .inv .1) 0)
+    let z : a .from + l .done + 6 * 0 ≡ a .from + l .done = omega arith in rw z at (going-whole (a .table .now) (a .flow) (a .slot) (a .from) (a .to) (a .out .now) (s .pre .0) (l .inv .1) 0)
 
 add-result : tie.Need-add-result Inv-loop μ-loop
 add-result c =
     let s = c .before .before .before .before .before .before in
     let a = s .args in
     let l = c .before .before .before .loop in
-    let inside = going-inside (a .table .now) (a .flow) (a .slot) (a .from) (a .to) (a .out .now) (s .pre) (l .inv .1) in omega (arith, inside, s .pre .short)
+    let inside = going-inside (a .table .now) (a .flow) (a .slot) (a .from) (a .to) (a .out .now) (s .pre .0) (l .inv .1) in omega (arith, inside, s .pre .0 .short)
 
 same-length : tie.Need-same-length Inv-loop μ-loop
 same-length c = c .before .before .before .loop .inv .1 .kept
@@ -57,7 +57,7 @@ add-copy-row c =
     let s = c .before .before .before .before .before .before .before in
     let a = s .args in
     let l = c .before .before .before .before .loop in
-    let inside = going-inside (a .table .now) (a .flow) (a .slot) (a .from) (a .to) (a .out .now) (s .pre) (l .inv .1) in omega (arith, inside, s .pre .short)
+    let inside = going-inside (a .table .now) (a .flow) (a .slot) (a .from) (a .to) (a .out .now) (s .pre .0) (l .inv .1) in omega (arith, inside, s .pre .0 .short)
 
 add-copy-row-2 : tie.Need-add-copy-row-2 Inv-loop μ-loop
 add-copy-row-2 c =
@@ -65,8 +65,8 @@ add-copy-row-2 c =
     let a = s .args in
     let l = c .before .before .before .before .loop in
     let due : dueAt (a .table .now) (a .from + l .done) (a .flow) ≡ a .slot = sym (c .before .before .due-at .ensures) ∙ c .before .if1 .left in
-    let r = going-row (a .table .now) (a .flow) (a .slot) (a .from) (a .to) (a .out .now) (s .pre) (l .inv .1) due in
-    omega (arith, going-fits (a .table .now) (a .flow) (a .slot) (a .from) (a .to) (a .out .now) (s .pre) (l .inv .1) 6 r .1)
+    let r = going-row (a .table .now) (a .flow) (a .slot) (a .from) (a .to) (a .out .now) (s .pre .0) (l .inv .1) due in
+    omega (arith, going-fits (a .table .now) (a .flow) (a .slot) (a .from) (a .to) (a .out .now) (s .pre .0) (l .inv .1) 6 r .1)
 
 copy-row-requires : tie.Need-copy-row-requires Inv-loop μ-loop
 copy-row-requires c κs =
@@ -74,8 +74,8 @@ copy-row-requires c κs =
     let a = s .args in
     let l = c .before .before .before .before .loop in
     let due : dueAt (a .table .now) (a .from + l .done) (a .flow) ≡ a .slot = sym (c .before .before .due-at .ensures) ∙ c .before .if1 .left in
-    let r = going-row (a .table .now) (a .flow) (a .slot) (a .from) (a .to) (a .out .now) (s .pre) (l .inv .1) due in
-    going-fits (a .table .now) (a .flow) (a .slot) (a .from) (a .to) (a .out .now) (s .pre) (l .inv .1) 6 r
+    let r = going-row (a .table .now) (a .flow) (a .slot) (a .from) (a .to) (a .out .now) (s .pre .0) (l .inv .1) due in
+    going-fits (a .table .now) (a .flow) (a .slot) (a .from) (a .to) (a .out .now) (s .pre .0) (l .inv .1) 6 r
 
 add-done : tie.Need-add-done Inv-loop μ-loop
 add-done c = search needs
@@ -89,15 +89,15 @@ loop-again c =
     let a = s .args in
     let l = c .before .before .before .before .before .before .before .loop in
     let due : dueAt (a .table .now) (a .from + l .done) (a .flow) ≡ a .slot = sym (c .before .before .before .before .before .due-at .ensures) ∙ c .before .before .before .before .if1 .left in
-    let r = going-row (a .table .now) (a .flow) (a .slot) (a .from) (a .to) (a .out .now) (s .pre) (l .inv .1) due in
-    (omega (arith, r .at-is, l .inv .1 .reaches .at-is), going-more (a .table .now) (a .flow) (a .slot) (a .from) (a .to) (a .out .now) 6 r (c .before .before .copy-row .ensures) (l .inv .1))
+    let r = going-row (a .table .now) (a .flow) (a .slot) (a .from) (a .to) (a .out .now) (s .pre .0) (l .inv .1) due in
+    (omega (arith, s .pre .1, r .at-is, l .inv .1 .reaches .at-is), going-more (a .table .now) (a .flow) (a .slot) (a .from) (a .to) (a .out .now) 6 r (c .before .before .copy-row .ensures) (l .inv .1))
 
 add-result-2 : tie.Need-add-result-2 Inv-loop μ-loop
 add-result-2 c =
     let s = c .before .before .before .before in
     let a = s .args in
     let l = c .before .loop in
-    let inside = going-inside (a .table .now) (a .flow) (a .slot) (a .from) (a .to) (a .out .now) (s .pre) (l .inv .1) in omega (arith, inside, s .pre .short)
+    let inside = going-inside (a .table .now) (a .flow) (a .slot) (a .from) (a .to) (a .out .now) (s .pre .0) (l .inv .1) in omega (arith, inside, s .pre .0 .short)
 
 same-length-2 : tie.Need-same-length-2 Inv-loop μ-loop
 same-length-2 c = c .before .loop .inv .1 .kept
@@ -107,11 +107,11 @@ returns-2 c =
     let s = c .before .before .before .before in
     let a = s .args in
     let l = c .before .loop in
-    let d : l .done ≡ 48 = omega arith in
+    let d : l .done ≡ a .most = omega arith in
     record { some = rw d at (going-copied (a .table .now) (a .flow) (a .slot) (a .from) (a .to) (a .out .now) (l .inv .1)); within = omega arith; ends = λ h e. omega arith }
 
-pub copy-few-spec : {M : Type 1} → statement M
-copy-few-spec =
+pub copy-some-spec : {M : Type 1} → statement M
+copy-some-spec =
     tie.close
     (tie.spec
     Inv-loop
