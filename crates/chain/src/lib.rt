@@ -20,13 +20,14 @@ pub struct Lasting {
     pub last: u32,
 }
 
-// Rule 1: the whole slots of a job, and the rest in its last slot. A job is divided here and nowhere else.
+// Rule 1: the whole slots of a job, and the rest in its last slot. One division for both: the rest is what the whole slots leave of the
+// size. A job is divided here and nowhere else.
 pub fn lasts(size: u32, cap: u32) -> Lasting
     requires { ⌜ (1 ≤ size) × (size ≤ 1000000) × (1 ≤ cap) ⌝ }
     ensures { λ r. ⌜ ((p : ℕ) → LastsAs (jobWith size cap p) r) ⌝ }
 {
     let whole = size / cap;
-    let rest = size % cap;
+    let rest = size - whole * cap;
     if rest == 0 {
         return Lasting {
             slots: whole,

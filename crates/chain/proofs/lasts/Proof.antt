@@ -1,6 +1,6 @@
--- `chain::lasts` meets its contract: the two laws of `Durations`, one for each arm, with the quotient and the rest. Assumes nothing.
-use Prim.Native.Nat.{_/_, _%_}
-use native.Mathlib.Nat.{div-add-mod', mod-lt, div-le-self}
+-- `chain::lasts` meets its contract: the two laws of `Durations`, one for each arm, with the quotient and what its product with the cap
+-- leaves of the size. Assumes nothing.
+use native.Mathlib.Nat.{div-mul-le-self, lt-div-mul-add, div-le-self}
 use native.Mathlib.Omega.{arith}
 use Rattle.chain.proofs.Durations.{lasts-even, lasts-uneven}
 use borrow.Author.Needs.{needs}
@@ -10,29 +10,30 @@ use Rattle.chain.proofs.lasts.Tie as tie
 div-whole : tie.Need-div-whole
 div-whole c = search needs
 
-rem-rest : tie.Need-rem-rest
-rem-rest c = search needs
+sub-rest : tie.Need-sub-rest
+sub-rest c = let a = c .args in omega (arith, div-mul-le-self (a .size) (a .cap))
+
+mul-rest : tie.Need-mul-rest
+mul-rest c = let a = c .args in omega (arith, div-mul-le-self (a .size) (a .cap))
 
 returns : tie.Need-returns
-returns c p =
-    let a = c .before .args in
-    lasts-even (a .size) (a .cap) p (a .size / a .cap) (omega arith) (omega arith) (omega (arith, div-add-mod' (a .size) (a .cap)))
+returns c p = let a = c .before .args in lasts-even _ _ p _ (omega arith) (omega arith) (omega (arith, div-mul-le-self (a .size) (a .cap)))
 
-add-t6 : tie.Need-add-t6
-add-t6 c = let a = c .before .args in omega (arith, div-le-self (a .size) (a .cap))
+add-t5 : tie.Need-add-t5
+add-t5 c = let a = c .before .args in omega (arith, div-le-self (a .size) (a .cap))
 
 returns-2 : tie.Need-returns-2
 returns-2 c p =
     let a = c .before .args in
     lasts-uneven
-    (a .size)
-    (a .cap)
+    _
+    _
     p
-    (a .size / a .cap)
-    (a .size % a .cap)
+    _
+    _
     (omega arith)
-    (mod-lt (a .size) (omega arith))
-    (div-add-mod' (a .size) (a .cap))
+    (omega (arith, lt-div-mul-add {a = a .size} {b = a .cap} (omega arith)))
+    (omega (arith, div-mul-le-self (a .size) (a .cap)))
 
 pub lasts-spec : {M : Type 1} → statement M
-lasts-spec = tie.close (tie.spec div-whole rem-rest returns add-t6 returns-2)
+lasts-spec = tie.close (tie.spec div-whole mul-rest sub-rest returns add-t5 returns-2)
