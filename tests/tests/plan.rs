@@ -7,7 +7,7 @@
 use flowplan_tests::answer::{CheckAnswer, PlanAnswer, Refusal, NUMBERS, WORK_BYTES};
 use flowplan_tests::books::{self, encode_book, Family};
 use flowplan_tests::lent::{Junk, Lent};
-use flowplan_tests::reader::{read_book, Book, Version, VERSIONS};
+use flowplan_tests::reader::{read_book, Book, Flow, Job, Version, VERSIONS};
 use flowplan_tests::rng::Rng;
 use flowplan_tests::second_planner::{self, Outcome};
 use flowplan_tests::{caps, heads, linked, linked_plan, lowered, marked, twins};
@@ -220,6 +220,30 @@ fn hold_trial(version: Version, seed: u64) {
         assert!(met > 0, "number {number} was never met with caps above P");
     }
     assert!(trial.late > 0);
+}
+
+/// Jobs without a rest, with a rest of one and with the largest rest, up to the
+/// largest size; another job beside, and one behind.
+#[test]
+fn sizes_about_multiples_of_the_cap() {
+    let mut trial = Trial::new(0x5eed_0041);
+    let job = |size, cap, precedence| Job {
+        size,
+        cap,
+        precedence,
+    };
+    for cap in [1, 2, 3, 5, 64, 1_000, 4_095, 4_096] {
+        for whole in [1, 2, 3, 100, 243, 4_095, 8_191, 8_192, 1_000_000 / cap] {
+            for size in whole * cap - 1..=whole * cap + 1 {
+                if (1..=1_000_000).contains(&size) {
+                    let jobs = vec![job(size, cap, 0), job(7, 3, 0), job(1, 1, 1)];
+                    trial.compare_book(&Book::new(4_096, vec![Flow::new(4_096, jobs)]));
+                }
+            }
+        }
+    }
+    trial.print();
+    assert!(trial.met[0] > 0 && trial.met[12] > 0 && trial.met[13] > 0);
 }
 
 /// The longest book of each version, planned and checked.

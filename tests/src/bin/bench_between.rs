@@ -8,7 +8,7 @@ use flowplan_tests::answer::{CheckAnswer, PlanAnswer, WORK_BYTES};
 use flowplan_tests::books::encode_book;
 use flowplan_tests::cases::{check_cases, plan_cases, Case};
 use flowplan_tests::fast_planner;
-use flowplan_tests::measure::in_turn;
+use flowplan_tests::measure::Rounds;
 use std::cell::RefCell;
 use std::ffi::{c_char, c_int, c_void, CString};
 use std::hint::black_box;
@@ -86,37 +86,61 @@ impl Library {
     }
 }
 
-/// The ratio of one case in each run; every other run begins with `before`.
-/// None where the two answer differently.
-fn ratios<A: PartialEq>(
+/// What one run measured: the seconds of a call, and after over before.
+struct Run {
+    before: f64,
+    after: f64,
+    ratio: f64,
+}
+
+/// One case in each run; every other run begins with `before`. None where the two
+/// answer differently.
+fn measured<A: PartialEq>(
     case: &Case,
     runs: usize,
     before: &mut dyn FnMut() -> A,
     after: &mut dyn FnMut() -> A,
-) -> Option<Vec<f64>> {
+) -> Option<Vec<Run>> {
     if before() != after() {
         return None;
     }
     let (mut before, mut after) = (|| drop(before()), || drop(after()));
-    let mut ratios: Vec<f64> = (0..runs)
-        .map(|run| match run % 2 {
-            0 => in_turn(case.rounds, case.calls, &mut after, &mut before).ratio,
-            _ => 1.0 / in_turn(case.rounds, case.calls, &mut before, &mut after).ratio,
-        })
-        .collect();
-    ratios.sort_unstable_by(f64::total_cmp);
-    Some(ratios)
+    let run = |k| {
+        let (ways, [b, a]): ([&mut dyn FnMut(); 2], [usize; 2]) = match k % 2 {
+            0 => ([&mut after, &mut before], [1, 0]),
+            _ => ([&mut before, &mut after], [0, 1]),
+        };
+        let rounds = Rounds::run(case.rounds, case.calls, ways);
+        Run {
+            before: rounds.median(|times| times[b]),
+            after: rounds.median(|times| times[a]),
+            ratio: rounds.median(|times| times[a] / times[b]),
+        }
+    };
+    Some((0..runs).map(run).collect())
 }
 
-fn show(case: &Case, ratios: Option<Vec<f64>>) {
+/// The least, the median and the most of the runs.
+fn spread(runs: &[Run], of: impl Fn(&Run) -> f64) -> [f64; 3] {
+    let mut values: Vec<f64> = runs.iter().map(of).collect();
+    values.sort_unstable_by(f64::total_cmp);
+    [0, values.len() / 2, values.len() - 1].map(|k| values[k])
+}
+
+fn show(case: &Case, runs: Option<Vec<Run>>) {
     if let Some(heading) = case.heading {
         println!("{heading}");
     }
-    match ratios {
+    match runs {
         None => println!("{}: the two answer differently", case.name),
-        Some(r) => {
-            let (least, middle, most) = (r[0], r[r.len() / 2], r[r.len() - 1]);
-            println!("{}: {middle:.3} ({least:.3} to {most:.3})", case.name);
+        Some(runs) => {
+            let [_, before, _] = spread(&runs, |run| run.before * 1e6);
+            let [_, after, _] = spread(&runs, |run| run.after * 1e6);
+            let [least, middle, most] = spread(&runs, |run| run.ratio);
+            println!(
+                "{}: before {before:.2} us; after {after:.2} us; ratio {middle:.3} ({least:.3} to {most:.3})",
+                case.name
+            );
         }
     }
 }
@@ -127,7 +151,7 @@ fn main() {
     let runs = arguments
         .get(3)
         .map_or(6, |runs| runs.parse().expect("a number of runs"));
-    println!("after over before; above 1: the one after takes longer");
+    println!("ratio: after over before; above 1: the one after takes longer");
     println!("median of {runs} runs, least and most; buffers are not cleared between calls");
     let work = RefCell::new(vec![0x5a; WORK_BYTES]);
     let output = RefCell::new(vec![0; 201_326_728]);
@@ -141,7 +165,7 @@ fn main() {
                 &mut work.borrow_mut(),
             )
         };
-        let found = ratios(&case, runs, &mut || plan(&before), &mut || plan(&after));
+        let found = measured(&case, runs, &mut || plan(&before), &mut || plan(&after));
         show(&case, found);
     }
     println!("check:");
@@ -155,7 +179,7 @@ fn main() {
         let check = |library: &Library| {
             library.check(black_box(&book), black_box(&table), &mut work.borrow_mut())
         };
-        let found = ratios(&case, runs, &mut || check(&before), &mut || check(&after));
+        let found = measured(&case, runs, &mut || check(&before), &mut || check(&after));
         show(&case, found);
     }
 }
