@@ -8,13 +8,11 @@ use native.Mathlib.Omega.{arith}
 use lib.ListN.{length, take, drop}
 use lib.Seq.{take-at}
 use lib.Dec.{ltb}
-use Rattle.rules.specs.declared.Verdict.{Verdict}
-use Rattle.rules.specs.declared.Verdict.the-variants.{Pass, Refused}
 use Rattle.rules.specs.Walks.{if_then_else_}
 use Rattle.rules.specs.Answers.{none, planAccepted, planRefused, checkAccepted}
 use Rattle.rules.specs.Limits.{slots, workBytes}
 use Rattle.rules.specs.Book.{Book}
-use Rattle.rules.specs.Reading.{Reading, read, unread, readingOf, bookOf, bookFault, readBook}
+use Rattle.rules.specs.Reading.{Reading, read, unread, readBook}
 use Rattle.rules.specs.Rows.{Row, lateFlows, workUsed, workZero}
 use Rattle.rules.specs.Placing.{Plan, planned, infeasible, plan}
 use Rattle.rules.specs.Table.{tableLength, tableBytes}
@@ -22,19 +20,14 @@ use Rattle.rules.specs.Planner.{PlanOutcome, planOutcome, planReading, p
 use Rattle.rules.specs.Check.{checkCall}
 use Rattle.rules.specs.Demands.{AcceptsPlans}
 use Rattle.rules.proofs.Passing.{read-in-range}
-use Rattle.rules.proofs.Refusals.{book-numbered}
+use Rattle.rules.proofs.Refusals.{unread-numbered}
 use Rattle.rules.proofs.TableBytes.{table-bytes-length}
 use Rattle.rules.proofs.PlannedTable.{planned-table-is-schedule-table}
 use Rattle.rules.proofs.AcceptsExactly.{accepts-exactly}
 
 -- a book that is not read is refused by a number from 1 on
 pub unread-number : (s : List ℕ) (n f j : ℕ) → readBook s ≡ unread n f j → 1 ≤ n
-unfolding readBook
-unread-number s n f j = go (bookFault s) refl
-  where
-    go : (v : Verdict) → bookFault s ≡ v → readingOf v (bookOf s) ≡ unread n f j → 1 ≤ n
-    go Pass q e = absurd (let z : _≡_ {A = ℕ} 0 1 = cc in omega arith)
-    go (Refused m g i) q e = let d : m ≡ n = cc in omega (arith, book-numbered s .among m g i q .0)
+unread-number s n f j e = unread-numbered s n f j e .0
 
 module _ (book out area other : List ℕ) (long : workBytes ≤ length other) where
   -- the outcome's table is accepted, if its number is 0

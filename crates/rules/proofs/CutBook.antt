@@ -7,6 +7,7 @@ use mathlib.Core.Bool.{Bool, true, false, false≢true}
 use mathlib.Core.List.{List, [], _∷_}
 use mathlib.Core.Logic.{_⊎_, inl, inr, ⊎-elim}
 use native.Mathlib.Nat.{add-zero, zero-add, not-suc-le-zero, le-of-suc-le-suc, eq-or-lt-of-le}
+use native.Mathlib.Numerals.{add-one}
 use native.Mathlib.Omega.{arith}
 use lib.ListN.{length, getD}
 use lib.Dec.{eqb}
@@ -16,7 +17,8 @@ use Rattle.rules.specs.Book.{Flow, Book, flowCount, noFlow, flowIn, lowe
 use Rattle.rules.specs.Reading.{bookBytes, readBook}
 use Rattle.rules.specs.Reading.Reading.{read}
 use Rattle.rules.specs.Service.{servedBefore}
-use Rattle.rules.specs.Cut.{amongFirst, keepFlows, cut}
+use Rattle.rules.specs.Cut.{amongFirst, keepFlows, cut, numberInCut}
+use Rattle.rules.proofs.Division.{lt-or-ge}
 use Rattle.rules.proofs.Sums.{sum-ext, sum-add, sum-first, count-none, count-most, count-equal, bit-or}
 use Rattle.rules.proofs.Walks.{next-start, any-true, any-met}
 use Rattle.rules.proofs.ServiceOrder.{Earlier, served-earlier, earlier-served, service-below, service-position, service-sorted, service-once, servedAt, SortedTo, EachIn, sorted-agree}
@@ -96,6 +98,22 @@ chosen-laws q (suc n) s = go (q s) refl (chosen q n (s + 1)) (chosen-laws q n (s
       found = λ f l h d. ⊎-elim (λ z. absurd (false≢true (sym e ∙ ap q z ∙ d))) (λ z. p .found f (omega arith) (omega arith) d) (eq-or-lt-of-le l);
     }
 
+-- as many pass before the m-th of them as before the first number, and m more
+pub chosen-counted : (q : ℕ → Bool) (n s m : ℕ) → m < length (chosen q n s) → countTo q (getD (chosen q n s) m 0) ≡ countTo q s + m
+unfolding chosen sumTo
+chosen-counted q zero s m l = absurd (not-suc-le-zero l)
+chosen-counted q (suc n) s m l = go (q s) refl m l (chosen-counted q n (s + 1))
+  where
+    next : countTo q (s + 1) ≡ countTo q s + bit (q s)
+    next = ap (countTo q) (add-one s)
+
+    go : (t : Bool) → q s ≡ t → (m : ℕ) → m < length (if t then s ∷ chosen q n (s + 1) else chosen q n (s + 1)) →
+        ((m : ℕ) → m < length (chosen q n (s + 1)) → countTo q (getD (chosen q n (s + 1)) m 0) ≡ countTo q (s + 1) + m) →
+        countTo q (getD (if t then s ∷ chosen q n (s + 1) else chosen q n (s + 1)) m 0) ≡ countTo q s + m
+    go true e zero h ih = sym (add-zero (countTo q s))
+    go true e (suc m) h ih = ih m (le-of-suc-le-suc h) ∙ omega (arith, next, ap bit e)
+    go false e m h ih = ih m h ∙ omega (arith, next, ap bit e)
+
 -- ---- the flows that are kept
 -- as many flows are kept as numbers are chosen
 pub keep-length : (q : ℕ → Bool) (s : ℕ) (ws : List Flow) → length (keepFlows q s ws) ≡ length (chosen q (length ws) s)
@@ -151,6 +169,20 @@ module _ (b : Book) (k : ℕ) where
   pub kept-rises : (m n : ℕ) → m < n → n < flowCount (cut b k) → kept b k m < kept b k n
   unfolding kept
   kept-rises m n l h = chosen-here .rises m n l (omega (arith, cut-length))
+
+  -- so flows that differ stay so
+  pub kept-once : (m n : ℕ) → m < flowCount (cut b k) → n < flowCount (cut b k) → kept b k m ≡ kept b k n → m ≡ n
+  kept-once m n p q e = go (lt-or-ge m n) (lt-or-ge n m)
+    where
+      go : (m < n) ⊎ (n ≤ m) → (n < m) ⊎ (m ≤ n) → m ≡ n
+      go (inl l) y = absurd (omega (arith, kept-rises m n l q))
+      go (inr l) (inl h) = absurd (omega (arith, kept-rises n m h p))
+      go (inr l) (inr h) = omega arith
+
+  -- and the number that it has in the cut book is counted off there
+  pub number-kept : (n : ℕ) → n < flowCount (cut b k) → numberInCut b k (kept b k n) ≡ n
+  unfolding numberInCut kept
+  number-kept n l = chosen-counted (amongFirst b k) (flowCount b) 0 n (omega (arith, cut-length)) ∙ (unfold sumTo in zero-add n)
 
   -- every flow among the first k is kept
   pub among-kept : (f : ℕ) → f < flowCount b → amongFirst b k f ≡ true → (n : ℕ) × (n < flowCount (cut b k)) × (kept b k n ≡ f)

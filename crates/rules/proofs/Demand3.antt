@@ -80,7 +80,7 @@ module _ (c : Book) (range : InRange c) (out area : List ℕ) where
   owed (infeasible f) e = owed-infeasible f e
 
   -- with a work area that is long enough the outcome is that of the plan
-  call-plans : (book : List ℕ) → readBook book ≡ read c → workBytes ≤ length area → planCall book out area ≡ planOutcome c out area (plan c)
+  pub call-plans : (book : List ℕ) → readBook book ≡ read c → workBytes ≤ length area → planCall book out area ≡ planOutcome c out area (plan c)
   unfolding planCall planReading
   call-plans book e h = rw (e, le-ltb (length area) workBytes h) refl
 

@@ -1,7 +1,7 @@
 -- Demand 3 on values: what a plan of a book in range guarantees, and what its refusal proves. The theorems are stated of the rules' own `plan`;
 -- validity is proved in PlannedValid, the refusal and the quote in Infeasible. Assumes nothing.
 use mathlib.Core.Path.{_≡_}
-use Prim.Native.Nat.{ℕ, suc, _+_, _*_, _/_, _≤_, _<_}
+use Prim.Native.Nat.{ℕ, suc, _+_, _*_, _/_, _^_, _≤_, _<_}
 use mathlib.Core.List.{List}
 use native.Mathlib.Omega.{arith}
 use Rattle.rules.specs.Book.{Book, flowCount, flowOf, InRange}
@@ -10,6 +10,7 @@ use Rattle.rules.specs.Rows.{Row, finishOf}
 use Rattle.rules.specs.Schedule.{Schedule, everyFlow, Valid, EndsBy, scheduleOf}
 use Rattle.rules.specs.Placing.{planned, infeasible, placeFirst, plan}
 use Rattle.rules.specs.Demands.{PlannedWell, NoneOnTime}
+use Rattle.rules.proofs.Caps.{used-in-range}
 use Rattle.rules.proofs.Greedy.{unitsLeftAt}
 use Rattle.rules.proofs.Necessity.{worksUpTo}
 use Rattle.rules.proofs.RowSums.{finish-ends}
@@ -28,9 +29,13 @@ planned-well b range rows e = record {
 pub planned-finish-within-twice : (b : Book) → InRange b → (rows : List Row) → plan b ≡ planned rows → (f : ℕ) → finishOf rows f ≤ 2 * flowOf b f .deadline
 planned-finish-within-twice b range rows e = first-finish-within-twice b range (flowCount b) rows (omega arith) (all-placed b range rows e)
 
+-- so it fits its field in a table
+pub planned-finish-fits : (b : Book) → InRange b → (rows : List Row) → plan b ≡ planned rows → (f : ℕ) → f < flowCount b → finishOf rows f < 256 ^ 2
+planned-finish-fits b range rows e f l = omega (arith, planned-finish-within-twice b range rows e f, used-in-range range f l .deadline-most)
+
 -- "no whole-slot schedule of that flow and those before it, whoever made it, keeps the same rules and ends each of them by its own deadline"
 pub infeasible-proves : (b : Book) → InRange b → (f : ℕ) → plan b ≡ infeasible f → (f < flowCount b) × NoneOnTime b f
-infeasible-proves b range f e = stopped-proves b range f (placing-stops b (flowCount b) f (unfold plan in e))
+infeasible-proves b range f e = stopped-proves b range (flowCount b) f (omega arith) (placing-stops b (flowCount b) f (unfold plan in e))
 
 -- a plan without late flows is a schedule on time: what a refusal denies can be had
 pub on-time-plan : (b : Book) → InRange b → (rows : List Row) → plan b ≡ planned rows →

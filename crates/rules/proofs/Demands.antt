@@ -1,5 +1,5 @@
--- The demands, all of them, of the outcomes of planner, check and dispatch list. The contracts of the exported calls say that they have these outcomes.
--- Assumes nothing.
+-- The demands, all of them, of the outcomes of planner, check, dispatch list and finish of one flow. The contracts of the exported calls say that they
+-- have these outcomes. Assumes nothing.
 use Rattle.rules.specs.Demands.{Demands}
 use Rattle.rules.proofs.Refusals.{demand-1}
 use Rattle.rules.proofs.PlansByTheRules.{plans-by-the-rules}
@@ -9,6 +9,7 @@ use Rattle.rules.proofs.AcceptsPlans.{accepts-plans}
 use Rattle.rules.proofs.Versions.{version-1-kept}
 use Rattle.rules.proofs.Lowered.{caps-lowered}
 use Rattle.rules.proofs.Dispatches.{dispatches}
+use Rattle.rules.proofs.Finishes.{finishes}
 
 pub demands : Demands
 demands = record {
@@ -20,4 +21,5 @@ demands = record {
   version-1-kept = version-1-kept;
   caps-lowered = caps-lowered;
   dispatches = dispatches;
+  finishes = finishes;
 }

@@ -45,25 +45,26 @@ module _ (b : Book) (range : InRange b) where
   free-or-used n earlier e t u =
       rw e (omega (arith, free-from-release b (servedAt b n) earlier t (released (servedFlow b n) t u)))
 
+  -- the flows up to place n are those up to the flow at n
+  pub up-to-at : (n f : ℕ) → n < flowCount b → servedAt b n ≡ f → (m : ℕ) → m < suc n → upTo b f (servedAt b m) ≡ true
+  up-to-at n f below at m l =
+      last-or m n l (λ q. here (servedAt b m) (ap (servedAt b) q ∙ at)) (λ k. earlier (servedAt b m) (rw at at (service-sorted b m n k below)))
+    where
+      here : (g : ℕ) → g ≡ f → (eqb g f || servedBefore b g f) ≡ true
+      here g q = rw (eq-eqb g f q) refl
+
+      earlier : (g : ℕ) → servedBefore b g f ≡ true → (eqb g f || servedBefore b g f) ≡ true
+      earlier g q = go (eqb g f)
+        where
+          go : (c : Bool) → (c || servedBefore b g f) ≡ true
+          go true = refl
+          go false = q
+
   -- ---- a schedule of the flows up to f, at place n, that ends each by its deadline
   module _ (n f : ℕ) (below : n < flowCount b) (at : servedAt b n ≡ f) (σ : Schedule) (valid : Valid b (upTo b f) σ)
       (on-time : (g : ℕ) → g < flowCount b → upTo b f g ≡ true → EndsBy σ g (flowOf b g .deadline)) where
-    -- the flows up to place n are those up to f
-    up-to-at : (m : ℕ) → m < suc n → upTo b f (servedAt b m) ≡ true
-    up-to-at m l = last-or m n l (λ q. here (servedAt b m) (ap (servedAt b) q ∙ at)) (λ k. earlier (servedAt b m) (rw at at (service-sorted b m n k below)))
-      where
-        here : (g : ℕ) → g ≡ f → (eqb g f || servedBefore b g f) ≡ true
-        here g q = rw (eq-eqb g f q) refl
-
-        earlier : (g : ℕ) → servedBefore b g f ≡ true → (eqb g f || servedBefore b g f) ≡ true
-        earlier g q = go (eqb g f)
-          where
-            go : (c : Bool) → (c || servedBefore b g f) ≡ true
-            go true = refl
-            go false = q
-
     is-job : (m i : ℕ) → m < suc n → i < jobCount (servedFlow b m) → IsJob b (upTo b f) (servedAt b m) i
-    is-job m i l a = record { flow-among = up-to-at m l; flow-in = service-below b m (omega arith); job-in = a }
+    is-job m i l a = record { flow-among = up-to-at n f below at m l; flow-in = service-below b m (omega arith); job-in = a }
 
     in-released : (m i t : ℕ) → m < suc n → i < jobCount (servedFlow b m) → 0 < σ (servedAt b m) i t → usable (servedFlow b m) t ≡ true
     in-released m i t l a g = go (lt-or-ge t (servedFlow b m .release))
@@ -90,7 +91,7 @@ module _ (b : Book) (range : InRange b) where
     ends-complete : (m : ℕ) → m < suc n → CompleteBy (servedFlow b m) (σ (servedAt b m)) (servedFlow b m .deadline)
     ends-complete m l i a =
         let quiet : (t : ℕ) → servedFlow b m .deadline ≤ t → σ (servedAt b m) i t ≡ 0 =
-        λ t. (unfold EndsBy in on-time (servedAt b m) (service-below b m (omega arith)) (up-to-at m l) i t) in
+        λ t. (unfold EndsBy in on-time (servedAt b m) (service-below b m (omega arith)) (up-to-at n f below at m l) i t) in
         omega (arith, valid .sizes (servedAt b m) i (is-job m i l a), sum-quiet (σ (servedAt b m) i) (servedFlow b m .deadline) (valid .horizon) quiet)
 
     pub sequence-on-time : OnTime (b .processors) (suc n) (servedFlow b) (λ m. usable (servedFlow b m)) (λ m. servedFlow b m .deadline) (λ m. σ (servedAt b m))
@@ -116,12 +117,13 @@ module _ (b : Book) (range : InRange b) where
       (λ m. σ (servedAt b m)) (sequence-on-time n (servedAt b n) below refl σ valid on-time)
 
   -- a flow that stops the placing
-  pub stopped-proves : (f : ℕ) → Stopped b (flowCount b) f → (f < flowCount b) × NoneOnTime b f
-  stopped-proves f s =
+  pub stopped-proves : (m f : ℕ) → m ≤ flowCount b → Stopped b m f → (f < flowCount b) × NoneOnTime b f
+  stopped-proves m f h s =
       let n = s .place in
+      let below : n < flowCount b = omega (arith, s .place-below) in
       let left : 0 < unitsLeftAt (servedFlow b n) (freeFor b n) (slotsFor (servedFlow b n)) =
-      something-left (servedFlow b n) (freeFor b n) (chain-live (servedFlow b n) (sized-at b range n (s .place-below))) (slotsFor (servedFlow b n)) (s .not-finished) in
-      (rw (s .served) at (service-below b n (s .place-below)), rw (s .served) at (none-on-time n (s .earlier) (s .place-below) (s .placed-before) left))
+      something-left (servedFlow b n) (freeFor b n) (chain-live (servedFlow b n) (sized-at b range n below)) (slotsFor (servedFlow b n)) (s .not-finished) in
+      (rw (s .served) at (service-below b n below), rw (s .served) at (none-on-time n (s .earlier) below (s .placed-before) left))
 
   -- ---- the quote
   -- while work is left: the slots from the release to t are fewer than the path and the area of the flows up to it

@@ -8,6 +8,7 @@ pub mod PlansByTheRules
 pub mod AcceptsExactly
 pub mod AcceptsPlans
 pub mod Dispatches
+pub mod Finishes
 -- laws that the proofs here and in the crates above cite
 pub mod Division
 pub mod Bits
@@ -22,6 +23,7 @@ pub mod RoundTrip
 pub mod Versions
 pub mod ServiceOrder
 pub mod CutBook
+pub mod Position
 pub mod SameUse
 pub mod Lowered
 -- rules 1 to 3 and 5
@@ -46,6 +48,7 @@ pub mod PlacedFlow
 pub mod PlannedRows
 pub mod PlannedValid
 pub mod PlannedTable
+pub mod CutPlan
 pub mod Infeasible
 -- tables, and what the check accepts
 pub mod TableBytes

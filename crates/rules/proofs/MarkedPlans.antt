@@ -1,13 +1,13 @@
--- The marked plans A to F of document 01, E as Req 02 has it, G for releases (02, Req 01) and H for caps above P (02, Req 02), and the dispatch lists of
--- A, D and F (02, Req 03), shown of the rules themselves by one theorem: whole outcomes, with output and work area. Each field is computed from the
--- definitions. Assumes nothing.
+-- The marked plans A to F of document 01, E as Req 02 has it, G for releases (02, Req 01) and H for caps above P (02, Req 02), the dispatch lists of
+-- A, D and F (02, Req 03), and finishes of single flows of A, G and I (02, Req 05), shown of the rules themselves by one theorem: whole outcomes, with output
+-- and work area. Each field is computed from the definitions. Assumes nothing.
 use mathlib.Core.Path.{_≡_, refl}
 use Prim.Native.Nat.{ℕ, zero, suc, _*_, _-_, _/_, _%_, _^_}
 use mathlib.Core.List.{List, [], _∷_, _++_}
 use lib.ListN.{replicate}
 use Rattle.rules.specs.Walks.{sumTo, maxTo, anyTo, allTo, listFrom, joinFrom}
 use Rattle.rules.specs.Fields.{field, bytesOf}
-use Rattle.rules.specs.Answers.{firstFault, planAccepted, planRefused, checkAccepted, checkRefused, listAccepted, listRefused}
+use Rattle.rules.specs.Answers.{firstFault, planAccepted, planRefused, checkAccepted, checkRefused, listAccepted, listRefused, finishAccepted, finishRefused}
 use Rattle.rules.specs.Book.{flowIn, lowerCap, lowerCaps, flowOf, jobOf, hasBit}
 use Rattle.rules.specs.Reading.{
   releaseSize,
@@ -26,7 +26,7 @@ use Rattle.rules.specs.Reading.{
 }
 use Rattle.rules.specs.Ideal.{quotientUp, duration, lastTake, startAfter, endsBelow, startOf, endOf, path, takeOf}
 use Rattle.rules.specs.PseudoJobs.{unchanged, prepend, runs, chain, rate, work}
-use Rattle.rules.specs.Service.{servedBefore, insertFlow, orderOf, serviceOrder}
+use Rattle.rules.specs.Service.{servedBefore, insertFlow, orderOf, serviceOrder, position}
 use Rattle.rules.specs.Rows.{
   rowFor,
   sumWhere,
@@ -82,6 +82,7 @@ use Rattle.rules.specs.Dispatch.{
   dispatchChecked,
   dispatchCall,
 }
+use Rattle.rules.specs.Finish.{finishOutcome, finishReading, finishCall}
 
 -- n bytes, written as one hexadecimal number, so that a listing stands as the document has it
 abbrev hex : ℕ → ℕ → List ℕ
@@ -182,6 +183,13 @@ tableH =
     ++ hex 18 0x0000_00_00_0002_0001_00_00_0001_0001_00_01_0001
     ++ hex 24 0x0002_00_00_0001_0002_00_01_0001_0003_00_00_0002_0004_00_01_0001
 
+-- I: P 2, three flows of one job with cap 1. Flow 0: deadline 2, size 5, which is infeasible. Flow 1: deadline 1, size 1. Flow 2: deadline 3, size 1
+abbrev bookI : List ℕ
+bookI =
+    hex 25 0x0000003b_01_0002_03_0002_01_00000005_0001_0000000000000000
+    ++ hex 17 0x0001_01_00000001_0001_0000000000000000
+    ++ hex 17 0x0003_01_00000001_0001_0000000000000000
+
 -- an output of n bytes, and a work area of 16,384, filled with nines
 abbrev out : ℕ → List ℕ
 out n = replicate n 9
@@ -205,6 +213,30 @@ pub record MarkedLists : Type 0 where
 pub marked-lists : MarkedLists
 unfolding anyTo listFrom joinFrom field bytesOf firstFault flowIn lowerCap lowerCaps flowOf jobOf hasBit releaseSize releaseAt jobsAt flowStart jobAt flowAt bookOf flowHeadFault jobFault flowFault leftoverFault bookFault readBook sumTo servedBefore sumWhere usedIn totalOf doneBefore finishOf isLate lateFlows workUsed workZero rowBytes rowsBytes rowAt tableRows tableHeadFault rowBefore rises lacksPredecessor beforeRelease rowFault totalFault finishFault tableFault checkOutcome checkReading checkCall listedBefore insertRow listRows listLength listBytes listOutcome dispatchChecked dispatchCall
 marked-lists = record { A-listed = refl; A-list-too-long = refl; D-listed = refl; F-not-listed = refl }
+
+-- the finishes of single flows (02, Req 05): flow 1 of A is served before flow 0, flow 1 of G before flow 0, and flow 1 of I before the infeasible one
+pub record MarkedFinishes : Type 0 where
+  pub A-flow-0 : finishCall bookA 0 area ≡ record { answer = finishAccepted 6; area = used 6 0x0003_0003_0003_0001_0003_0001 }
+  pub A-flow-1 : finishCall bookA 1 area ≡ record { answer = finishAccepted 3; area = used 3 0x0002_0002_0001 }
+  pub A-flow-256 : finishCall bookA 256 [] ≡ record { answer = finishRefused 23 255 255; area = [] }
+  pub A-no-area : finishCall bookA 1 [] ≡ record { answer = finishRefused 11 255 255; area = [] }
+  pub G-flow-1 : finishCall bookG 1 area ≡ record { answer = finishAccepted 3; area = used 3 0x0002_0002_0002 }
+  pub I-before : finishCall bookI 1 area ≡ record { answer = finishAccepted 1; area = used 1 0x0001 }
+  pub I-infeasible : finishCall bookI 0 area ≡ record { answer = finishRefused 12 0 255; area = used 0 0 }
+  pub I-after : finishCall bookI 2 area ≡ record { answer = finishRefused 12 0 255; area = used 0 0 }
+
+pub marked-finishes : MarkedFinishes
+unfolding sumTo maxTo anyTo allTo listFrom joinFrom field bytesOf firstFault flowIn lowerCap lowerCaps flowOf jobOf hasBit releaseSize releaseAt jobsAt flowStart jobAt flowAt bookOf flowHeadFault jobFault flowFault leftoverFault bookFault readBook quotientUp duration lastTake startAfter endsBelow startOf endOf path takeOf unchanged prepend runs chain rate work servedBefore insertFlow orderOf serviceOrder rowFor sumWhere usedIn finishOf workUsed workZero slotUnits units unitsOf share given afterSlot slotRows progress flowRows usable freeProcessors placeFlow placeFirst position finishOutcome finishReading finishCall
+marked-finishes = record {
+  A-flow-0 = refl;
+  A-flow-1 = refl;
+  A-flow-256 = refl;
+  A-no-area = refl;
+  G-flow-1 = refl;
+  I-before = refl;
+  I-infeasible = refl;
+  I-after = refl;
+}
 
 -- all of it
 pub record MarkedPlans : Type 0 where
@@ -236,6 +268,7 @@ pub record MarkedPlans : Type 0 where
   pub F-slot-3-take-2 : checkCall bookA (tableF 2) area ≡ record { answer = checkRefused 19 0 1; area = used 0 0 }
   pub A-accepted : checkCall bookA tableA area ≡ record { answer = checkAccepted 1; area = used 6 0x0003_0003_0003_0001_0003_0001 }
   pub lists : MarkedLists
+  pub finishes : MarkedFinishes
   pub G : planCall bookG (out 60) area
       ≡ record { answer = planAccepted 0 54; output = tableG ++ out 6; area = used 6 0x0002_0002_0003_0002_0001_0001 }
   pub G-accepted : checkCall bookG tableG area ≡ record { answer = checkAccepted 0; area = used 6 0x0002_0002_0003_0002_0001_0001 }
@@ -262,6 +295,7 @@ marked-plans = record {
   F-slot-3-take-2 = refl;
   A-accepted = refl;
   lists = marked-lists;
+  finishes = marked-finishes;
   G = refl;
   G-accepted = refl;
   G-row-before-release = refl;

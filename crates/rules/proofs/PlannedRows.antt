@@ -10,14 +10,15 @@ use Rattle.rules.specs.Walks.{sumTo, joinFrom}
 use Rattle.rules.specs.Book.{Flow, Book, flowCount, jobCount, flowOf}
 use Rattle.rules.specs.PseudoJobs.{PseudoJob, rate, work}
 use Rattle.rules.specs.Service.{serviceOrder}
-use Rattle.rules.specs.Rows.{Row, rowFor}
+use Rattle.rules.specs.Rows.{Row, rowFor, finishOf}
 use Rattle.rules.specs.Schedule.{scheduleOf}
 use Rattle.rules.specs.Placing.{unitsOf, share, given, slotRows, progress, flowRows, freeProcessors, slotsFor, Plan, planned, infeasible, settled, placeFlow, thenPlace, placeFirst, rowsOf}
 use Rattle.rules.proofs.Sums.{sum-nothing, sum-one}
 use Rattle.rules.proofs.Walks.{last-or, join-ext, join-snoc, join-last}
 use Rattle.rules.proofs.ServiceOrder.{service-once}
-use Rattle.rules.proofs.RowSums.{isAt}
-use Rattle.rules.proofs.FlowRows.{sum-where-join, flowGrid, grid-states, grid-states-nothing}
+use Rattle.rules.proofs.Rising.{_∈_, join-in, in-join}
+use Rattle.rules.proofs.RowSums.{isAt, finish-same}
+use Rattle.rules.proofs.FlowRows.{sum-where-join, flowGrid, grid-states, grid-states-nothing, grid-in}
 use Rattle.rules.proofs.PlacedFlow.{shareTo, shareIn}
 
 -- ---- the rows of one flow
@@ -156,6 +157,22 @@ placed-earlier b zero rows e n l = absurd (omega arith)
 placed-earlier b (suc k) rows e n l =
     let s = placed-next b k rows e in
     last-or n k l (λ q. (s .earlier, rw q (s .placed-before))) (λ m. placed-earlier b k (s .earlier) (s .placed-before) n m)
+
+-- the rows of a flow are its own, so that the flows after it do not change its finish
+grid-flow : (b : Book) (n : ℕ) (r : Row) → r ∈ plannedGrid b n → r .flow ≡ servedAt b n
+unfolding plannedGrid
+grid-flow b n r m =
+    ap (λ (x : Row). x .flow) (grid-in (servedAt b n) (jobCount (servedFlow b n)) (slotsFor (servedFlow b n)) (plannedShare b n) r m .4)
+
+pub finish-settled : (b : Book) (m k : ℕ) (first rows : List Row) → m ≤ k → k ≤ flowCount b → placeFirst b m ≡ planned first → placeFirst b k ≡ planned rows →
+    (n : ℕ) → n < m → finishOf first (servedAt b n) ≡ finishOf rows (servedAt b n)
+finish-settled b m k first rows l h e d n c =
+    rw (placed-rows b m first e, placed-rows b k rows d)
+    (finish-same (joinFrom (plannedGrid b) m 0) (joinFrom (plannedGrid b) k 0) (servedAt b n)
+    (λ r i q. let w = join-in (plannedGrid b) m i in in-join (plannedGrid b) k (w .0) (omega (arith, w .1)) (w .2))
+    (λ r i q. let w = join-in (plannedGrid b) k i in
+    let same : w .0 ≡ n = service-once b (w .0) n (omega (arith, w .1)) (omega arith) (sym (grid-flow b (w .0) r (w .2)) ∙ q) in
+    in-join (plannedGrid b) m (w .0) (omega arith) (w .2)))
 
 -- they state for a flow what its own rows state, and nothing for the others
 module _ (b : Book) (k : ℕ) (rows : List Row) (e : placeFirst b k ≡ planned rows) where

@@ -17,7 +17,7 @@ use Rattle.rules.specs.Fields.{byte, field}
 use Rattle.rules.specs.Answers.{none, _andThen_, firstFault, planAccepted, planRefused, checkRefused}
 use Rattle.rules.specs.Limits.{outside, mostProcessors, mostFlows, mostDeadline, mostJobs, mostSize, mostCap, slots, workBytes}
 use Rattle.rules.specs.Book.{Book, flowCount, jobCount, flowOf, jobOf}
-use Rattle.rules.specs.Reading.{bookHead, versionOf, flowHead, jobRecord, releaseAt, jobsAt, flowStart, jobStart, flowHeadFault, jobFault, flowFault, leftoverFault, bookFault, bookOf, readingOf, readBook}
+use Rattle.rules.specs.Reading.{bookHead, versionOf, flowHead, jobRecord, releaseAt, jobsAt, flowStart, jobStart, flowHeadFault, jobFault, flowFault, leftoverFault, bookFault, bookOf, unread, readingOf, readBook}
 use Rattle.rules.specs.Rows.{Row, usedIn, totalOf, finishOf, lateFlows, workUsed, workZero}
 use Rattle.rules.specs.Placing.{Plan, plan}
 use Rattle.rules.specs.Placing.Plan.{planned, infeasible}
@@ -94,6 +94,15 @@ book-numbered s =
     (numbered-then byEleven (firstFault (λ f. flowFault s f (flowStart s f)) (byte s 7)) (leftoverFault s)
     (numbered-first byEleven (λ f. flowFault s f (flowStart s f)) (byte s 7) (λ f. flow-numbered s f (flowStart s f))) (leftover-numbered s)))))
 
+-- a book that is not read is refused by one of these numbers
+pub unread-numbered : (s : List ℕ) (n f j : ℕ) → readBook s ≡ unread n f j → (1 ≤ n) × (byEleven n ≡ true)
+unfolding readBook
+unread-numbered s n f j = go (bookFault s) refl
+  where
+    go : (v : Verdict) → bookFault s ≡ v → readingOf v (bookOf s) ≡ unread n f j → (1 ≤ n) × (byEleven n ≡ true)
+    go Pass q e = absurd (let z : _≡_ {A = ℕ} 0 1 = cc in omega arith)
+    go (Refused m g i) q e = let d : m ≡ n = cc in rw d at (book-numbered s .among m g i q)
+
 -- ---- "14, then 15 to 19 in order for each row, then 20, 21"
 abbrev pub ofTable : ℕ → Bool
 ofTable n = leb 14 n && leb n 21
@@ -147,7 +156,7 @@ record PlannerAnswers (out area : List ℕ) (o : PlanOutcome) : Type 0 where
   refusal : 0 < o .answer .number → PlannerRefusal out area o
 
 -- a refusal before or by 11, and one after it
-early-number : {X : Type 0} (n : ℕ) → byEleven n ≡ true → (n ≤ 11 → X) → (n ≡ 22 → X) → X
+pub early-number : {X : Type 0} (n : ℕ) → byEleven n ≡ true → (n ≤ 11 → X) → (n ≡ 22 → X) → X
 early-number {X} n e low last = go (leb n 11) refl e
   where
     go : (t : Bool) → leb n 11 ≡ t → (t || eqb n 22) ≡ true → X

@@ -250,6 +250,16 @@ finish-least (r ∷ rs) f n h = go (eqb (r .flow) f) refl (finish-least rs f n (
     go true e ih = rw e (omega (arith, h r (first-in r rs) (eqb-true (r .flow) f e)))
     go false e ih = rw e (omega arith)
 
+-- lists with the same rows of a flow have its finish
+pub finish-same : (xs ys : List Row) (f : ℕ) → ((r : Row) → r ∈ xs → r .flow ≡ f → r ∈ ys) → ((r : Row) → r ∈ ys → r .flow ≡ f → r ∈ xs) →
+    finishOf xs f ≡ finishOf ys f
+finish-same xs ys f over back =
+    omega (
+      arith,
+      finish-least xs f (finishOf ys f) (λ r m e. finish-above ys f r (over r m e) e),
+      finish-least ys f (finishOf xs f) (λ r m e. finish-above xs f r (back r m e) e),
+    )
+
 -- "A flow ends by its deadline .. when its finish is at most that."
 pub finish-ends : (rows : List Row) (f d : ℕ) → finishOf rows f ≤ d → EndsBy (scheduleOf rows) f d
 unfolding EndsBy

@@ -10,13 +10,14 @@ use Rattle.rules.specs.Walks.{countTo}
 use Rattle.rules.specs.Answers.{_andThen_, firstFault}
 use Rattle.rules.specs.Book.{Book, flowCount, jobCount, flowOf}
 use Rattle.rules.specs.Reading.{read}
-use Rattle.rules.specs.Service.{servedBefore, insertFlow, orderOf, serviceOrder}
+use Rattle.rules.specs.Service.{servedBefore, insertFlow, orderOf, serviceOrder, position}
 use Rattle.rules.specs.Rows.{Row, finishOf, isLate, lateFlows}
 use Rattle.rules.specs.Placing.{freeProcessors, Plan, planned, infeasible, placeFlow, thenPlace, placeFirst, plan}
 use Rattle.rules.specs.Table.{tableLength, tableBytes}
 use Rattle.rules.specs.Planner.{planOutcome, planReading}
 use Rattle.rules.specs.Check.{tableRows, tableHeadFault, rowBefore, rises, noRow, lacksPredecessor, beforeRelease, rowFault, totalFault, finishFault, tableFault, CheckOutcome, checkOutcome, checkReading}
 use Rattle.rules.specs.Dispatch.{listBytes, listOutcome, dispatchChecked}
+use Rattle.rules.specs.Finish.{upToNamed, finishReading}
 
 -- all that plan, table and faults read of a book
 pub record SameUse (b c : Book) : Type 0 where
@@ -124,6 +125,15 @@ module _ (b c : Book) (same : SameUse b c) where
   pub check-reading-same : (s area : List ℕ) → checkReading s area (read b) ≡ checkReading s area (read c)
   unfolding checkReading
   check-reading-same s area = rw (fault-same s, judged-same s area (tableFault c s)) refl
+
+  -- ---- the outcome of the finish of one flow
+  position-same : (f : ℕ) → position b f ≡ position c f
+  unfolding position
+  position-same f = λ x. countTo (λ g. served-same g f x) (same .count x)
+
+  pub finish-reading-same : (f : ℕ) (area : List ℕ) → finishReading f area (read b) ≡ finishReading f area (read c)
+  unfolding finishReading
+  finish-reading-same f area = rw (same .count, position-same f, first-same (upToNamed c f)) refl
 
   -- ---- the outcome of the dispatch list
   pub dispatch-same : (table out area : List ℕ) (o : CheckOutcome) →

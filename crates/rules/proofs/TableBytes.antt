@@ -5,7 +5,7 @@ use mathlib.Core.Path.{_≡_, refl, sym, subst, _∙_}
 use mathlib.Core.Bool.{false, not}
 use Prim.Native.Nat.{ℕ, zero, suc, _+_, _*_, _-_, _/_, _%_, _^_, _≤_, _<_}
 use native.Mathlib.Omega.{arith}
-use mathlib.Core.List.{List, [], _∷_, _++_, List·Memᴰ·tail}
+use mathlib.Core.List.{List, [], _∷_, _++_, append-nil, List·Memᴰ·tail}
 use lib.ListN.{length, length-append}
 use lib.Dec.{eqb}
 use borrow.Author.Tests.{ltb-false, eqb-true, le-ltb, eq-eqb, not-false}
@@ -192,10 +192,17 @@ head-written b rows range fits =
       eq-eqb ((length s - tableHead b) % rowLength) 0 (omega arith),
     ) refl
 
+-- the finish of a flow, whatever follows the table
+pub finish-in-front : (b : Book) (rows : List Row) (rest : List ℕ) (f : ℕ) → f < flowCount b → finishOf rows f < 256 ^ 2 →
+    statedFinish (tableBytes b rows ++ rest) f ≡ finishOf rows f
+finish-in-front b rows rest f l fits =
+    let s = tableBytes b rows ++ rest in
+    field-written 2 (finishOf rows f) s (8 + 2 * f) fits
+    (stands-parts b rows s (stands-first s 0 (tableBytes b rows) rest (stands-whole s)) .finish-stands f l)
+
 pub finish-written : (b : Book) (rows : List Row) (f : ℕ) → f < flowCount b → finishOf rows f < 256 ^ 2 →
     statedFinish (tableBytes b rows) f ≡ finishOf rows f
-finish-written b rows f l fits =
-    field-written 2 (finishOf rows f) (tableBytes b rows) (8 + 2 * f) fits (written-parts b rows .finish-stands f l)
+finish-written b rows f l fits = rw append-nil at (finish-in-front b rows [] f l fits)
 
 -- ---- writing again what was read
 -- what is read of bytes fits

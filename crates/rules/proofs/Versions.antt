@@ -71,7 +71,8 @@ module _ (book : List ℕ) (b : Book) (e : readBook book ≡ read b) where
       fits (inl one) f l = rw one (omega (arith, read-release-zero one f l))
       fits (inr two) f l = rw two (writable-two b (read-in-range book b e) .release-fits f l)
 
-  same-reading : readBook book ≡ readBook (bookBytes 2 b)
+  -- the version 2 book with these values reads alike
+  pub same-reading : readBook book ≡ readBook (bookBytes 2 b)
   same-reading = let r = read-in-range book b e in e ∙ sym (read-written 2 b r (writable-two b r))
 
 -- a version 1 book has every former result: that of the version 2 book with every release 0

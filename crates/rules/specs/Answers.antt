@@ -5,6 +5,7 @@ use Rattle.rules.specs.declared.Verdict.the-variants.{Pass, Refused}
 use Rattle.rules.specs.declared.PlanAnswer.{PlanAnswer}
 use Rattle.rules.specs.declared.CheckAnswer.{CheckAnswer}
 use Rattle.rules.specs.declared.ListAnswer.{ListAnswer}
+use Rattle.rules.specs.declared.FinishAnswer.{FinishAnswer}
 
 -- "'Place' is flow and job number; 255 stands where there is none."
 abbrev pub none : ℕ
@@ -33,6 +34,10 @@ checkAccepted late = record { number = 0; flow = none; job = none; late = late }
 abbrev pub listAccepted : ℕ → ListAnswer
 listAccepted length = record { number = 0; flow = none; job = none; length = length }
 
+-- "The result is the finish" (02, Req 05)
+abbrev pub finishAccepted : ℕ → FinishAnswer
+finishAccepted finish = record { number = 0; flow = none; job = none; finish = finish }
+
 -- "every count, length or finish returned with it [a refusal] is 0"
 abbrev pub planRefused : ℕ → ℕ → ℕ → PlanAnswer
 planRefused n f j = record { number = n; flow = f; job = j; late = 0; length = 0 }
@@ -42,6 +47,9 @@ checkRefused n f j = record { number = n; flow = f; job = j; late = 0 }
 
 abbrev pub listRefused : ℕ → ℕ → ℕ → ListAnswer
 listRefused n f j = record { number = n; flow = f; job = j; length = 0 }
+
+abbrev pub finishRefused : ℕ → ℕ → ℕ → FinishAnswer
+finishRefused n f j = record { number = n; flow = f; job = j; finish = 0 }
 
 -- the number of a verdict: 0 where it passes
 abbrev pub numberOf : Verdict → ℕ

@@ -4,7 +4,7 @@ use mathlib.Core.Bool.{Bool}
 use mathlib.Core.List.{List, [], _∷_}
 use lib.ListN.{getD}
 use lib.Dec.{eqb}
-use Rattle.rules.specs.Walks.{if_then_else_, anyTo}
+use Rattle.rules.specs.Walks.{if_then_else_, countTo, anyTo}
 use Rattle.rules.specs.Book.{Flow, Book}
 use Rattle.rules.specs.Service.{serviceOrder}
 
@@ -20,3 +20,7 @@ keepFlows q f (w ∷ ws) = if q f then w ∷ keepFlows q (f + 1) ws else keepFlo
 -- "Cut after its first k flows in service order, k from 0 to all of them, it keeps those flows in book order"
 unfoldable pub cut : Book → ℕ → Book
 cut b k = record { processors = b .processors; flows = keepFlows (amongFirst b k) 0 (b .flows) }
+
+-- the number that flow f of the whole book has in the cut one: so many flows that are kept stand before it in the book
+unfoldable pub numberInCut : Book → ℕ → ℕ → ℕ
+numberInCut b k f = countTo (amongFirst b k) f

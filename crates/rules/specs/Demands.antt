@@ -1,4 +1,4 @@
--- The demands as types: what is owed of the planner, of the table check and of the dispatch list, for every input. Later files prove them. Assumes nothing.
+-- The demands as types: what is owed of the planner, of the table check, of the dispatch list and of the finish of one flow, for every input. Later files prove them. Assumes nothing.
 use mathlib.Core.Path.{_≡_}
 use mathlib.Core.Logic.{_⊎_}
 use Prim.Native.Nat.{ℕ, suc, _+_, _*_, _≤_, _<_}
@@ -8,10 +8,10 @@ use lib.ListN.{length, take, drop, getD}
 use lib.Dec.{leb, eqb}
 use Rattle.rules.specs.Walks.{bit}
 use Rattle.rules.specs.Fields.{AllBytes, field, bytesOf}
-use Rattle.rules.specs.Answers.{none, checkAccepted, listAccepted, listRefused}
+use Rattle.rules.specs.Answers.{none, checkAccepted, listAccepted, listRefused, finishAccepted, finishRefused}
 use Rattle.rules.specs.Limits.{slots, workBytes}
 use Rattle.rules.specs.Book.{Book, flowCount, flowIn, flowOf, lowered, jobOf}
-use Rattle.rules.specs.Reading.{versionOf, read, readBook, bookBytes}
+use Rattle.rules.specs.Reading.{versionOf, read, unread, readBook, bookBytes}
 use Rattle.rules.specs.Service.{servedBefore}
 use Rattle.rules.specs.Rows.{Row, usedIn, lateFlows, workZero}
 use Rattle.rules.specs.Placing.{planned, rowsOf, plan}
@@ -19,8 +19,9 @@ use Rattle.rules.specs.Table.{tableLength, tableBytes}
 use Rattle.rules.specs.Planner.{PlanOutcome, planCall}
 use Rattle.rules.specs.Check.{noRow, tableRows, CheckOutcome, checkCall}
 use Rattle.rules.specs.Dispatch.{listedBefore, listHead, listLength, rowsInList, DispatchOutcome, dispatchCall}
+use Rattle.rules.specs.Finish.{upToNamed, FinishOutcome, finishCall}
 use Rattle.rules.specs.Schedule.{Schedule, everyFlow, Valid, EndsBy, InSlots, scheduleOf, scheduleRows, scheduleTable}
-use Rattle.rules.specs.Cut.{cut}
+use Rattle.rules.specs.Cut.{amongFirst, cut, numberInCut}
 
 -- ---- demand 1: "turn down a faulty one by a number from the list. A refusal gives the number and the place, leaves the output untouched
 -- and the work area as the list says." (That the calls take every sequence of bytes and end is what their contracts without a `requires`
@@ -227,6 +228,83 @@ pub record Dispatches : Type 0 where
   pub caps-lowered : (book : List ℕ) (b : Book) → readBook book ≡ read b → (table out area : List ℕ) →
       dispatchCall book table out area ≡ dispatchCall (bookBytes (versionOf book) (lowered b)) table out area
 
+-- ---- the finish of one flow (02, Req 05)
+
+-- "A fault found before or by 11", with 23 "after every check of the book and before 11"; "every count, length or finish returned with it is 0"
+abbrev pub finishByEleven : ℕ → Bool
+finishByEleven number = byEleven number || eqb number 23
+
+pub record FinishRefusal (area : List ℕ) (o : FinishOutcome) : Type 0 where
+  pub finish-zero : o .answer .finish ≡ 0
+  pub kept : finishByEleven (o .answer .number) ≡ true → o .area ≡ area
+  pub zeroed : finishByEleven (o .answer .number) ≡ false → o .area ≡ workZero slots area
+
+-- the finish of flow f that stands in a table: "the finish of each flow in book order (2 each)", behind 8 bytes
+abbrev pub finishIn : List ℕ → ℕ → ℕ
+finishIn table f = field 2 table (8 + 2 * f)
+
+-- what the planner leaves for "the book cut after that flow in service order"
+abbrev pub planOfCut : List ℕ → Book → ℕ → List ℕ → List ℕ → PlanOutcome
+planOfCut book b f out area = planCall (bookBytes (versionOf book) (cut b (upToNamed b f))) out area
+
+-- number, finish and work area are those that the planner leaves for the cut book, in which flows have other numbers
+pub record AsForCut (b : Book) (f : ℕ) (p : PlanOutcome) (o : FinishOutcome) : Type 0 where
+  pub same-number : o .answer .number ≡ p .answer .number
+  -- "the finish that the full table .. would show without the flows after it"
+  pub same-finish : p .answer .number ≡ 0 → o .answer .finish ≡ finishIn (p .output) (numberInCut b (upToNamed b f) f)
+  -- "it is that 12", with the flow's number in the whole book: a flow that was kept, and the one refused in the cut book
+  pub same-flow : p .answer .number ≡ 12 →
+      (amongFirst b (upToNamed b f) (o .answer .flow) ≡ true) × (p .answer .flow ≡ numberInCut b (upToNamed b f) (o .answer .flow))
+  -- "The work area ends as it would for the book cut after that flow in service order."
+  pub same-area : o .area ≡ p .area
+
+-- what an infeasible flow proves: it is that flow or one before it, and demand 3's second half
+pub record RefusedFlow (b : Book) (f g : ℕ) : Type 0 where
+  pub in-book : g < flowCount b
+  pub up-to-named : upTo b f g ≡ true
+  pub none-on-time : NoneOnTime b g
+
+pub record Finishes : Type 0 where
+  -- the numbers are 0 to 12, 22 and 23
+  pub numbers : (book area : List ℕ) (f : ℕ) →
+      (finishCall book f area .answer .number ≤ 12) ⊎ ((22 ≤ finishCall book f area .answer .number) × (finishCall book f area .answer .number ≤ 23))
+  pub refusal : (book area : List ℕ) (f : ℕ) → 0 < finishCall book f area .answer .number → FinishRefusal area (finishCall book f area)
+  -- "Check the book in full": what the planner refuses a book by
+  pub book-first : (book area : List ℕ) (f n g j : ℕ) → readBook book ≡ unread n g j →
+      finishCall book f area ≡ record { answer = finishRefused n g j; area = area }
+  -- "23 when the flow number is not in the book, after every check of the book and before 11, with 255 and 255", and only then
+  pub not-in-book : (book area : List ℕ) (f : ℕ) (b : Book) → readBook book ≡ read b → flowCount b ≤ f →
+      finishCall book f area ≡ record { answer = finishRefused 23 none none; area = area }
+  pub only-then : (book area : List ℕ) (f : ℕ) → finishCall book f area .answer .number ≡ 23 → (b : Book) × (readBook book ≡ read b) × (flowCount b ≤ f)
+  -- then 11, and with a work area that is long enough 0 or 12
+  pub area-short : (book area : List ℕ) (f : ℕ) (b : Book) → readBook book ≡ read b → f < flowCount b → length area < workBytes →
+      finishCall book f area ≡ record { answer = finishRefused 11 none none; area = area }
+  pub answers : (book area : List ℕ) (f : ℕ) (b : Book) → readBook book ≡ read b → f < flowCount b → workBytes ≤ length area →
+      (finishCall book f area .answer .number ≡ 0) ⊎ (finishCall book f area .answer .number ≡ 12)
+  -- "The result is the finish that the full table shows": the table that the planner writes, or with 13 would write
+  pub in-table : (book area out other : List ℕ) (f : ℕ) (b : Book) → readBook book ≡ read b → f < flowCount b → workBytes ≤ length area →
+      planCall book out other .answer .number ≡ 0 → finishCall book f area .answer ≡ finishAccepted (finishIn (planCall book out other .output) f)
+  pub in-long-table : (book area out other : List ℕ) (f : ℕ) (b : Book) → readBook book ≡ read b → f < flowCount b → workBytes ≤ length area →
+      planCall book out other .answer .number ≡ 13 → finishCall book f area .answer ≡ finishAccepted (finishIn (tableBytes b (rowsOf (plan b))) f)
+  -- as the planner on the cut book, where it is lent output enough
+  pub as-for-cut : (book area out : List ℕ) (f : ℕ) (b : Book) → readBook book ≡ read b → f < flowCount b →
+      (planOfCut book b f out area .answer .number ≡ 13 → ⊥) → AsForCut b f (planOfCut book b f out area) (finishCall book f area)
+  -- "If that flow or one before it is infeasible, it is that 12": exactly where the cut book is infeasible, whatever output is lent
+  pub infeasible-cut : (book area out other : List ℕ) (f : ℕ) (b : Book) → readBook book ≡ read b → f < flowCount b → workBytes ≤ length other →
+      finishCall book f area .answer .number ≡ 12 → planOfCut book b f out other .answer .number ≡ 12
+  pub cut-infeasible : (book area out other : List ℕ) (f : ℕ) (b : Book) → readBook book ≡ read b → f < flowCount b → workBytes ≤ length area →
+      planOfCut book b f out other .answer .number ≡ 12 → finishCall book f area .answer .number ≡ 12
+  pub refused-flow : (book area : List ℕ) (f : ℕ) (b : Book) → readBook book ≡ read b → finishCall book f area .answer .number ≡ 12 →
+      RefusedFlow b f (finishCall book f area .answer .flow)
+  -- "each ends within twice its deadline"
+  pub within-twice : (book area : List ℕ) (f : ℕ) (b : Book) → readBook book ≡ read b → finishCall book f area .answer .number ≡ 0 →
+      finishCall book f area .answer .finish ≤ 2 * flowOf b f .deadline
+  -- as for the other calls: a version 1 book means release 0 (Req 01), and caps above P count as P (Req 02)
+  pub version-1-kept : (book : List ℕ) (b : Book) → readBook book ≡ read b → versionOf book ≡ 1 → (f : ℕ) (area : List ℕ) →
+      finishCall book f area ≡ finishCall (bookBytes 2 b) f area
+  pub caps-lowered : (book : List ℕ) (b : Book) → readBook book ≡ read b → (f : ℕ) (area : List ℕ) →
+      finishCall book f area ≡ finishCall (bookBytes (versionOf book) (lowered b)) f area
+
 -- ---- all of it
 pub record Demands : Type 0 where
   pub refuses-by-the-list : Demand1
@@ -237,3 +315,4 @@ pub record Demands : Type 0 where
   pub version-1-kept : Version1Kept
   pub caps-lowered : CapsLowered
   pub dispatches : Dispatches
+  pub finishes : Finishes

@@ -14,6 +14,7 @@ pub mod Table
 pub mod Planner
 pub mod Check
 pub mod Dispatch
+pub mod Finish
 pub mod Schedule
 pub mod Cut
 pub mod Text

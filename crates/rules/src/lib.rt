@@ -33,3 +33,12 @@ pub struct ListAnswer {
     pub job: u8,
     pub length: u32,
 }
+
+// What the call for the finish of one flow answers.
+#[repr(C)]
+pub struct FinishAnswer {
+    pub number: u8,
+    pub flow: u8,
+    pub job: u8,
+    pub finish: u16,
+}

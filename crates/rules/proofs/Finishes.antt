@@ -1,0 +1,446 @@
+-- The finish of one flow (02, Req 05): what a call answers and leaves.
+-- A call goes by the reading, the flow number, the length of the work area, and then by how the placing of the flows up to the one named ends. Flows after
+-- them do not change their finishes, so it is the finish in the planner's table; and their placing is the plan of the book cut after them. Assumes nothing.
+use mathlib.Core.Path.{_≡_, refl, sym, ap, subst, _∙_}
+use mathlib.Core.Logic.{_⊎_, inl, inr, ⊎-elim}
+use mathlib.Core.Bool.{Bool, true, false, _||_, true≢false}
+use Prim.Native.Nat.{ℕ, _*_, _≤_, _<_}
+use native.Mathlib.Nat.{eq-or-lt-of-le, lt-suc-self}
+use native.Mathlib.Omega.{arith}
+use mathlib.Core.List.{List, _++_, map}
+use lib.ListN.{length, drop}
+use lib.Dec.{ltb, eqb}
+use borrow.Author.Tests.{lt-ltb, le-ltb, lt-leb, le-leb}
+use Rattle.rules.specs.Walks.{if_then_else_}
+use Rattle.rules.specs.Answers.{none, planAccepted, planRefused, finishAccepted, finishRefused}
+use Rattle.rules.specs.Limits.{slots, workBytes}
+use Rattle.rules.specs.Book.{Book, flowCount, flowOf, lowered, InRange}
+use Rattle.rules.specs.Reading.{versionOf, Reading, read, unread, readBook, bookBytes}
+use Rattle.rules.specs.Rows.{Row, finishOf, lateFlows, workUsed, workZero}
+use Rattle.rules.specs.Placing.{Plan, planned, infeasible, placeFirst, rowsOf, plan}
+use Rattle.rules.specs.Table.{tableLength, tableBytes}
+use Rattle.rules.specs.Planner.{PlanOutcome, planOutcome, planReading, planCall}
+use Rattle.rules.specs.Cut.{cut, numberInCut}
+use Rattle.rules.specs.Service.{position}
+use Rattle.rules.specs.Finish.{upToNamed, FinishOutcome, finishOutcome, finishReading, finishCall}
+use Rattle.rules.specs.Demands.{PlansByTheRules, finishByEleven, FinishRefusal, finishIn, planOfCut, AsForCut, RefusedFlow, Finishes}
+use Rattle.rules.proofs.Division.{lt-or-ge}
+use Rattle.rules.proofs.Passing.{read-in-range}
+use Rattle.rules.proofs.Versions.{read-writable, same-reading}
+use Rattle.rules.proofs.ServiceOrder.{servedAt}
+use Rattle.rules.proofs.CutBook.{kept, kept-among, among-kept, number-kept, position-among, cut-in-range, cut-reads}
+use Rattle.rules.proofs.Position.{position-below, served-position}
+use Rattle.rules.proofs.SameUse.{finish-reading-same}
+use Rattle.rules.proofs.Lowered.{same-use, caps-lowered}
+use Rattle.rules.proofs.PlannedRows.{placing-stops, placed-earlier, finish-settled}
+use Rattle.rules.proofs.PlannedValid.{first-finish-within-twice}
+use Rattle.rules.proofs.Infeasible.{up-to-at, stopped-proves}
+use Rattle.rules.proofs.Demand3Values.{planned-finish-fits, infeasible-proves}
+use Rattle.rules.proofs.Demand3.{call-plans}
+use Rattle.rules.proofs.CutPlan.{renumber, renumberPlan, work-renumbered, cut-plan, cut-finish}
+use Rattle.rules.proofs.TableBytes.{finish-in-front, finish-written}
+use Rattle.rules.proofs.PlansByTheRules.{plans-by-the-rules}
+use Rattle.rules.proofs.Refusals.{early-number, unread-numbered}
+
+-- ---- what a call answers and leaves
+-- refused over an area as it was
+abbrev refusedEarly : ℕ → ℕ → ℕ → List ℕ → FinishOutcome
+refusedEarly n g j area = record { answer = finishRefused n g j; area = area }
+
+-- a number of the call, and what a refusal leaves
+record FinishAnswers (area : List ℕ) (o : FinishOutcome) : Type 0 where
+  number-is : (o .answer .number ≤ 12) ⊎ ((22 ≤ o .answer .number) × (o .answer .number ≤ 23))
+  refusal : 0 < o .answer .number → FinishRefusal area o
+
+early-answers : (n g j : ℕ) (area : List ℕ) → (n ≤ 12) ⊎ ((22 ≤ n) × (n ≤ 23)) → finishByEleven n ≡ true → FinishAnswers area (refusedEarly n g j area)
+early-answers n g j area number h = record {
+  number-is = number;
+  refusal = λ l. record { finish-zero = refl; kept = λ k. refl; zeroed = λ k. absurd (true≢false (sym h ∙ k)) };
+}
+
+ended-answers : (f : ℕ) (area : List ℕ) (p : Plan) → FinishAnswers area (finishOutcome f area p)
+unfolding finishOutcome
+ended-answers f area (planned rows) = record { number-is = inl (omega arith); refusal = λ l. absurd (omega arith) }
+ended-answers f area (infeasible g) = record {
+  number-is = inl (omega arith);
+  refusal = λ l. record { finish-zero = refl; kept = λ k. absurd (true≢false (sym k)); zeroed = λ k. refl };
+}
+
+-- ---- a book that is read
+module _ (b : Book) (f : ℕ) (area : List ℕ) where
+  abbrev outcome : FinishOutcome
+  outcome = finishReading f area (read b)
+
+  -- how the placing of the flows up to the one named ends
+  abbrev ending : Plan
+  ending = placeFirst b (upToNamed b f)
+
+  -- 23, 11, or by that ending
+  outcome-outside : flowCount b ≤ f → outcome ≡ refusedEarly 23 none none area
+  unfolding finishReading
+  outcome-outside l = rw (le-leb (flowCount b) f l) refl
+
+  outcome-short : f < flowCount b → length area < workBytes → outcome ≡ refusedEarly 11 none none area
+  unfolding finishReading
+  outcome-short l h = rw (lt-leb (flowCount b) f l, lt-ltb (length area) workBytes h) refl
+
+  outcome-ended : f < flowCount b → workBytes ≤ length area → outcome ≡ finishOutcome f area ending
+  unfolding finishReading
+  outcome-ended l h = rw (lt-leb (flowCount b) f l, le-ltb (length area) workBytes h) refl
+
+  -- these are all
+  outcome-cases : {X : Type 0} → (flowCount b ≤ f → X) → (f < flowCount b → length area < workBytes → X) → (f < flowCount b → workBytes ≤ length area → X) → X
+  outcome-cases {X} outside short ended = go (lt-or-ge f (flowCount b)) (lt-or-ge (length area) workBytes)
+    where
+      go : (f < flowCount b) ⊎ (flowCount b ≤ f) → (length area < workBytes) ⊎ (workBytes ≤ length area) → X
+      go (inr l) h = outside l
+      go (inl l) (inl h) = short l h
+      go (inl l) (inr h) = ended l h
+
+  outcome-answers : FinishAnswers area outcome
+  outcome-answers =
+      outcome-cases
+      (λ l. subst (FinishAnswers area) (sym (outcome-outside l)) (early-answers 23 none none area (inr (omega arith, omega arith)) refl))
+      (λ l h. subst (FinishAnswers area) (sym (outcome-short l h)) (early-answers 11 none none area (inl (omega arith)) refl))
+      (λ l h. subst (FinishAnswers area) (sym (outcome-ended l h)) (ended-answers f area ending))
+
+  -- 23 is answered of a flow number that is not in the book
+  number-23 : outcome .answer .number ≡ 23 → flowCount b ≤ f
+  unfolding finishOutcome
+  number-23 z =
+      outcome-cases (λ l. l) (λ l h. absurd (omega (arith, ap (λ o. o .answer .number) (outcome-short l h))))
+      (λ l h. absurd (not-23 ending (ap (λ o. o .answer .number) (sym (outcome-ended l h)) ∙ z)))
+    where
+      not-23 : (p : Plan) → finishOutcome f area p .answer .number ≡ 23 → ⊥
+      not-23 (planned rows) e = omega arith
+      not-23 (infeasible g) e = omega arith
+
+  -- 0 and 12 say how the placing ended
+  ended-0 : (p : Plan) → finishOutcome f area p .answer .number ≡ 0 → p ≡ planned (rowsOf p)
+  unfolding finishOutcome
+  ended-0 (planned rows) e = refl
+  ended-0 (infeasible g) e = absurd (omega arith)
+
+  ended-12 : (p : Plan) → finishOutcome f area p .answer .number ≡ 12 → p ≡ infeasible (finishOutcome f area p .answer .flow)
+  unfolding finishOutcome
+  ended-12 (planned rows) e = absurd (omega arith)
+  ended-12 (infeasible g) e = refl
+
+  -- a number that stands for an ending
+  outcome-by : (n : ℕ) → (n ≡ 23 → ⊥) → (n ≡ 11 → ⊥) → outcome .answer .number ≡ n → (f < flowCount b) × (outcome ≡ finishOutcome f area ending)
+  outcome-by n p q z =
+      outcome-cases (λ l. absurd (p (sym z ∙ ap (λ o. o .answer .number) (outcome-outside l))))
+      (λ l h. absurd (q (sym z ∙ ap (λ o. o .answer .number) (outcome-short l h)))) (λ l h. (l, outcome-ended l h))
+
+  number-0 : outcome .answer .number ≡ 0 → (f < flowCount b) × (ending ≡ planned (rowsOf ending)) × (outcome .answer .finish ≡ finishOf (rowsOf ending) f)
+  unfolding finishOutcome
+  number-0 z =
+      let w = outcome-by 0 (λ e. omega arith) (λ e. omega arith) z in
+      let e = ended-0 ending (ap (λ o. o .answer .number) (sym (w .1)) ∙ z) in
+      (w .0, e, ap (λ o. o .answer .finish) (w .1) ∙ ap (λ p. finishOutcome f area p .answer .finish) e)
+
+  number-12 : outcome .answer .number ≡ 12 → (f < flowCount b) × (ending ≡ infeasible (outcome .answer .flow))
+  number-12 z =
+      let w = outcome-by 12 (λ e. omega arith) (λ e. omega arith) z in
+      (w .0, ended-12 ending (ap (λ o. o .answer .number) (sym (w .1)) ∙ z) ∙ ap (λ o. infeasible (o .answer .flow)) (sym (w .1)))
+
+-- ---- the planner's number says how its placing ended
+module _ (b : Book) (out area : List ℕ) where
+  abbrev planOf : PlanOutcome
+  planOf = planReading out area (read b)
+
+  -- flows that are planned have a table that is too long or written; 12 is neither
+  planned-too-long : (rows : List Row) → length out < tableLength b rows →
+      planOutcome b out area (planned rows) ≡ record { answer = planRefused 13 none none; output = out; area = workZero slots area }
+  unfolding planOutcome
+  planned-too-long rows h = rw (lt-ltb (length out) (tableLength b rows) h) refl
+
+  planned-written : (rows : List Row) → tableLength b rows ≤ length out →
+      planOutcome b out area (planned rows)
+      ≡ record {
+        answer = planAccepted (lateFlows b rows) (tableLength b rows);
+        output = tableBytes b rows ++ drop (tableLength b rows) out;
+        area = workUsed slots rows area;
+      }
+  unfolding planOutcome
+  planned-written rows h = rw (le-ltb (length out) (tableLength b rows) h) refl
+
+  planned-not-12 : (rows : List Row) → planOutcome b out area (planned rows) .answer .number ≡ 12 → ⊥
+  planned-not-12 rows e =
+      ⊎-elim (λ h. omega (arith, ap (λ o. o .answer .number) (planned-too-long rows h)))
+      (λ h. omega (arith, ap (λ o. o .answer .number) (planned-written rows h))) (lt-or-ge (length out) (tableLength b rows))
+
+  infeasible-12 : (p : Plan) (g : ℕ) → p ≡ infeasible g → planOutcome b out area p .answer .number ≡ 12
+  unfolding planOutcome
+  infeasible-12 p g e = ap (λ q. planOutcome b out area q .answer .number) e
+
+  planned-by : (p : Plan) → (planOutcome b out area p .answer .number ≡ 12 → ⊥) → p ≡ planned (rowsOf p)
+  planned-by (planned rows) ne = refl
+  planned-by (infeasible g) ne = absurd (ne (infeasible-12 (infeasible g) g refl))
+
+  infeasible-by : (p : Plan) → planOutcome b out area p .answer .number ≡ 12 → (g : ℕ) × (p ≡ infeasible g)
+  infeasible-by (planned rows) e = absurd (planned-not-12 rows e)
+  infeasible-by (infeasible g) e = (g, refl)
+
+  -- a number other than 11
+  plan-by : (n : ℕ) → (n ≡ 11 → ⊥) → planOf .answer .number ≡ n → planOf ≡ planOutcome b out area (plan b)
+  unfolding planReading
+  plan-by n ne = go (ltb (length area) workBytes)
+    where
+      at : Bool → PlanOutcome
+      at t = if t then record { answer = planRefused 11 none none; output = out; area = area } else planOutcome b out area (plan b)
+
+      go : (t : Bool) → at t .answer .number ≡ n → at t ≡ planOutcome b out area (plan b)
+      go true e = absurd (ne (sym e))
+      go false e = refl
+
+  plan-number-12 : planOf .answer .number ≡ 12 → (g : ℕ) × (plan b ≡ infeasible g)
+  plan-number-12 z = infeasible-by (plan b) (ap (λ o. o .answer .number) (sym (plan-by 12 (λ e. omega arith) z)) ∙ z)
+
+  plan-number-13 : planOf .answer .number ≡ 13 → plan b ≡ planned (rowsOf (plan b))
+  plan-number-13 z =
+      let same = ap (λ o. o .answer .number) (sym (plan-by 13 (λ e. omega arith) z)) ∙ z in
+      planned-by (plan b) (λ e. omega arith)
+
+-- ---- a flow of a book that is read
+module _ (book : List ℕ) (b : Book) (reads : readBook book ≡ read b) (f : ℕ) where
+  range : InRange b
+  range = read-in-range book b reads
+
+  -- a call goes by the values of the book
+  finish-read : (area : List ℕ) → finishCall book f area ≡ finishReading f area (read b)
+  unfolding finishCall
+  finish-read area = ap (finishReading f area) reads
+
+  plan-read : (out area : List ℕ) → planCall book out area ≡ planReading out area (read b)
+  unfolding planCall
+  plan-read out area = ap (planReading out area) reads
+
+  -- the number of flows up to it
+  abbrev many : ℕ
+  many = upToNamed b f
+
+  module _ (l : f < flowCount b) where
+    fits : many ≤ flowCount b
+    fits = position-below b f l
+
+    named : servedAt b (position b f) ≡ f
+    named = served-position b f l
+
+    -- ---- in the table of the whole book
+    -- where all flows are planned, so are those up to it, and the others do not change its finish
+    finish-of-plan : (rows : List Row) → plan b ≡ planned rows → (area : List ℕ) → workBytes ≤ length area →
+        finishCall book f area .answer ≡ finishAccepted (finishOf rows f)
+    unfolding finishOutcome plan
+    finish-of-plan rows e area h =
+        let w : (first : List Row) × (placeFirst b many ≡ planned first) =
+        ⊎-elim (λ q. (rows, ap (placeFirst b) q ∙ e)) (placed-earlier b (flowCount b) rows e many) (eq-or-lt-of-le fits) in
+        ap (λ o. o .answer) (finish-read area ∙ outcome-ended b f area l h)
+        ∙ ap (λ p. finishOutcome f area p .answer) (w .1)
+        ∙ ap finishAccepted
+        (rw named at (finish-settled b many (flowCount b) (w .0) rows fits (omega arith) (w .1) e (position b f) (lt-suc-self (position b f))))
+
+    in-table : (area out other : List ℕ) → workBytes ≤ length area → planCall book out other .answer .number ≡ 0 →
+        finishCall book f area .answer ≡ finishAccepted (finishIn (planCall book out other .output) f)
+    unfolding PlansByTheRules
+    in-table area out other h z =
+        let p = plans-by-the-rules book out other b reads z in
+        let rows = rowsOf (plan b) in
+        finish-of-plan rows (p .all-placed) area h
+        ∙ ap finishAccepted
+        (sym (ap (λ s. finishIn s f) (p .table)
+        ∙ finish-in-front b rows (drop (tableLength b rows) out) f l (planned-finish-fits b range rows (p .all-placed) f l)))
+
+    in-long-table : (area out other : List ℕ) → workBytes ≤ length area → planCall book out other .answer .number ≡ 13 →
+        finishCall book f area .answer ≡ finishAccepted (finishIn (tableBytes b (rowsOf (plan b))) f)
+    in-long-table area out other h z =
+        let rows = rowsOf (plan b) in
+        let e = plan-number-13 b out other (ap (λ o. o .answer .number) (sym (plan-read out other)) ∙ z) in
+        finish-of-plan rows e area h ∙ ap finishAccepted (sym (finish-written b rows f l (planned-finish-fits b range rows e f l)))
+
+    -- ---- in the book cut after it
+    abbrev cutBook : Book
+    cutBook = cut b many
+
+    cut-range : InRange cutBook
+    cut-range = cut-in-range b many range
+
+    cut-book-reads : readBook (bookBytes (versionOf book) cutBook) ≡ read cutBook
+    cut-book-reads = cut-reads (versionOf book) b many range (read-writable book b reads)
+
+    plan-of-cut : (out area : List ℕ) → workBytes ≤ length area → planOfCut book b f out area ≡ planOutcome cutBook out area (plan cutBook)
+    plan-of-cut out area = call-plans cutBook cut-range out area (bookBytes (versionOf book) cutBook) cut-book-reads
+
+    ending-cut : placeFirst b many ≡ renumberPlan (kept b many) (plan cutBook)
+    ending-cut = cut-plan b many fits
+
+    -- the flow is one of it, by the number counted off
+    in-cut : (m : ℕ) × (m < flowCount cutBook) × (kept b many m ≡ f)
+    in-cut = among-kept b many f l (rw named at (position-among b many (position b f) (lt-suc-self (position b f))))
+
+    number-in-cut : numberInCut b many f ≡ in-cut .0
+    number-in-cut = ap (numberInCut b many) (sym (in-cut .2)) ∙ number-kept b many (in-cut .0) (in-cut .1)
+
+    -- 12 names a flow that was kept, the finish stands in the cut book's table, and the slots are used alike
+    as-cut-infeasible : (out area : List ℕ) (g : ℕ) → plan cutBook ≡ infeasible g →
+        AsForCut b f (planOutcome cutBook out area (infeasible g)) (finishOutcome f area (infeasible (kept b many g)))
+    unfolding planOutcome finishOutcome
+    as-cut-infeasible out area g e =
+        let below = infeasible-proves cutBook cut-range g e .0 in
+        record {
+          same-number = refl;
+          same-finish = λ z. absurd (omega arith);
+          same-flow = λ z. (kept-among b many g below, sym (number-kept b many g below));
+          same-area = refl;
+        }
+
+    as-cut-planned : (out area : List ℕ) (rows : List Row) → plan cutBook ≡ planned rows →
+        (planOutcome cutBook out area (planned rows) .answer .number ≡ 13 → ⊥) →
+        AsForCut b f (planOutcome cutBook out area (planned rows)) (finishOutcome f area (planned (map (renumber (kept b many)) rows)))
+    unfolding finishOutcome
+    as-cut-planned out area rows e fit =
+        ⊎-elim (λ h. absurd (fit (ap (λ o. o .answer .number) (planned-too-long cutBook out area rows h))))
+        (λ h. subst (λ o. AsForCut b f o (finishOutcome f area (planned (map (renumber (kept b many)) rows)))) (sym (planned-written cutBook out area rows h))
+        (record {
+          same-number = refl;
+          same-finish = λ z. finish;
+          same-flow = λ z. absurd (omega arith);
+          same-area = work-renumbered (kept b many) slots rows area;
+        })) (lt-or-ge (length out) (tableLength cutBook rows))
+      where
+        rest : List ℕ
+        rest = drop (tableLength cutBook rows) out
+
+        finish : finishOf (map (renumber (kept b many)) rows) f ≡ finishIn (tableBytes cutBook rows ++ rest) (numberInCut b many f)
+        finish =
+            let m = in-cut .0 in
+            ap (finishOf (map (renumber (kept b many)) rows)) (sym (in-cut .2))
+            ∙ cut-finish b many fits range rows e m (in-cut .1)
+            ∙ sym (finish-in-front cutBook rows rest m (in-cut .1) (planned-finish-fits cutBook cut-range rows e m (in-cut .1)))
+            ∙ ap (finishIn (tableBytes cutBook rows ++ rest)) (sym number-in-cut)
+
+    as-cut-short : (area out : List ℕ) → length area < workBytes → AsForCut b f (planOfCut book b f out area) (finishCall book f area)
+    unfolding planCall planReading
+    as-cut-short area out h =
+        rw (cut-book-reads, lt-ltb (length area) workBytes h, finish-read area, outcome-short b f area l h)
+        (record { same-number = refl; same-finish = λ z. absurd (omega arith); same-flow = λ z. absurd (omega arith); same-area = refl })
+
+    as-cut-ended : (area out : List ℕ) → workBytes ≤ length area → (planOfCut book b f out area .answer .number ≡ 13 → ⊥) →
+        AsForCut b f (planOfCut book b f out area) (finishCall book f area)
+    as-cut-ended area out h fit =
+        let plans = plan-of-cut out area h in
+        let ends = finish-read area ∙ outcome-ended b f area l h ∙ ap (finishOutcome f area) ending-cut in
+        rw (plans, ends) (go (plan cutBook) refl (rw plans at fit))
+      where
+        go : (p : Plan) → plan cutBook ≡ p → (planOutcome cutBook out area p .answer .number ≡ 13 → ⊥) →
+            AsForCut b f (planOutcome cutBook out area p) (finishOutcome f area (renumberPlan (kept b many) p))
+        go (infeasible g) e fit = as-cut-infeasible out area g e
+        go (planned rows) e fit = as-cut-planned out area rows e fit
+
+    as-for-cut : (area out : List ℕ) → (planOfCut book b f out area .answer .number ≡ 13 → ⊥) →
+        AsForCut b f (planOfCut book b f out area) (finishCall book f area)
+    as-for-cut area out fit = ⊎-elim (as-cut-short area out) (λ h. as-cut-ended area out h fit) (lt-or-ge (length area) workBytes)
+
+    -- it is infeasible where the placing ends so
+    cut-ends : (g : ℕ) → placeFirst b many ≡ infeasible g → (h : ℕ) × (plan cutBook ≡ infeasible h)
+    cut-ends g e = go (plan cutBook) refl (sym ending-cut ∙ e)
+      where
+        go : (p : Plan) → plan cutBook ≡ p → renumberPlan (kept b many) p ≡ infeasible g → (h : ℕ) × (plan cutBook ≡ infeasible h)
+        go (infeasible h) q d = (h, q)
+        go (planned rows) q d = absurd (let z : _≡_ {A = ℕ} 0 1 = cc in omega arith)
+
+    infeasible-cut : (area out other : List ℕ) → workBytes ≤ length other → finishCall book f area .answer .number ≡ 12 →
+        planOfCut book b f out other .answer .number ≡ 12
+    infeasible-cut area out other h z =
+        let e = number-12 b f area (ap (λ o. o .answer .number) (sym (finish-read area)) ∙ z) .1 in
+        let w = cut-ends (finishReading f area (read b) .answer .flow) e in
+        ap (λ o. o .answer .number) (plan-of-cut out other h) ∙ infeasible-12 cutBook out other (plan cutBook) (w .0) (w .1)
+
+    cut-infeasible : (area out other : List ℕ) → workBytes ≤ length area → planOfCut book b f out other .answer .number ≡ 12 →
+        finishCall book f area .answer .number ≡ 12
+    unfolding planCall finishOutcome
+    cut-infeasible area out other h z =
+        let w = plan-number-12 cutBook out other (ap (λ r. planReading out other r .answer .number) (sym cut-book-reads) ∙ z) in
+        ap (λ o. o .answer .number) (finish-read area ∙ outcome-ended b f area l h)
+        ∙ ap (λ p. finishOutcome f area p .answer .number) (ending-cut ∙ ap (renumberPlan (kept b many)) (w .1))
+
+    -- what an ending by 12 proves
+    ending-proves : (g : ℕ) → placeFirst b many ≡ infeasible g → RefusedFlow b f g
+    ending-proves g e =
+        let s = placing-stops b many g e in
+        let w = stopped-proves b range many g fits s in
+        record {
+          in-book = w .0;
+          up-to-named = rw (s .served) at (up-to-at b range (position b f) f fits named (s .place) (s .place-below));
+          none-on-time = w .1;
+        }
+
+  refused-flow : (area : List ℕ) → finishCall book f area .answer .number ≡ 12 → RefusedFlow b f (finishCall book f area .answer .flow)
+  refused-flow area z =
+      let w = number-12 b f area (ap (λ o. o .answer .number) (sym (finish-read area)) ∙ z) in
+      subst (λ o. RefusedFlow b f (o .answer .flow)) (sym (finish-read area)) (ending-proves (w .0) (finishReading f area (read b) .answer .flow) (w .1))
+
+  within-twice : (area : List ℕ) → finishCall book f area .answer .number ≡ 0 → finishCall book f area .answer .finish ≤ 2 * flowOf b f .deadline
+  within-twice area z =
+      let w = number-0 b f area (ap (λ o. o .answer .number) (sym (finish-read area)) ∙ z) in
+      rw (finish-read area, w .2) (first-finish-within-twice b range many (rowsOf (placeFirst b many)) (fits (w .0)) (w .1) f)
+
+-- ---- every call
+call-answers : (book area : List ℕ) (f : ℕ) → FinishAnswers area (finishCall book f area)
+unfolding finishCall finishReading
+call-answers book area f = go (readBook book) refl
+  where
+    go : (r : Reading) → readBook book ≡ r → FinishAnswers area (finishReading f area r)
+    go (read b) e = outcome-answers b f area
+    go (unread n g j) e =
+        let early = unread-numbered book n g j e .1 in
+        early-answers n g j area (early-number n early (λ l. inl (omega arith)) (λ q. inr (omega arith, omega arith))) (ap (_|| eqb n 23) early)
+
+only-then : (book area : List ℕ) (f : ℕ) → finishCall book f area .answer .number ≡ 23 → (b : Book) × (readBook book ≡ read b) × (flowCount b ≤ f)
+unfolding finishCall finishReading
+only-then book area f = go (readBook book) refl
+  where
+    go : (r : Reading) → readBook book ≡ r → finishReading f area r .answer .number ≡ 23 → (b : Book) × (readBook book ≡ read b) × (flowCount b ≤ f)
+    go (read b) e z = (b, e, number-23 b f area z)
+    go (unread n g j) e z = absurd (early-number n (unread-numbered book n g j e .1) (λ l. omega arith) (λ q. omega arith))
+
+answers : (book area : List ℕ) (f : ℕ) (b : Book) → readBook book ≡ read b → f < flowCount b → workBytes ≤ length area →
+    (finishCall book f area .answer .number ≡ 0) ⊎ (finishCall book f area .answer .number ≡ 12)
+unfolding finishOutcome
+answers book area f b reads l h = rw (finish-read book b reads f area, outcome-ended b f area l h) (go (placeFirst b (upToNamed b f)))
+  where
+    go : (p : Plan) → (finishOutcome f area p .answer .number ≡ 0) ⊎ (finishOutcome f area p .answer .number ≡ 12)
+    go (planned rows) = inl refl
+    go (infeasible g) = inr refl
+
+-- ---- books that are used alike: Req 01 and Req 02
+finish-version-1 : (book : List ℕ) (b : Book) → readBook book ≡ read b → (f : ℕ) (area : List ℕ) → finishCall book f area ≡ finishCall (bookBytes 2 b) f area
+unfolding finishCall
+finish-version-1 book b reads f area = ap (finishReading f area) (same-reading book b reads)
+
+finish-lowered : (book : List ℕ) (b : Book) → readBook book ≡ read b → (f : ℕ) (area : List ℕ) →
+    finishCall book f area ≡ finishCall (bookBytes (versionOf book) (lowered b)) f area
+finish-lowered book b reads f area =
+    finish-read book b reads f area ∙ finish-reading-same b (lowered b) (same-use b) f area
+    ∙ sym (finish-read (bookBytes (versionOf book) (lowered b)) (lowered b) (caps-lowered .as-lowered book b reads .lowered-reads) f area)
+
+pub finishes : Finishes
+unfolding finishCall finishReading
+finishes = record {
+  numbers = λ book area f. call-answers book area f .number-is;
+  refusal = λ book area f. call-answers book area f .refusal;
+  book-first = λ book area f n g j unread. ap (finishReading f area) unread;
+  not-in-book = λ book area f b reads l. finish-read book b reads f area ∙ outcome-outside b f area l;
+  only-then = only-then;
+  area-short = λ book area f b reads l h. finish-read book b reads f area ∙ outcome-short b f area l h;
+  answers = answers;
+  in-table = λ book area out other f b reads l. in-table book b reads f l area out other;
+  in-long-table = λ book area out other f b reads l. in-long-table book b reads f l area out other;
+  as-for-cut = λ book area out f b reads l. as-for-cut book b reads f l area out;
+  infeasible-cut = λ book area out other f b reads l. infeasible-cut book b reads f l area out other;
+  cut-infeasible = λ book area out other f b reads l. cut-infeasible book b reads f l area out other;
+  refused-flow = λ book area f b reads. refused-flow book b reads f area;
+  within-twice = λ book area f b reads. within-twice book b reads f area;
+  version-1-kept = λ book b reads one. finish-version-1 book b reads;
+  caps-lowered = finish-lowered;
+}
