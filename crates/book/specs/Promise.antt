@@ -10,7 +10,6 @@ use Rattle.rules.specs.Book.{Job, Flow, flowCount, jobCount, flowOf}
 use Rattle.rules.specs.Reading.{flowStart, jobStart, bookOf, bookFault}
 use Rattle.book.specs.declared.FlowHead.{FlowHead}
 use Rattle.book.specs.declared.Index.{Index}
-use Rattle.book.specs.declared.FlowJobs.{FlowJobs}
 use Rattle.book.specs.declared.JobRecord.{JobRecord}
 
 -- the index is that of the book in these bytes, which passes
@@ -44,7 +43,21 @@ pub record HeadOf (s : List ℕ) (f : ℕ) (h : FlowHead) : Type 0 where
 abbrev pub jobFrom : JobRecord → Job
 jobFrom r = record { size = r .size; cap = r .cap; predecessors = r .predecessors }
 
--- a flow's values, read out, as the specification's flow
+-- a flow's values as they are used, read out: those of its jobs below `count`
+pub record FlowJobs : Type 0 where
+  pub deadline : ℕ
+  pub release : ℕ
+  pub count : ℕ
+  pub size : List ℕ
+  pub cap : List ℕ
+  pub predecessors : List ℕ
+
+-- .. held by its head and three lists
+abbrev pub flowHeld : FlowHead → List ℕ → List ℕ → List ℕ → FlowJobs
+flowHeld h sizes caps predecessors =
+    record { deadline = h .deadline; release = h .release; count = h .jobs; size = sizes; cap = caps; predecessors = predecessors }
+
+-- .. as the specification's flow
 unfoldable pub flowFrom : FlowJobs → Flow
 flowFrom x = record {
   deadline = x .deadline;

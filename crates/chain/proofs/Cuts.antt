@@ -20,12 +20,10 @@ use Rattle.rules.proofs.Walks.{last-or}
 use Rattle.rules.proofs.Sums.{sum-nothing}
 use Rattle.rules.proofs.Ideal.{Sized, duration-positive, end-is-start-plus-duration, take-before-start, take-from-end, take-positive}
 use Rattle.rules.proofs.PseudoJobs.{unchanged-where-all-are, changed-where-one-is, run-step, chain-length}
-use Rattle.book.specs.declared.FlowJobs.{FlowJobs}
-use Rattle.book.specs.Promise.{flowFrom}
-use Rattle.chain.specs.declared.Ideal.{Ideal}
+use Rattle.book.specs.Promise.{FlowJobs, flowFrom}
 use Rattle.chain.specs.declared.Run.{Run}
 use Rattle.chain.specs.Jobs.{ChainInput}
-use Rattle.chain.specs.Runs.{LeastFrom, IdealOf, RunInput, takeBetween, NextChange, FirstRun, PartsOf, RunAt, walk}
+use Rattle.chain.specs.Runs.{Ideal, LeastFrom, IdealOf, RunInput, takeBetween, NextChange, FirstRun, PartsOf, RunAt, walk}
 use Rattle.chain.proofs.Starts.{count-of, sized-of, cap-at, starts-before-end, last-some, take-most, rate-most}
 use Rattle.chain.proofs.Parts.{sum-stays, parts-few, parts-of-none, parts-of-next, parts-of-rest}
 

@@ -5,22 +5,22 @@ use mathlib.Core.Logic.{_⊎_, inl, inr, ⊎-elim}
 use Prim.Native.Nat.{ℕ, suc, _≤_, _<_, min}
 use native.Mathlib.Nat.{eq-or-lt-of-le, le-refl}
 use native.Mathlib.Omega.{arith}
-use lib.ListN.{length, getD, set, replicate, length-set}
+use lib.ListN.{length, getD, set, length-set}
 use lib.Seq.{getD-set-same, getD-set-other}
 use Rattle.rules.proofs.Division.{lt-or-ge}
 use Rattle.chain.specs.Runs.{LeastFrom}
 
--- an array of 64 whose places from k to n have the least from there on; v is that of place k, and 4,294,967,295 where k is n
-pub record LeastsFrom (l : List ℕ) (n k v : ℕ) (leasts : List ℕ) : Type 0 where
-  pub size : length leasts ≡ 64
+-- a list as long as another, whose places from k to n have the least from there on; v is that of place k, and 4,294,967,295 where k is n
+pub record LeastsFrom (l : List ℕ) (n k v : ℕ) (before leasts : List ℕ) : Type 0 where
+  pub size : length leasts ≡ length before
   pub within : k ≤ n
   pub none : k ≡ n → v ≡ 4294967295
   pub held : k < n → LeastFrom l n k v
   pub each : (i : ℕ) → k ≤ i → i < n → LeastFrom l n i (getD leasts i 0)
 
 -- no place has one yet
-pub leasts-none : (l : List ℕ) (n : ℕ) → LeastsFrom l n n 4294967295 (replicate 64 0)
-leasts-none l n = record {
+pub leasts-none : (l : List ℕ) (n : ℕ) (leasts : List ℕ) → LeastsFrom l n n 4294967295 leasts leasts
+leasts-none l n leasts = record {
   size = refl;
   within = le-refl n;
   none = λ e. refl;
@@ -29,7 +29,7 @@ leasts-none l n = record {
 }
 
 -- one place lower
-module _ (l : List ℕ) (n m k v r : ℕ) (leasts : List ℕ) (em : m ≡ suc k) (before : LeastsFrom l n m v leasts) (fits : getD l k 0 ≤ 4294967295)
+module _ (l : List ℕ) (n m k v r : ℕ) (first leasts : List ℕ) (em : m ≡ suc k) (before : LeastsFrom l n m v first leasts) (fits : getD l k 0 ≤ 4294967295)
     (er : r ≡ min (getD l k 0) v) where
   least-lower : LeastFrom l n k r
   least-lower = record {
@@ -42,7 +42,7 @@ module _ (l : List ℕ) (n m k v r : ℕ) (leasts : List ℕ) (em : m ≡ suc k)
       go (inl o) (inr h) = let w = before .held h .attained in (w .0, omega (arith, w .1), w .2, omega (arith, w .3))
       go (inr o) _ = (k, le-refl k, omega (arith, before .within), omega arith)
 
-  pub leasts-lower : k < 64 → LeastsFrom l n k r (set leasts k r)
+  pub leasts-lower : k < length first → LeastsFrom l n k r first (set leasts k r)
   leasts-lower room = record {
     size = length-set leasts k r ∙ before .size;
     within = omega (arith, before .within);

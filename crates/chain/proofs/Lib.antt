@@ -1,6 +1,6 @@
 -- Laws that the proofs of several functions cite.
-pub mod Filled
 pub mod Durations
+pub mod Lowest
 pub mod Starts
 pub mod Leasts
 pub mod Takes

@@ -4,7 +4,7 @@ use mathlib.Core.Path.{_≡_, refl, ap, sym, _∙_}
 use mathlib.Core.Bool.{Bool, true, false}
 use mathlib.Core.List.{List, [], _∷_, _++_}
 use Prim.Native.Nat.{ℕ, zero, suc, _+_, _*_, _-_, _<_, _≤_, max}
-use native.Mathlib.Nat.{zero-add, not-suc-le-zero, le-refl, max-zero}
+use native.Mathlib.Nat.{zero-add, not-suc-le-zero, le-refl}
 use native.Mathlib.Numerals.{add-one}
 use native.Mathlib.Omega.{arith}
 use lib.ListN.{length, getD, set, drop, length-append, List·getD-append}
@@ -15,10 +15,10 @@ use Rattle.rules.specs.Ideal.{duration, lastTake, startAfter, startOf, endOf, e
 use Rattle.rules.proofs.Sums.{sum-le}
 use Rattle.rules.proofs.Walks.{last-or, max-ext, max-least, list-length, list-at}
 use Rattle.rules.proofs.Ideal.{ends-length, ends-at, end-is-start-plus-duration, start-is-largest-end, duration-is-least, duration-positive, size-left, take-within-cap, Sized}
-use Rattle.book.specs.declared.FlowJobs.{FlowJobs}
-use Rattle.book.specs.Promise.{flowFrom}
+use Rattle.book.specs.Promise.{FlowJobs, flowFrom}
 use Rattle.chain.specs.declared.Lasting.{Lasting}
 use Rattle.chain.specs.Jobs.{ChainInput, jobOfValues, LastsAs, startAmong, endsBy}
+use Rattle.chain.proofs.Lowest.{Lowest}
 
 -- ---- a flow's values
 module _ (x : FlowJobs) where
@@ -59,23 +59,20 @@ module _ (x : FlowJobs) where
       rw (ends-of-flow d ed n (omega arith), start-among-is n (endsBelow (flowFrom x) n) (omega arith), ed n (omega arith)) refl
 
 -- ---- the start of a job
-pub start-none : (p : ℕ) (ends : List ℕ) → startAmong p ends 0 ≡ 0
+-- no bit is set
+pub start-none : (b : ℕ) (ends : List ℕ) (n : ℕ) → ((i : ℕ) → i < n → hasBit b i ≡ false) → startAmong b ends n ≡ 0
 unfolding startAmong maxTo
-start-none p ends = refl
+start-none b ends zero none = refl
+start-none b ends (suc n) none = rw (start-none b ends n (λ i l. none i (omega arith)), none n (omega arith)) refl
 
--- one more job is looked at
-pub start-next : (p k s r : ℕ) (ends : List ℕ) → s ≡ startAmong p ends k → r ≡ max s (if hasBit p k then getD ends k 0 else 0) →
-    r ≡ startAmong p ends (k + 1)
+-- the job of the lowest set bit, and the others
+pub start-lowest : (b z c : ℕ) (ends : List ℕ) → Lowest b z c → (n : ℕ) → z < n → startAmong b ends n ≡ max (getD ends z 0) (startAmong c ends n)
 unfolding startAmong maxTo
-start-next p k s r ends es er = rw (add-one k) (er ∙ rw es refl)
-
--- the jobs from k on do not count where none of their bits is set
-pub start-rest : (p k : ℕ) (ends : List ℕ) → ((i : ℕ) → k ≤ i → hasBit p i ≡ false) → (n : ℕ) → k ≤ n → startAmong p ends k ≡ startAmong p ends n
-unfolding startAmong maxTo
-start-rest p k ends none zero h = let e : k ≡ 0 = omega arith in rw e refl
-start-rest p k ends none (suc n) h =
-    last-or k (suc n) (omega arith) (λ e. rw e refl)
-    (λ l. start-rest p k ends none n (omega arith) ∙ rw (none n (omega arith)) (sym (max-zero (startAmong p ends n))))
+start-lowest b z c ends o zero h = absurd (not-suc-le-zero h)
+start-lowest b z c ends o (suc n) h =
+    last-or z n h
+    (λ q. rw (← q, o .set, o .off z (le-refl z), start-none b ends z (o .below), start-none c ends z (λ i l. o .off i (omega arith))) (omega arith))
+    (λ l. rw (o .kept n l, start-lowest b z c ends o n l) (omega arith))
 
 choice-within : (b : Bool) (e most : ℕ) → e ≤ most → (if b then e else 0) ≤ most
 choice-within true e most h = h

@@ -7,7 +7,7 @@ use lib.ListN.{getD}
 use Rattle.rules.specs.Walks.{if_then_else_, maxTo}
 use Rattle.rules.specs.Book.{Job, hasBit}
 use Rattle.rules.specs.Ideal.{duration, lastTake}
-use Rattle.book.specs.declared.FlowJobs.{FlowJobs}
+use Rattle.book.specs.Promise.{FlowJobs}
 use Rattle.chain.specs.declared.Lasting.{Lasting}
 
 -- a flow whose jobs an array holds, with each size and cap in its range
@@ -30,6 +30,11 @@ jobOfValues x i = jobWith (getD (x .size) i 0) (getD (x .cap) i 0) (getD (x .pre
 pub record LastsAs (j : Job) (r : Lasting) : Type 0 where
   pub slots : r .slots ≡ duration j
   pub last : r .last ≡ lastTake j
+
+-- the lists have how long the first n jobs of these sizes and caps last, and their last takes
+abbrev pub LastTo : List ℕ → List ℕ → ℕ → List ℕ → List ℕ → Type 0
+LastTo sizes caps n slots last =
+    (i : ℕ) → i < n → (p : ℕ) → LastsAs (jobWith (getD sizes i 0) (getD caps i 0) p) (record { slots = getD slots i 0; last = getD last i 0 })
 
 -- the largest end among the predecessors below n
 unfoldable pub startAmong : ℕ → List ℕ → ℕ → ℕ

@@ -10,9 +10,7 @@ use Rattle.rules.specs.Walks.{if_then_else_, countTo}
 use Rattle.rules.specs.Book.{Flow, jobCount, jobOf}
 use Rattle.rules.specs.Ideal.{lastTake, startOf, endOf, path, takeOf}
 use Rattle.rules.specs.PseudoJobs.{PseudoJob, runs, rate}
-use Rattle.book.specs.declared.FlowJobs.{FlowJobs}
-use Rattle.book.specs.Promise.{flowFrom}
-use Rattle.chain.specs.declared.Ideal.{Ideal}
+use Rattle.book.specs.Promise.{FlowJobs, flowFrom}
 use Rattle.chain.specs.declared.Run.{Run}
 use Rattle.chain.specs.Jobs.{ChainInput}
 
@@ -20,6 +18,14 @@ use Rattle.chain.specs.Jobs.{ChainInput}
 pub record LeastFrom (l : List ℕ) (n i v : ℕ) : Type 0 where
   pub within : (k : ℕ) → i ≤ k → k < n → v ≤ getD l k 0
   pub attained : (k : ℕ) × (i ≤ k) × (k < n) × (getD l k 0 ≡ v)
+
+-- what is held of a flow on endless processors: the start, the end and the last take of each job, the least start from each job on, and the path
+pub record Ideal : Type 0 where
+  pub starts : List ℕ
+  pub ends : List ℕ
+  pub lasts : List ℕ
+  pub firsts : List ℕ
+  pub path : ℕ
 
 -- the values are those of rules 1 and 2; `firsts` has the least start from each job on
 pub record IdealOf (w : Flow) (x : Ideal) : Type 0 where

@@ -1,17 +1,14 @@
 // The chain of pseudo-jobs of a flow, rules 1 to 3.
 ghost use mathlib.Core.Path.{_≡_};
 ghost use mathlib.Core.List.{_++_};
-ghost use Prim.Native.Nat.{ℕ, _+_, _-_, _<_, _≤_, max};
+ghost use Prim.Native.Nat.{ℕ, _+_, _-_, _<_, _≤_};
 ghost use lib.ListN.{length, getD, drop};
 ghost use lib.Dec.{ltb};
 ghost use Rattle.rules.specs.Walks.{if_then_else_, bit, maxTo};
-ghost use Rattle.rules.specs.Book.{hasBit};
-ghost use Rattle.book.specs.Promise.{flowFrom};
-ghost use Rattle.chain.specs.Jobs.{ChainInput, jobWith, LastsAs, startAmong, endsBy};
-ghost use Rattle.chain.specs.Runs.{IdealOf, LeastFrom, RunInput, SomeFlow, takeBetween, NextChange, RunAt};
-ghost use Rattle.book.specs.declared.FlowJobs.{FlowJobs};
-ghost use Rattle.chain.specs.declared.Ideal.{Ideal};
-use book::FlowJobs;
+ghost use Rattle.book.specs.Promise.{FlowJobs, flowHeld, flowFrom};
+ghost use Rattle.chain.specs.Jobs.{ChainInput, jobWith, LastsAs, LastTo, startAmong, endsBy};
+ghost use Rattle.chain.specs.Runs.{Ideal, IdealOf, LeastFrom, RunInput, SomeFlow, takeBetween, NextChange, RunAt};
+use book::FlowHead;
 use book::bytes;
 
 // How many slots a job lasts, and what it takes in the last of them.
@@ -40,33 +37,20 @@ pub fn lasts(size: u32, cap: u32) -> Lasting
     }
 }
 
-// The later of a start and the end of the job whose bit is the lowest, where that bit is set.
-pub fn later(start: u32, end: u32, bits: u64) -> u32
-    ensures { λ r. ⌜ r ≡ max start (if hasBit bits 0 then end else 0) ⌝ }
-{
-    if bits % 2 == 1 {
-        if start < end {
-            return end;
-        }
-    }
-    start
-}
-
-// The largest end among the predecessors below n.
+// The largest end among the predecessors below n: a step for each of them, from the lowest set bit to the next.
 pub fn start_of(ends: &[u32], predecessors: u64, n: usize) -> u32
     requires { ⌜ (n ≤ 64) × (n ≤ length (now ends)) ⌝ }
     ensures { λ r. ⌜ r ≡ startAmong predecessors (now (ends .entry)) n ⌝ }
 {
     let mut start: u32 = 0;
     let mut bits = predecessors;
-    let mut k: usize = 0;
-    while k < n {
-        if bits == 0 {
+    while bits != 0 {
+        let job = u64::trailing_zeros(bits) as usize;
+        if n <= job {
             return start;
         }
-        start = later(start, ends[k], bits);
-        bits = bits / 2;
-        k = k + 1;
+        start = bytes::most(start, ends[job]);
+        bits = bits & (bits - 1);
     }
     start
 }
@@ -100,11 +84,10 @@ pub fn largest(numbers: &[u32], n: usize) -> u32
 }
 
 // The least of the first n numbers from each place on.
-pub fn least_from(numbers: &[u32], n: usize) -> [u32; 64]
-    requires { ⌜ (n ≤ 64) × (n ≤ length (now numbers)) ⌝ }
-    ensures { λ r. ⌜ ((i : ℕ) → i < n → LeastFrom (now (numbers .entry)) n i (getD r i 0)) ⌝ }
+pub fn least_from(numbers: &[u32], n: usize, leasts: &mut [u32])
+    requires { ⌜ (n ≤ length (now numbers)) × (n ≤ length (now leasts)) ⌝ }
+    ensures { λ _. ⌜ ((i : ℕ) → i < n → LeastFrom (now (numbers .entry)) n i (getD (now (leasts .exit)) i 0)) ⌝ }
 {
-    let mut leasts = [0u32; 64];
     let mut least_so_far: u32 = 4294967295;
     let mut k = n;
     while 0 < k {
@@ -112,51 +95,56 @@ pub fn least_from(numbers: &[u32], n: usize) -> [u32; 64]
         least_so_far = bytes::least(numbers[k], least_so_far);
         leasts[k] = least_so_far;
     }
-    leasts
 }
 
-// A flow on endless processors: the start, the end and the last take of each job, the least start from each job on, and the path.
-pub struct Ideal {
-    pub starts: [u32; 64],
-    pub ends: [u32; 64],
-    pub lasts: [u32; 64],
-    pub firsts: [u32; 64],
-    pub path: u32,
-}
-
-// Rules 1 and 2, made once for a flow.
-pub fn ideal_of(jobs: FlowJobs) -> Ideal
-    requires { ⌜ ChainInput jobs ⌝ }
-    ensures { λ r. ⌜ IdealOf (flowFrom jobs) r ⌝ }
+// Rule 1 for the first n jobs: their slots and their last takes.
+pub fn lasts_of(sizes: &[u32], caps: &[u32], n: usize, slots: &mut [u32], last: &mut [u32])
+    requires { ⌜ (n ≤ length (now sizes)) × (n ≤ length (now caps)) × (n ≤ length (now slots)) × (n ≤ length (now last)) × ((i : ℕ) → i < n → (1 ≤ getD (now sizes) i 0) × (getD (now sizes) i 0 ≤ 1000000) × (1 ≤ getD (now caps) i 0)) ⌝ }
+    ensures { λ _. ⌜ LastTo (now (sizes .entry)) (now (caps .entry)) n (now (slots .exit)) (now (last .exit)) ⌝ }
 {
-    let count = jobs.count;
-    let mut slots = [0u32; 64];
-    let mut last = [0u32; 64];
     let mut i: usize = 0;
-    while i < count {
-        let lasting = lasts(jobs.size[i], jobs.cap[i]);
+    while i < n {
+        let lasting = lasts(sizes[i], caps[i]);
         slots[i] = lasting.slots;
         last[i] = lasting.last;
         i = i + 1;
     }
-    let predecessors = jobs.predecessors;
-    let mut all = [0u32; 64];
-    ends(&predecessors, &slots, count, &mut all);
-    let path = largest(&all, count);
-    let mut starts = [0u32; 64];
-    let mut k: usize = 0;
-    while k < count {
-        starts[k] = all[k] - slots[k];
-        k = k + 1;
+}
+
+// The first n jobs' starts: each stands the job's slots before its end.
+pub fn starts_of(ends: &[u32], slots: &[u32], n: usize, starts: &mut [u32])
+    requires { ⌜ (n ≤ length (now ends)) × (n ≤ length (now slots)) × (n ≤ length (now starts)) × ((i : ℕ) → i < n → getD (now slots) i 0 ≤ getD (now ends) i 0) ⌝ }
+    ensures { λ _. ⌜ ((i : ℕ) → i < n → getD (now (starts .exit)) i 0 ≡ getD (now (ends .entry)) i 0 - getD (now (slots .entry)) i 0) ⌝ }
+{
+    let mut i: usize = 0;
+    while i < n {
+        starts[i] = ends[i] - slots[i];
+        i = i + 1;
     }
-    let firsts = least_from(&starts, count);
-    Ideal {
-        starts,
-        ends: all,
-        lasts: last,
-        firsts,
-        path,
-    }
+}
+
+// Rules 1 and 2, made once for a flow, which its head and three lists hold: the start, the end and the last take of each job on endless
+// processors, and the least start from each job on, in the other lists; the path.
+pub fn ideal_of(
+    head: FlowHead,
+    sizes: &[u32],
+    caps: &[u32],
+    predecessors: &[u64],
+    starts: &mut [u32],
+    all: &mut [u32],
+    last: &mut [u32],
+    firsts: &mut [u32],
+) -> u32
+    requires { ⌜ ChainInput (flowHeld head (now sizes) (now caps) (now predecessors)) × (head .jobs ≤ length (now sizes)) × (head .jobs ≤ length (now caps)) × (head .jobs ≤ length (now predecessors)) × (head .jobs ≤ length (now starts)) × (head .jobs ≤ length (now all)) × (head .jobs ≤ length (now last)) × (head .jobs ≤ length (now firsts)) ⌝ }
+    ensures { λ r. ⌜ IdealOf (flowFrom (flowHeld head (now (sizes .entry)) (now (caps .entry)) (now (predecessors .entry)))) (record { starts = now (starts .exit); ends = now (all .exit); lasts = now (last .exit); firsts = now (firsts .exit); path = r }) ⌝ }
+{
+    let count = head.jobs as usize;
+    let mut slots = [0u32; 64];
+    lasts_of(sizes, caps, count, &mut slots, last);
+    ends(predecessors, &slots, count, all);
+    starts_of(all, &slots, count, starts);
+    least_from(starts, count, firsts);
+    largest(all, count)
 }
 
 // What a job takes in ideal slot t.

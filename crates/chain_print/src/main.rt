@@ -2,9 +2,10 @@
 // change and the rate does not. A line has a pseudo-job's first ideal slot, its width, its rate and its parts.
 ghost use Prim.Native.Nat.{_≤_};
 ghost use lib.ListN.{length};
+ghost use Rattle.book.specs.Promise.{flowHeld};
 ghost use Rattle.chain.specs.Jobs.{ChainInput};
 ghost use Rattle.chain.specs.Runs.{SomeFlow};
-use book::FlowJobs;
+use book::FlowHead;
 use chain::Run;
 use libc::STDOUT_FILENO;
 
@@ -74,78 +75,80 @@ fn print_cuts(
     }
 }
 
-fn print_chain(jobs: FlowJobs)
-    requires { ⌜ ChainInput jobs ⌝ }
+fn print_chain(head: FlowHead, sizes: &[u32], caps: &[u32], predecessors: &[u64])
+    requires { ⌜ ChainInput (flowHeld head (now sizes) (now caps) (now predecessors)) × (head .jobs ≤ length (now sizes)) × (head .jobs ≤ length (now caps)) × (head .jobs ≤ length (now predecessors)) ⌝ }
 {
-    let ideal = chain::ideal_of(jobs);
-    let count = jobs.count;
-    let path = ideal.path;
-    let caps = jobs.cap;
-    let starts = ideal.starts;
-    let ends = ideal.ends;
-    let lasts = ideal.lasts;
-    let firsts = ideal.firsts;
+    let mut starts = [0u32; 64];
+    let mut ends = [0u32; 64];
+    let mut lasts = [0u32; 64];
+    let mut firsts = [0u32; 64];
+    let path = chain::ideal_of(
+        head,
+        sizes,
+        caps,
+        predecessors,
+        &mut starts,
+        &mut ends,
+        &mut lasts,
+        &mut firsts,
+    );
     let mut names = [0u8; 64];
     let mut takes = [0u32; 64];
     print_path(path);
     print_cuts(
-        &caps,
+        caps,
         &starts,
         &ends,
         &lasts,
         &firsts,
         &mut names,
         &mut takes,
-        count,
+        head.jobs as usize,
         path,
     );
 }
 
-// A flow of jobs of one size and cap, each after the one before.
-fn in_a_row(count: usize, size: u32, cap: u32) -> FlowJobs
-    requires { ⌜ (count ≤ 64) × (1 ≤ size) × (size ≤ 1000000) × (1 ≤ cap) × (cap ≤ 4096) ⌝ }
-    ensures { λ r. ⌜ ChainInput r ⌝ }
+// The chain of jobs of one size and cap, each after the one before.
+fn print_in_a_row(jobs: u8, size: u32, cap: u32)
+    requires { ⌜ (jobs ≤ 64) × (1 ≤ size) × (size ≤ 1000000) × (1 ≤ cap) × (cap ≤ 4096) ⌝ }
 {
+    let sizes = [size; 64];
+    let caps = [cap; 64];
     let mut predecessors = [0u64; 64];
+    let count = jobs as usize;
     let mut i: usize = 1;
     while i < count {
         predecessors[i] = 1u64 << (i - 1);
         i = i + 1;
     }
-    FlowJobs {
+    let head = FlowHead {
         deadline: 4096,
         release: 0,
-        count,
-        size: [size; 64],
-        cap: [cap; 64],
-        predecessors,
-    }
+        jobs,
+    };
+    print_chain(head, &sizes, &caps, &predecessors);
 }
 
 // Job 2 begins where job 0 has ended and job 1 takes one less: from slot 0 to slot 1 the rate stays 4.
-fn equal_rates() -> FlowJobs
-    ensures { λ r. ⌜ ChainInput r ⌝ }
-{
-    let mut size = [1u32; 64];
-    size[1] = 5;
-    size[2] = 4;
-    let mut cap = [1u32; 64];
-    cap[1] = 3;
-    cap[2] = 2;
+fn print_equal_rates() {
+    let mut sizes = [1u32; 64];
+    sizes[1] = 5;
+    sizes[2] = 4;
+    let mut caps = [1u32; 64];
+    caps[1] = 3;
+    caps[2] = 2;
     let mut predecessors = [0u64; 64];
     predecessors[2] = 1;
-    FlowJobs {
+    let head = FlowHead {
         deadline: 3,
         release: 0,
-        count: 3,
-        size,
-        cap,
-        predecessors,
-    }
+        jobs: 3,
+    };
+    print_chain(head, &sizes, &caps, &predecessors);
 }
 
 fn main() {
-    print_chain(in_a_row(5, 3, 2));
-    print_chain(in_a_row(64, 1000000, 1));
-    print_chain(equal_rates());
+    print_in_a_row(5, 3, 2);
+    print_in_a_row(64, 1000000, 1);
+    print_equal_rates();
 }

@@ -1,11 +1,12 @@
 -- The placing of the first flows in service order, flow by flow: how it starts, goes on by a flow that is placed, and ends.
 -- A flow is put behind the rows of those before it and changes its own finish alone, which was 0, because it stands once in the order; a flow
 -- that is infeasible stays the answer for all flows after it. Assumes nothing.
-use mathlib.Core.Path.{_≡_, refl, sym, ap, _∙_}
+use mathlib.Core.Path.{_≡_, refl, sym, ap, subst, _∙_}
 use Prim.Native.Nat.{ℕ, zero, suc, _+_, _*_, _-_, _≤_, _<_}
 use native.Mathlib.Nat.{add-suc, add-zero}
 use native.Mathlib.Numerals.{add-one}
 use native.Mathlib.Omega.{arith}
+use mathlib.Core.Bool.{true}
 use mathlib.Core.List.{List, [], _++_}
 use mathlib.Core.Logic.{_⊎_, inl, inr}
 use lib.ListN.{length, getD, set, replicate, length-append, length-replicate, length-set, List·getD-append}
@@ -27,8 +28,9 @@ use Rattle.book.specs.Promise.{FlowStands}
 use Rattle.place.specs.declared.planner.Ended.the-variants.{Planned, Infeasible}
 use Rattle.place.specs.declared.planner.Whole.{Whole}
 use Rattle.place.specs.Output.{putRows}
-use Rattle.place.specs.Flows.{newRows, FlowDone, FlowInfeasible}
-use Rattle.place.specs.Whole.{Asked, PlacedFirst, endedOf, FirstPlaced}
+use Rattle.place.specs.declared.Placed.the-variants.{To}
+use Rattle.place.specs.Flows.{newRows, FlowDone, FlowInfeasible, FlowPlaced}
+use Rattle.place.specs.Whole.{InOrder, Asked, PlacedFirst, endedOf, FirstPlaced}
 use Rattle.place.proofs.Output.{put-more}
 use Rattle.place.proofs.Finishes.{finish-stays, finish-own}
 
@@ -44,14 +46,19 @@ pub record NextFlow (s : List ℕ) (x : Index) (k f : ℕ) : Type 0 where
 pub few-flows : {s : List ℕ} {x : Index} {order : List ℕ} {count : ℕ} {work : List ℕ} → Asked s x order count work → x .flows ≤ 64
 few-flows {s} a = omega (arith, a .indexed .flows, pass-in-range s (a .indexed .passes) .flows-most)
 
+-- the array holds the service order
+pub in-array : (s order : List ℕ) → InOrder s order → (k : ℕ) → k < flowCount (bookOf s) → getD order k 0 ≡ servedAt (bookOf s) k
+in-array s order o k l =
+    let b = bookOf s in
+    ap (λ (l : List ℕ). getD l k 0) o ∙ List·getD-append (serviceOrder b) (replicate (64 - flowCount b) 0) 0 k (omega (arith, service-length b))
+
 pub next-flow : (s : List ℕ) (x : Index) (order : List ℕ) (count : ℕ) (work : List ℕ) → Asked s x order count work →
     (k f : ℕ) → k < count → f ≡ getD order k 0 → NextFlow s x k f
 next-flow s x order count work a k f l q =
     let b = bookOf s in
     let below : k < flowCount b = omega (arith, a .within) in
     let range = pass-in-range s (a .indexed .passes) in
-    let e : f ≡ servedAt b k =
-    q ∙ ap (λ (o : List ℕ). getD o k 0) (a .in-order) ∙ List·getD-append (serviceOrder b) (replicate (64 - flowCount b) 0) 0 k (omega (arith, service-length b)) in
+    let e : f ≡ servedAt b k = q ∙ in-array s order (a .in-order) k below in
     let in-book : f < flowCount b = omega (arith, service-below b k below) in
     record {
       served = e;
@@ -61,6 +68,11 @@ next-flow s x order count work a k f l q =
       stands = record { passes = a .indexed .passes; flow-in = in-book; records-at = a .indexed .records f in-book };
       deadline-most = used-in-range range f in-book .deadline-most;
     }
+
+-- a flow whose rows are put is done at the place that the code holds
+pub listed-done : {b : Book} {f : ℕ} {rows : List Row} {area out out′ area′ : List ℕ} {at finish next : ℕ} →
+    FlowPlaced true b f rows area out at out′ area′ (To finish next) → FlowDone b f rows area out at out′ area′ finish next
+listed-done {b} {f} {rows} {area} {out} {out′} {area′} {at} {finish} p = subst (λ (n : ℕ). FlowDone b f rows area out at out′ area′ finish n) (p .1 refl) (p .2)
 
 -- ---- where the placing stands after k flows
 pub record Stands (b : Book) (k : ℕ) (rows : List Row) (out area out′ area′ finishes : List ℕ) (next : ℕ) : Type 0 where

@@ -4,13 +4,14 @@ use mathlib.Core.Path.{_≡_, refl, sym, ap, subst, _∙_}
 use Prim.Native.Nat.{ℕ, _+_, _*_, _-_, _≤_, _<_}
 use native.Mathlib.Nat.{sub-zero, le-trans}
 use native.Mathlib.Omega.{arith}
+use mathlib.Core.Bool.{Bool}
 use mathlib.Core.List.{List, [], _∷_, _++_, append-nil}
-use lib.ListN.{length, getD}
+use lib.ListN.{length}
 use Rattle.rules.specs.Limits.{slots}
 use Rattle.rules.specs.declared.Verdict.the-variants.{Pass}
 use Rattle.rules.specs.Book.{Flow, Book, flowCount, jobCount, flowOf, jobOf, FlowInRange}
 use Rattle.rules.specs.Reading.{bookOf, bookFault}
-use Rattle.rules.specs.Ideal.{path, takeOf}
+use Rattle.rules.specs.Ideal.{path}
 use Rattle.rules.specs.PseudoJobs.{PseudoJob, runs, chain, rate}
 use Rattle.rules.specs.Rows.{Row, usedIn, finishOf, workUsed}
 use Rattle.rules.specs.Placing.{Progress, progress, flowRows, freeProcessors, slotsFor, placeFlow}
@@ -22,21 +23,17 @@ use Rattle.rules.proofs.Usable.{none-free-before, free-within}
 use Rattle.rules.proofs.Greedy.{not-begun}
 use Rattle.rules.proofs.PlannedRows.{no-rows-yet}
 use Rattle.rules.proofs.FlowRows.{used-append}
-use Rattle.book.specs.declared.FlowJobs.{FlowJobs}
-use Rattle.book.specs.Promise.{FlowStands, flowFrom, Loaded}
-use Rattle.chain.specs.declared.Ideal.{Ideal}
+use Rattle.book.specs.Promise.{FlowJobs, FlowStands, flowFrom, Loaded}
 use Rattle.chain.specs.declared.Run.{Run}
 use Rattle.chain.specs.Jobs.{ChainInput}
-use Rattle.chain.specs.Runs.{IdealOf, RunInput, SomeFlow, RunAt}
+use Rattle.chain.specs.Runs.{Ideal, IdealOf, RunInput, SomeFlow, RunAt}
 use Rattle.chain.proofs.Starts.{count-of, input-of, path-most}
-use Rattle.chain.proofs.Parts.{amount-within}
 use Rattle.chain.proofs.Cuts.{run-input, parts-counted}
 use Rattle.place.specs.declared.Current.{Current}
 use Rattle.place.specs.declared.Placed.{Placed}
 use Rattle.place.specs.declared.Placed.the-variants.{To, Infeasible}
-use Rattle.place.specs.Service.{Packs, Serving, pseudoJob}
-use Rattle.place.specs.Flows.{standing, Beside, rowsUpTo, Underway, UnderwayBy, WorkLeft, RunPlaced, RunAnswer, newRows, FlowDone, FlowInfeasible, FlowHeld}
-use Rattle.place.proofs.Serving.{takes-within}
+use Rattle.place.specs.Service.{PartsHeld, pseudoJob}
+use Rattle.place.specs.Flows.{standing, Beside, rowsUpTo, Underway, UnderwayBy, WorkLeft, RunPlaced, PlaceIf, RunGoes, newRows, FlowDone, FlowInfeasible, FlowPlaced, FlowHeld}
 use Rattle.place.proofs.Output.{put-none, put-same-length}
 use Rattle.place.proofs.Steps.{stays-finished, no-more-rows, own-rows-within-free}
 
@@ -126,14 +123,16 @@ module _ (b : Book) (f : ℕ) where
   }
 
 -- ---- the loop over cuts: what is kept from its begin on
-pub record FlowKept (b : Book) (f at limit : ℕ) (out₀ area₀ out area : List ℕ) (t slot next : ℕ) : Type 0 where
+pub record FlowKept (listed : Bool) (b : Book) (f at limit : ℕ) (out₀ area₀ out area : List ℕ) (t slot next : ℕ) : Type 0 where
+  pub place : ℕ
+  pub place-if : PlaceIf listed place next
+  pub place-to : place ≤ at + 384 * slot
   pub cut-to : t ≤ path (flowOf b f)
   pub slot-to : slot ≤ limit
-  pub next-to : next ≤ at + 384 * slot
   pub out-length : length out ≡ length out₀
   pub area-length : length area ≡ length area₀
   pub so-far : (rows : List Row) (bytes : List ℕ) → area₀ ≡ workUsed slots rows bytes → ((u : ℕ) → usedIn rows u ≤ b .processors) →
-      FlowSoFar b f (beside rows bytes out₀ at) t slot out area next
+      FlowSoFar b f (beside rows bytes out₀ at) t slot out area place
 
 -- ---- a flow that is read out of its book, on endless processors
 flow-in-range : (s : List ℕ) (f : ℕ) → bookFault s ≡ Pass → f < flowCount (bookOf s) → FlowInRange (bookOf s .processors) (flowOf (bookOf s) f)
@@ -208,12 +207,14 @@ module _ {s : List ℕ} {f : ℕ} {caps starts ends lasts firsts : List ℕ} {co
       )
 
   -- the loop begins at the release, with no run placed
-  pub flow-kept-first : {limit slot : ℕ} (at : ℕ) (out area : List ℕ) → limit ≡ slotsFor (flowOf (bookOf s) f) → slot ≡ flowOf (bookOf s) f .release →
-      FlowKept (bookOf s) f at limit out area out area 0 slot at
-  flow-kept-first at out area e q = record {
+  pub flow-kept-first : {limit slot : ℕ} (listed : Bool) (at : ℕ) (out area : List ℕ) → limit ≡ slotsFor (flowOf (bookOf s) f) →
+      slot ≡ flowOf (bookOf s) f .release → FlowKept listed (bookOf s) f at limit out area out area 0 slot at
+  flow-kept-first listed at out area e q = record {
+    place = at;
+    place-if = λ _. refl;
+    place-to = omega arith;
     cut-to = omega arith;
     slot-to = omega (arith, in-range .release-below);
-    next-to = omega arith;
     out-length = refl;
     area-length = refl;
     so-far = λ rows bytes used within. rw q (flow-begins (bookOf s) f flow-sized rows bytes out area at used within);
@@ -239,25 +240,19 @@ module _ {s : List ℕ} {f : ℕ} {caps starts ends lasts firsts : List ℕ} {co
     pub parts-within : r .parts ≤ count
     parts-within = omega (arith, parts-counted (flowOf (bookOf s) f) t names takes r run-here, counted)
 
-    -- what is asked to pack the parts
-    pub parts-fit : (q : ℕ) → q < r .parts → getD takes q 0 ≤ 4096
-    parts-fit q l =
-        amount-within (λ i. takeOf (flowOf (bookOf s) f) i t) _ names takes (r .parts) 4096 (run-here .parts) (takes-within s f t (h .passes) (h .flow-in)) q l
-
-    pub serving-at : {P : ℕ} {rows : List ℕ} → P ≡ bookOf s .processors → count ≤ length names → count ≤ length takes → count ≤ length rows →
-        ((q : ℕ) → q < r .parts → Packs (getD rows q 0) f (getD names q 0) (getD takes q 0)) → Serving s (currentAt t P r) names takes rows
-    serving-at e names-whole takes-whole rows-whole packs = record {
-      passes = h .passes;
-      flow-in = h .flow-in;
-      processors = e;
-      rate = run-here .rate;
-      rate-positive = rw (run-here .rate) positive;
-      width-positive = run-here .run .some;
+    pub held-at : {P : ℕ} → P ≡ bookOf s .processors → count ≤ length names → count ≤ length takes → PartsHeld s (currentAt t P r) names takes
+    held-at e names-whole takes-whole = record {
+      in-service = record {
+        passes = h .passes;
+        flow-in = h .flow-in;
+        processors = e;
+        rate = run-here .rate;
+        rate-positive = rw (run-here .rate) positive;
+        width-positive = run-here .run .some;
+      };
       parts = run-here .parts;
       names-whole = omega (arith, parts-within);
       takes-whole = omega (arith, parts-within);
-      rows-whole = omega (arith, parts-within);
-      rows-are = packs;
     }
       where
         positive : 0 < rate (flowOf (bookOf s) f) (record { first = t; width = r .width })
@@ -280,41 +275,48 @@ module _ {s : List ℕ} {f : ℕ} {caps starts ends lasts firsts : List ℕ} {co
         let done = placed .finished y _ (at-cut-under P y slot out area at so-far) in
         record { under = done .under; finish = λ l. done .finish }
 
-    pub flow-kept-next : {at limit : ℕ} {out₀ area₀ out area out′ area′ : List ℕ} {slot next slot′ next′ : ℕ} {q : Placed} (P : ℕ) →
-        FlowKept (bookOf s) f at limit out₀ area₀ out area t slot next →
-        RunAnswer s (currentAt t P r) slot next limit out area out′ area′ q → q ≡ To slot′ next′ →
-        length out′ ≡ length out → length area′ ≡ length area → FlowKept (bookOf s) f at limit out₀ area₀ out′ area′ (t + r .width) slot′
-        next′
-    flow-kept-next {at} {limit} {out₀} {area₀} {out} {area} {out′} {area′} {slot} {next} {slot′} {next′} P k answer told same-out same-area =
-        let placed : RunPlaced s (currentAt t P r) slot next limit out area out′ area′ slot′ next′ =
-        subst (λ (z : Placed). RunAnswer s (currentAt t P r) slot next limit out area out′ area′ z) told answer in
+    pub flow-kept-next : {listed : Bool} {at limit : ℕ} {out₀ area₀ out area out′ area′ : List ℕ} {slot next slot′ next′ : ℕ} {q : Placed} (P : ℕ) →
+        FlowKept listed (bookOf s) f at limit out₀ area₀ out area t slot next →
+        RunGoes listed s (currentAt t P r) slot next limit out area out′ area′ q → q ≡ To slot′ next′ →
+        length out′ ≡ length out → length area′ ≡ length area →
+        FlowKept listed (bookOf s) f at limit out₀ area₀ out′ area′ (t + r .width) slot′ next′
+    flow-kept-next {listed} {at} {limit} {out₀} {area₀} {out} {area} {out′} {area′} {slot} {next} {slot′} {next′} P k answer told same-out same-area =
+        let went : RunGoes listed s (currentAt t P r) slot next limit out area out′ area′ (To slot′ next′) =
+        subst (λ (z : Placed). RunGoes listed s (currentAt t P r) slot next limit out area out′ area′ z) told answer in
+        let goes = went (k .place) (k .place-if) in
+        let placed = goes .2 in
         record {
+          place = goes .0;
+          place-if = goes .1;
+          place-to = omega (arith, placed .next-within, placed .slot-after, k .place-to);
           cut-to = run-here .run .within;
           slot-to = placed .slot-within;
-          next-to = omega (arith, placed .next-within, placed .slot-after, k .next-to);
           out-length = same-out ∙ k .out-length;
           area-length = same-area ∙ k .area-length;
-          so-far = λ rows bytes e within. flow-goes-on P (beside rows bytes out₀ at) slot next limit out area out′ area′ slot′ next′
+          so-far = λ rows bytes e within. flow-goes-on P (beside rows bytes out₀ at) slot (k .place) limit out area out′ area′ slot′ (goes .0)
               (k .so-far rows bytes e within) placed;
         }
 
-    pub flow-kept-stops : {at limit : ℕ} {out₀ area₀ out area out′ area′ : List ℕ} {slot next : ℕ} {q : Placed} (P : ℕ) →
-        limit ≡ slotsFor (flowOf (bookOf s) f) → FlowKept (bookOf s) f at limit out₀ area₀ out area t slot next →
-        RunAnswer s (currentAt t P r) slot next limit out area out′ area′ q → q ≡ Infeasible →
+    pub flow-kept-stops : {listed : Bool} {at limit : ℕ} {out₀ area₀ out area out′ area′ : List ℕ} {slot next : ℕ} {q : Placed} (P : ℕ) →
+        limit ≡ slotsFor (flowOf (bookOf s) f) → FlowKept listed (bookOf s) f at limit out₀ area₀ out area t slot next →
+        RunGoes listed s (currentAt t P r) slot next limit out area out′ area′ q → q ≡ Infeasible →
         (rows : List Row) (bytes : List ℕ) → area₀ ≡ workUsed slots rows bytes → ((u : ℕ) → usedIn rows u ≤ bookOf s .processors) →
         FlowInfeasible (bookOf s) f rows bytes out₀ out′ area′
-    flow-kept-stops {at} {limit} {out₀} {area₀} {out} {area} {out′} {area′} {slot} {next} P e k answer told rows bytes used within =
-        let left : RunAnswer s (currentAt t P r) slot next limit out area out′ area′ Infeasible =
-        subst (λ (z : Placed). RunAnswer s (currentAt t P r) slot next limit out area out′ area′ z) told answer in
+    flow-kept-stops {listed} {at} {limit} {out₀} {area₀} {out} {area} {out′} {area′} {slot} {next} P e k answer told rows bytes used within =
+        let left : RunGoes listed s (currentAt t P r) slot next limit out area out′ area′ Infeasible =
+        subst (λ (z : Placed). RunGoes listed s (currentAt t P r) slot next limit out area out′ area′ z) told answer in
         flow-stops (bookOf s) f rows bytes out₀ out′ area′ at limit e
-        (left (beside rows bytes out₀ at) _
-        (at-cut-under P (beside rows bytes out₀ at) slot out area next (k .so-far rows bytes used within)))
+        (left (k .place) (k .place-if) (beside rows bytes out₀ at) _
+        (at-cut-under P (beside rows bytes out₀ at) slot out area (k .place) (k .so-far rows bytes used within)))
 
-  pub flow-kept-done : {at limit : ℕ} {out₀ area₀ out area : List ℕ} {t slot next : ℕ} → limit ≡ slotsFor (flowOf (bookOf s) f) →
+  pub flow-kept-done : {listed : Bool} {at limit : ℕ} {out₀ area₀ out area : List ℕ} {t slot next : ℕ} → limit ≡ slotsFor (flowOf (bookOf s) f) →
       path (flowOf (bookOf s) f) ≤ t →
-      FlowKept (bookOf s) f at limit out₀ area₀ out area t slot next →
+      FlowKept listed (bookOf s) f at limit out₀ area₀ out area t slot next →
       (rows : List Row) (bytes : List ℕ) → area₀ ≡ workUsed slots rows bytes → ((u : ℕ) → usedIn rows u ≤ bookOf s .processors) →
-      FlowDone (bookOf s) f rows bytes out₀ at out area slot next
-  flow-kept-done {at} {limit} {out₀} {area₀} {out} {area} {t} {slot} {next} e over k rows bytes q within =
-      flow-done (bookOf s) f rows bytes out₀ out area at t slot next flow-sized jobs-few path-positive over (omega (arith, k .slot-to))
-      deadline-within (k .next-to) (k .so-far rows bytes q within)
+      FlowPlaced listed (bookOf s) f rows bytes out₀ at out area (To slot next)
+  flow-kept-done {listed} {at} {limit} {out₀} {area₀} {out} {area} {t} {slot} {next} e over k rows bytes q within = (
+    k .place,
+    k .place-if,
+    flow-done (bookOf s) f rows bytes out₀ out area at t slot (k .place) flow-sized jobs-few path-positive over (omega (arith, k .slot-to))
+        deadline-within (k .place-to) (k .so-far rows bytes q within),
+  )

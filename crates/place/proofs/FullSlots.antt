@@ -43,9 +43,9 @@ module _ {s : List ℕ} {c : Current} {names takes rows : List ℕ} (v : Serving
   row-packed : (j : ℕ) → j < jobCount w → 0 < take j → packedRow t (getD rows (partsBelow take j) 0) ∷ [] ≡ rowFor t (c .flow) j (take j)
   row-packed j l some =
       rw (
-        v .rows-are (partsBelow take j) (omega (arith, v .parts .count, part-before take j (jobCount w) l some)) t,
-        v .parts .name j l some,
-        v .parts .amount j l some,
+        v .rows-are (partsBelow take j) (omega (arith, v .held .parts .count, part-before take j (jobCount w) l some)) t,
+        v .held .parts .name j l some,
+        v .held .parts .amount j l some,
       )
       (sym (row-for-some t (c .flow) j (take j) (λ e. omega arith)))
 
@@ -66,9 +66,9 @@ module _ {s : List ℕ} {c : Current} {names takes rows : List ℕ} (v : Serving
       packedRows t rows (c .parts) ≡ jobRows w (c .flow) t (pseudoJob c) done give
   full-rows done give fits whole =
       let p = pseudoJob c in
-      let e : give ≡ rate w p = whole ∙ v .rate in
-      rw (v .parts .count, e)
+      let e : give ≡ rate w p = whole ∙ v .held .in-service .rate in
+      rw (v .held .parts .count, e)
       (packed-below (jobCount w) (omega arith)
       ∙ rows-same t (c .flow) take (λ i. share w p i done (rate w p)) (jobCount w)
-      (λ i l. sym (share-is-take w p i done (omega (arith, v .rate, v .rate-positive)) (omega arith) l))
+      (λ i l. sym (share-is-take w p i done (omega (arith, v .held .in-service .rate, v .held .in-service .rate-positive)) (omega arith) l))
       ∙ rows-below-all w (c .flow) t p done (rate w p))

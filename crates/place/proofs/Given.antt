@@ -2,7 +2,7 @@
 use mathlib.Core.Path.{_≡_, refl, sym, ap, _∙_}
 use Prim.Native.Nat.{ℕ, _+_, _*_, _-_, _≤_, _<_, min}
 use native.Mathlib.Omega.{arith}
-use mathlib.Core.List.{List, _∷_}
+use mathlib.Core.List.{List, [], _∷_}
 use lib.ListN.{length}
 use lib.Seq.{sets}
 use Rattle.rules.specs.Limits.{slots}
@@ -15,14 +15,15 @@ use Rattle.rules.specs.Placing.{share, given, freeProcessors}
 use Rattle.rules.proofs.Usable.{free-from-release}
 use Rattle.place.specs.declared.Current.{Current}
 use Rattle.place.specs.Output.{Put}
-use Rattle.place.specs.Service.{Serving, currentFlow, pseudoJob, jobRows}
-use Rattle.place.specs.Flows.{standing, Beside, UnderwayBy, SlotServed}
+use Rattle.place.specs.Service.{InService, currentFlow, pseudoJob, jobRows}
+use Rattle.place.specs.Flows.{standing, Beside, UnderwayBy, SlotServed, SlotUsed}
 use Rattle.place.proofs.OneSlot.{slot-rows-few}
+use Rattle.place.proofs.Output.{put-rows-too-far}
 use Rattle.place.proofs.SlotRows.{rows-below-all}
 use Rattle.place.proofs.Serving.{jobs-within, processors-within}
 use Rattle.place.proofs.Underway.{used-before, slot-served, slot-passed}
 
-module _ {s : List ℕ} {c : Current} {names takes rows : List ℕ} (v : Serving s c names takes rows) where
+module _ {s : List ℕ} {c : Current} (v : InService s c) where
   -- the work of the pseudo-job
   pub work-held : work (currentFlow s c) (pseudoJob c) ≡ c .width * c .rate
   unfolding work
@@ -78,3 +79,23 @@ module _ {s : List ℕ} {c : Current} {names takes rows : List ℕ} (v : Serving
               (omega (arith, v .rate, v .rate-positive)) within put
               (stored ∙ ap (λ (m : ℕ). sets area (2 * slot) (bytesOf 2 (m + n))) (used-is x ps u));
         }
+
+  -- ---- without rows, of whose units `left` are not given
+  module _ {used : ℕ} (left slot : ℕ) (area : List ℕ) (most : left ≤ work (currentFlow s c) (pseudoJob c)) (inside : slot < slots)
+      (read : used ≡ field 2 area (2 * slot)) where
+    abbrev done : ℕ
+    done = work (currentFlow s c) (pseudoJob c) - left
+
+    same-give : min (c .rate) (min left (c .processors - used)) ≡ min (c .rate) (min (c .width * c .rate - done) (c .processors - used))
+    same-give = let rest : c .width * c .rate - done ≡ left = omega (arith, work-held) in rw rest refl
+
+    pub used-nothing : min (c .rate) (min left (c .processors - used)) ≡ 0 → SlotUsed s c done slot area area 0
+    used-nothing e at = (at, served-nothing done slot area refl (omega arith) inside read (sym same-give ∙ e))
+
+    pub used-some : {n : ℕ} {area′ : List ℕ} → n ≡ min (c .rate) (min left (c .processors - used)) → area′ ≡ sets area (2 * slot) (bytesOf 2 (used + n)) →
+        SlotUsed s c done slot area area′ n
+    used-some {n} e stored at = (
+      _,
+      served-some done slot area refl (omega arith) inside read (e ∙ same-give)
+          (put-rows-too-far [] at (jobRows (currentFlow s c) (c .flow) slot (pseudoJob c) done n) (omega arith)) stored,
+    )

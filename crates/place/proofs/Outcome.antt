@@ -3,7 +3,7 @@
 use mathlib.Core.Path.{_≡_, refl, sym, ap, ap₂, subst, _∙_}
 use Prim.Native.Nat.{ℕ, _+_, _*_, _≤_, _<_}
 use native.Mathlib.Omega.{arith}
-use mathlib.Core.List.{List, [], _∷_, _++_}
+use mathlib.Core.List.{List, _++_}
 use lib.ListN.{length, drop, replicate, length-replicate}
 use lib.Seq.{sets, drop-at}
 use borrow.Author.Tests.{lt-ltb, le-ltb}
@@ -29,6 +29,7 @@ use Rattle.book.specs.Late.{lateCount}
 use Rattle.place.specs.Output.{putRows}
 use Rattle.place.specs.Whole.{InOrder, Asked, PlacedFirst, endedOf, FirstPlaced}
 use Rattle.place.proofs.Assembly.{table-stored}
+use Rattle.place.proofs.Output.{no-bytes}
 use Rattle.book.proofs.LateFlows.{late-counted}
 use Rattle.place.proofs.FirstFlows.{few-flows, place-most}
 
@@ -144,20 +145,20 @@ module _ (s : List ℕ) (x : Index) (order : List ℕ) (size : ℕ) (out area : 
       p = f .when-planned rows (ap (placeFirst b) q ∙ z .planned-rows)
 
 -- ---- the first placing
--- an area that is cleared may be placed in
-pub asked-cleared : (s : List ℕ) (x : Index) (order area area′ : List ℕ) → Indexed s x → InOrder s order → workBytes ≤ length area′ →
-    area′ ≡ workZero slots area → Asked s x order (x .flows) area′
-asked-cleared s x order area area′ i o l e = record {
+-- an area that is cleared may be placed in: the first k flows, or all
+pub asked-up-to : (s : List ℕ) (x : Index) (order area area′ : List ℕ) (k : ℕ) → Indexed s x → InOrder s order → k ≤ flowCount (bookOf s) →
+    workBytes ≤ length area′ → area′ ≡ workZero slots area → Asked s x order k area′
+asked-up-to s x order area area′ k i o within l e = record {
   indexed = i;
   in-order = o;
-  within = omega (arith, i .flows);
+  within = within;
   long-enough = l;
   zero = e ∙ sym (cleared-twice slots area) ∙ ap (workZero slots) (sym e);
 }
 
-no-bytes : (part out : List ℕ) → length part ≡ 0 → part ++ out ≡ out
-no-bytes [] out e = refl
-no-bytes (x ∷ xs) out e = absurd (omega arith)
+pub asked-cleared : (s : List ℕ) (x : Index) (order area area′ : List ℕ) → Indexed s x → InOrder s order → workBytes ≤ length area′ →
+    area′ ≡ workZero slots area → Asked s x order (x .flows) area′
+asked-cleared s x order area area′ i o = asked-up-to s x order area area′ (x .flows) i o (omega (arith, i .flows))
 
 -- rows that were put into no bytes are counted
 pub counted : (s : List ℕ) (x : Index) (order out area part part′ area₁ area₂ area₃ : List ℕ) (r : Whole) → Asked s x order (x .flows) area₁ →
@@ -168,7 +169,7 @@ counted s x order out area part part′ area₁ area₂ area₃ r a e l f d = re
   ends = f .ends ∙ ap (λ (n : ℕ). endedOf b (placeFirst b n)) q;
   fits = λ rows p.
       omega (arith, few-flows a, place-most b (x .flows) rows part area₁ part′ area₂ (r .finish) (tableLength b rows) (omega arith) (omega (arith, few-flows a)) (f .when-planned rows (ap (placeFirst b) q ∙ p)));
-  output-kept = no-bytes part′ out l;
+  output-kept = ap (_++ out) (no-bytes part′ l);
   area-zero = d ∙ f .cleared ∙ ap (workZero slots) e ∙ cleared-twice slots area;
 }
   where

@@ -118,3 +118,8 @@ pub row-in-part : (out part : List ℕ) (at : ℕ) (r : Row) → at + 6 ≤ leng
     part ≡ sets (take (at + 6 - at) (drop at out)) 0 (rowBytes r) →
     take at out ++ (part ++ drop (at + 6 - at) (drop at out)) ≡ sets out at (rowBytes r)
 row-in-part out part at r h e = rw (e, row-part at) (set-in-part out (rowBytes r) at 6 (row-bytes-length r) h)
+
+-- an output of no bytes
+pub no-bytes : (out : List ℕ) → length out ≡ 0 → out ≡ []
+no-bytes [] e = refl
+no-bytes (x ∷ xs) e = absurd (omega arith)

@@ -5,16 +5,19 @@ use mathlib.Core.Logic.{_⊎_, inl, inr}
 use Prim.Native.Nat.{ℕ, suc, _+_, _*_, _-_, _≤_, _<_}
 use native.Mathlib.Nat.{mul-le-mul-right}
 use native.Mathlib.Omega.{arith}
-use mathlib.Core.List.{List, _∷_}
+use mathlib.Core.Bool.{Bool, true, false, false≢true}
+use mathlib.Core.List.{List, [], _∷_}
 use lib.ListN.{length}
 use Rattle.rules.specs.Limits.{slots}
 use Rattle.rules.specs.Reading.{bookOf}
 use Rattle.rules.specs.PseudoJobs.{PseudoJob, rate, work}
 use Rattle.rules.specs.Placing.{Progress, given, freeProcessors}
 use Rattle.place.specs.declared.Current.{Current}
+use Rattle.place.specs.declared.Placed.{Placed}
+use Rattle.place.specs.declared.Placed.the-variants.{To, Infeasible}
 use Rattle.place.specs.declared.Served.{Served}
-use Rattle.place.specs.Service.{Serving, currentFlow, pseudoJob}
-use Rattle.place.specs.Flows.{standing, Beside, UnderwayBy, SlotServed, RunDone, WorkLeft, RunPlaced}
+use Rattle.place.specs.Service.{InService, currentFlow, pseudoJob}
+use Rattle.place.specs.Flows.{standing, Beside, UnderwayBy, SlotServed, RunDone, WorkLeft, RunPlaced, RunAnswer, SlotUsed, RunUsed, RunGoes}
 use Rattle.rules.proofs.Division.{lt-or-ge}
 use Rattle.place.proofs.Given.{work-held}
 use Rattle.place.proofs.Serving.{processors-within}
@@ -26,7 +29,7 @@ pub record RunSoFar (s : List ℕ) (c : Current) (x : Beside) (ps : List PseudoJ
   pub going-on : done < work (currentFlow s c) (pseudoJob c) → UnderwayBy s c x slot (standing (pseudoJob c ∷ ps) done) out area next
   pub over : done ≡ work (currentFlow s c) (pseudoJob c) → RunDone s c x ps slot out area next
 
-module _ {s : List ℕ} {c : Current} {names takes rows : List ℕ} (v : Serving s c names takes rows) (x : Beside) (ps : List PseudoJob) where
+module _ {s : List ℕ} {c : Current} (v : InService s c) (x : Beside) (ps : List PseudoJob) where
   pub run-begins : (slot : ℕ) (out area : List ℕ) (next : ℕ) → 0 < work (currentFlow s c) (pseudoJob c) →
       UnderwayBy s c x slot (standing (pseudoJob c ∷ ps) 0) out area next → RunSoFar s c x ps slot 0 out area next
   run-begins slot out area next some u = record { going-on = λ l. u; over = λ e. absurd (omega arith) }
@@ -75,7 +78,7 @@ pub record RunKept (s : List ℕ) (c : Current) (from limit at : ℕ) (out₀ ar
   pub so-far : (x : Beside) (ps : List PseudoJob) → UnderwayBy s c x from (standing (pseudoJob c ∷ ps) 0) out₀ area₀ at →
       RunSoFar s c x ps slot done out area next
 
-module _ {s : List ℕ} {c : Current} {names takes rows : List ℕ} (v : Serving s c names takes rows) where
+module _ {s : List ℕ} {c : Current} (v : InService s c) where
   some-work : 0 < work (currentFlow s c) (pseudoJob c)
   some-work = omega (arith, work-held v, mul-le-mul-right {m = 1} {n = c .width} (c .rate) (v .width-positive), v .rate-positive)
 
@@ -123,3 +126,33 @@ module _ {s : List ℕ} {c : Current} {names takes rows : List ℕ} (v : Serving
         go : (from < slot) ⊎ (slot ≤ from) → from < slot
         go (inl m) = m
         go (inr m) = absurd (omega (arith, k .nothing-yet (omega (arith, k .slot-from)), some-work))
+
+-- ---- the same without rows, whose place may be any
+abbrev pub UsedKept : List ℕ → Current → ℕ → ℕ → List ℕ → List ℕ → ℕ → ℕ → Type 0
+UsedKept s c from limit area₀ area done slot = (at : ℕ) → (next : ℕ) × RunKept s c from limit at [] area₀ [] area done slot next
+
+module _ {s : List ℕ} {c : Current} (v : InService s c) {from limit done slot : ℕ} {area₀ area : List ℕ} (k : UsedKept s c from limit area₀ area done slot) where
+  pub used-kept-next : {area′ : List ℕ} {give done′ : ℕ} → limit ≤ slots → slot < limit → done < work (currentFlow s c) (pseudoJob c) →
+      SlotUsed s c done slot area area′ give → done′ ≡ done + give → length area′ ≡ length area → UsedKept s c from limit area₀ area′ done′ (slot + 1)
+  used-kept-next most inside left served more same at =
+      let here = k at in
+      let next = served (here .0) in
+      (next .0, run-kept-next v (here .1) most inside left (next .1) more refl same)
+
+  pub used-kept-stops : limit ≤ slot → done < work (currentFlow s c) (pseudoJob c) → RunUsed s c from limit area₀ area Infeasible
+  used-kept-stops l left at = run-kept-stops v (k at .1) l left
+
+  pub used-kept-done : (held : ℕ) → work (currentFlow s c) (pseudoJob c) ≤ done → RunUsed s c from limit area₀ area (To slot held)
+  used-kept-done held l at = (k at .0, run-kept-done v (k at .1) l)
+
+-- ---- with rows or without
+module _ (s : List ℕ) (c : Current) (from held limit : ℕ) (out area out′ area′ : List ℕ) where
+  pub run-listed : (listed : Bool) → listed ≡ true → (q : Placed) → RunAnswer s c from held limit out area out′ area′ q →
+      RunGoes listed s c from held limit out area out′ area′ q
+  run-listed listed t (To slot next) answer = λ at e. (next, λ _. refl, rw (e t) answer)
+  run-listed listed t Infeasible answer = λ at e. rw (e t) answer
+
+  pub run-unlisted : (listed : Bool) → listed ≡ false → out ≡ [] → out′ ≡ [] → (q : Placed) → RunUsed s c from limit area area′ q →
+      RunGoes listed s c from held limit out area out′ area′ q
+  run-unlisted listed t none none′ (To slot next) answer = λ at e. (answer at .0, λ u. absurd (false≢true (sym t ∙ u)), rw (none, none′) (answer at .1))
+  run-unlisted listed t none none′ Infeasible answer = λ at e. rw (none, none′) (answer at)

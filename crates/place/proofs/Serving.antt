@@ -3,6 +3,7 @@ use mathlib.Core.Path.{_≡_}
 use Prim.Native.Nat.{ℕ, _≤_, _<_}
 use native.Mathlib.Omega.{arith}
 use mathlib.Core.List.{List}
+use lib.ListN.{getD}
 use Rattle.rules.specs.declared.Verdict.the-variants.{Pass}
 use Rattle.rules.specs.Book.{flowCount, jobCount, flowOf, InRange, FlowInRange}
 use Rattle.rules.specs.Ideal.{takeOf}
@@ -13,8 +14,8 @@ use Rattle.rules.proofs.Sums.{sum-le}
 use Rattle.rules.proofs.Ideal.{take-within-cap}
 use Rattle.rules.proofs.Passing.{pass-in-range}
 use Rattle.place.specs.declared.Current.{Current}
-use Rattle.place.specs.Service.{Serving, currentFlow}
-use Rattle.chain.proofs.Parts.{parts-few}
+use Rattle.place.specs.Service.{InService, PartsHeld, currentFlow}
+use Rattle.chain.proofs.Parts.{parts-few, amount-within}
 
 -- no job of a book that passes takes more processors than there may be
 pub takes-within : (s : List ℕ) (f t : ℕ) → bookFault s ≡ Pass → f < flowCount (bookOf s) → (i : ℕ) → i < jobCount (flowOf (bookOf s) f) →
@@ -24,7 +25,7 @@ takes-within s f t passes flow-in i l =
     let j = used-in-range b f flow-in .each-job i l in
     omega (arith, take-within-cap (flowOf (bookOf s) f) i (j .cap-least) t, j .cap-most, b .processors-most)
 
-module _ {s : List ℕ} {c : Current} {names takes rows : List ℕ} (v : Serving s c names takes rows) where
+module _ {s : List ℕ} {c : Current} (v : InService s c) where
   book-in-range : InRange (bookOf s)
   book-in-range = pass-in-range s (v .passes)
 
@@ -36,9 +37,6 @@ module _ {s : List ℕ} {c : Current} {names takes rows : List ℕ} (v : Serving
 
   pub jobs-within : jobCount (currentFlow s c) ≤ 64
   jobs-within = flow-in-range .jobs-most
-
-  pub parts-within : c .parts ≤ 64
-  parts-within = omega (arith, v .parts .count, parts-few (λ i. takeOf (currentFlow s c) i (c .first)) (jobCount (currentFlow s c)), jobs-within)
 
   pub processors-within : c .processors ≤ 4096
   processors-within = omega (arith, v .processors, book-in-range .processors-most)
@@ -55,3 +53,17 @@ module _ {s : List ℕ} {c : Current} {names takes rows : List ℕ} (v : Serving
         sum-le (λ i. takeOf (currentFlow s c) i (c .first)) 4096 (jobCount (currentFlow s c)) take-within,
         jobs-within,
       )
+
+module _ {s : List ℕ} {c : Current} {names takes : List ℕ} (h : PartsHeld s c names takes) where
+  pub parts-within : c .parts ≤ 64
+  parts-within =
+      omega (
+        arith,
+        h .parts .count,
+        parts-few (λ i. takeOf (currentFlow s c) i (c .first)) (jobCount (currentFlow s c)),
+        jobs-within (h .in-service),
+      )
+
+  -- what is asked to pack the parts
+  pub parts-fit : (q : ℕ) → q < c .parts → getD takes q 0 ≤ 4096
+  parts-fit = amount-within (λ i. takeOf (currentFlow s c) i (c .first)) _ names takes (c .parts) 4096 (h .parts) (take-within (h .in-service))

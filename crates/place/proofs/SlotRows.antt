@@ -89,7 +89,7 @@ module _ {s : List ℕ} {c : Current} {names takes rows : List ℕ} (v : Serving
   PutBelow j = JobsPut w (c .flow) t p done give out at out′ next off j
 
   positive : 0 < rate w p
-  positive = omega (arith, v .rate, v .rate-positive)
+  positive = omega (arith, v .held .in-service .rate, v .held .in-service .rate-positive)
 
   -- a job that takes nothing has no row
   pass : (i : ℕ) → i < jobCount w → take i ≡ 0 → PutBelow i → PutBelow (i + 1)
@@ -99,13 +99,13 @@ module _ {s : List ℕ} {c : Current} {names takes rows : List ℕ} (v : Serving
   }
 
   part : q < c .parts → PartAt take (jobCount w) names takes q PutBelow
-  part l = part-at take (jobCount w) names takes (c .parts) (v .parts) PutBelow pass (k .job) q (k .job-to) (k .behind) l (k .so-far)
+  part l = part-at take (jobCount w) names takes (c .parts) (v .held .parts) PutBelow pass (k .job) q (k .job-to) (k .behind) l (k .so-far)
 
   -- the units of part q in a slot of the run stand within the slot
   pub units-within : q < c .parts → off + getD takes q 0 ≤ c .rate
   units-within l =
       let j = part l in
-      omega (arith, j .holds .units, j .amount-is, v .rate, offset-within-rate w p (j .job) (j .job-in))
+      omega (arith, j .holds .units, j .amount-is, v .held .in-service .rate, offset-within-rate w p (j .job) (j .job-in))
 
   -- what its row asks
   pub row-asked : q < c .parts → at + 384 < 4294967296 →
@@ -113,17 +113,17 @@ module _ {s : List ℕ} {c : Current} {names takes rows : List ℕ} (v : Serving
       (getD takes q 0 ≤ 4096)
   row-asked l room =
       let j = part l in (
-        omega (arith, j .holds .put .place, slot-rows-few t (c .flow) (λ i. share w p i done give) (j .job), j .job-in, jobs-within v),
-        mod-lt done (v .rate-positive),
+        omega (arith, j .holds .put .place, slot-rows-few t (c .flow) (λ i. share w p i done give) (j .job), j .job-in, jobs-within (v .held .in-service)),
+        mod-lt done (v .held .in-service .rate-positive),
         most,
         units-within l,
-        rate-within v,
-        omega (arith, j .amount-is, take-within v (j .job) (j .job-in)),
+        rate-within (v .held .in-service),
+        omega (arith, j .amount-is, take-within (v .held .in-service) (j .job) (j .job-in)),
       )
 
   -- the share of job j, without division
   share-is-overlaps : (j : ℕ) → j < jobCount w → overlaps (done % c .rate) give (offset w p j) (take j) (c .rate) ≡ share w p j done give
-  share-is-overlaps j l = rw (v .rate) (sym (share-overlap w p j done give positive fits (omega (arith, v .rate)) l))
+  share-is-overlaps j l = rw (v .held .in-service .rate) (sym (share-overlap w p j done give positive fits (omega (arith, v .held .in-service .rate)) l))
 
   -- its row after those of the parts before it
   pub slot-kept-next : {out″ : List ℕ} {next′ : ℕ} → q < c .parts →
@@ -147,4 +147,4 @@ module _ {s : List ℕ} {c : Current} {names takes rows : List ℕ} (v : Serving
   pub slot-kept-done : c .parts ≤ q → Put out at (jobRows w (c .flow) t p done give) out′ next
   slot-kept-done l =
       rw (← rows-below-all w (c .flow) t p done give)
-      (past-parts take (jobCount w) names takes (c .parts) (v .parts) PutBelow pass (k .job) (k .job-to) (omega (arith, k .behind)) (k .so-far) .put)
+      (past-parts take (jobCount w) names takes (c .parts) (v .held .parts) PutBelow pass (k .job) (k .job-to) (omega (arith, k .behind)) (k .so-far) .put)

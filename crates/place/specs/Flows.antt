@@ -2,7 +2,8 @@
 -- routines leave behind. Assumes nothing.
 use mathlib.Core.Path.{_≡_}
 use Prim.Native.Nat.{ℕ, suc, _+_, _*_, _-_, _<_, _≤_}
-use mathlib.Core.List.{List, _∷_, _++_}
+use mathlib.Core.Bool.{Bool, true, false}
+use mathlib.Core.List.{List, [], _∷_, _++_}
 use lib.ListN.{length}
 use Rattle.rules.specs.Limits.{slots}
 use Rattle.rules.specs.declared.Verdict.the-variants.{Pass}
@@ -11,10 +12,8 @@ use Rattle.rules.specs.Reading.{bookOf, bookFault}
 use Rattle.rules.specs.PseudoJobs.{PseudoJob, work}
 use Rattle.rules.specs.Rows.{Row, usedIn, finishOf, workUsed}
 use Rattle.rules.specs.Placing.{Progress, given, afterSlot, progress, flowRows, freeProcessors, slotsFor, planned, infeasible, placeFlow}
-use Rattle.book.specs.declared.FlowJobs.{FlowJobs}
-use Rattle.book.specs.Promise.{Loaded}
-use Rattle.chain.specs.declared.Ideal.{Ideal}
-use Rattle.chain.specs.Runs.{RunInput}
+use Rattle.book.specs.Promise.{FlowJobs, Loaded}
+use Rattle.chain.specs.Runs.{Ideal, RunInput}
 use Rattle.place.specs.declared.Current.{Current}
 use Rattle.place.specs.declared.Served.{Served}
 use Rattle.place.specs.declared.Placed.{Placed}
@@ -87,6 +86,34 @@ RunAnswer s c from at limit out area out′ area′ Infeasible =
     (x : Beside) (ps : List PseudoJob) → UnderwayBy s c x from (standing (pseudoJob c ∷ ps) 0) out area at →
     WorkLeft (bookOf s) (c .flow) x limit out′ area′
 
+-- ---- without rows
+-- Rows that are not put have a place all the same: any place at which those before them end. In no bytes at all, nothing is put.
+
+-- the slot of a pseudo-job that makes no rows
+abbrev pub SlotUsed : List ℕ → Current → ℕ → ℕ → List ℕ → List ℕ → ℕ → Type 0
+SlotUsed s c done slot area area′ give = (at : ℕ) → (next : ℕ) × SlotServed s c at done slot [] area [] area′ (record { next = next; give = give })
+
+-- what the placing of a pseudo-job that makes no rows answers
+abbrev pub RunUsed : List ℕ → Current → ℕ → ℕ → List ℕ → List ℕ → Placed → Type 0
+RunUsed s c from limit area area′ (To slot next) = (at : ℕ) → (next : ℕ) × RunPlaced s c from at limit [] area [] area′ slot next
+RunUsed s c from limit area area′ Infeasible = (at : ℕ) → RunAnswer s c from at limit [] area [] area′ Infeasible
+
+-- the place in the table that the code holds is the rows' place where they are put
+abbrev pub PlaceIf : Bool → ℕ → ℕ → Type 0
+PlaceIf listed place held = listed ≡ true → place ≡ held
+
+-- the places of rows that are put fit a number; where none are put, no output is lent
+pub record Room (listed : Bool) (lent last : ℕ) : Type 0 where
+  pub places : listed ≡ true → last < 4294967296
+  pub nothing-lent : listed ≡ false → lent ≡ 0
+
+-- what the placing of a pseudo-job answers, whether its rows are put or not
+abbrev pub RunGoes : Bool → List ℕ → Current → ℕ → ℕ → ℕ → List ℕ → List ℕ → List ℕ → List ℕ → Placed → Type 0
+RunGoes listed s c from held limit out area out′ area′ (To slot next) =
+    (at : ℕ) → PlaceIf listed at held → (place : ℕ) × PlaceIf listed place next × RunPlaced s c from at limit out area out′ area′ slot place
+RunGoes listed s c from held limit out area out′ area′ Infeasible =
+    (at : ℕ) → PlaceIf listed at held → RunAnswer s c from at limit out area out′ area′ Infeasible
+
 -- ---- one flow
 -- the lists hold flow f of the book in these bytes, which passes: its caps, and its starts, ends, last takes and least starts on endless
 -- processors
@@ -125,6 +152,7 @@ pub record FlowInfeasible (b : Book) (f : ℕ) (rows : List Row) (area out out�
   pub length-kept : length out′ ≡ length out
 
 -- what the placing of flow f answers
-abbrev pub FlowPlaced : Book → ℕ → List Row → List ℕ → List ℕ → ℕ → List ℕ → List ℕ → Placed → Type 0
-FlowPlaced b f rows area out at out′ area′ (To finish next) = FlowDone b f rows area out at out′ area′ finish next
-FlowPlaced b f rows area out at out′ area′ Infeasible = FlowInfeasible b f rows area out out′ area′
+abbrev pub FlowPlaced : Bool → Book → ℕ → List Row → List ℕ → List ℕ → ℕ → List ℕ → List ℕ → Placed → Type 0
+FlowPlaced listed b f rows area out at out′ area′ (To finish next) =
+    (place : ℕ) × PlaceIf listed place next × FlowDone b f rows area out at out′ area′ finish place
+FlowPlaced listed b f rows area out at out′ area′ Infeasible = FlowInfeasible b f rows area out out′ area′

@@ -30,16 +30,24 @@ abbrev pub Packs : ℕ → ℕ → ℕ → ℕ → Type 0
 Packs v f j n = (t : ℕ) → packedRow t v ≡ record { slot = t; flow = f; job = j; processors = n }
 
 -- the values that the code holds are those of the book in these bytes, which passes
-pub record Serving (s : List ℕ) (c : Current) (names takes rows : List ℕ) : Type 0 where
+pub record InService (s : List ℕ) (c : Current) : Type 0 where
   pub passes : bookFault s ≡ Pass
   pub flow-in : c .flow < flowCount (bookOf s)
   pub processors : c .processors ≡ bookOf s .processors
   pub rate : c .rate ≡ rate (currentFlow s c) (pseudoJob c)
   pub rate-positive : 0 < c .rate
   pub width-positive : 0 < c .width
+
+-- .. and so are its parts
+pub record PartsHeld (s : List ℕ) (c : Current) (names takes : List ℕ) : Type 0 where
+  pub in-service : InService s c
   pub parts : PartsOf (λ i. takeOf (currentFlow s c) i (c .first)) (jobCount (currentFlow s c)) names takes (c .parts)
   pub names-whole : c .parts ≤ length names
   pub takes-whole : c .parts ≤ length takes
+
+-- .. and their rows in a slot that gives each its take
+pub record Serving (s : List ℕ) (c : Current) (names takes rows : List ℕ) : Type 0 where
+  pub held : PartsHeld s c names takes
   pub rows-whole : c .parts ≤ length rows
   pub rows-are : (q : ℕ) → q < c .parts → Packs (getD rows q 0) (c .flow) (getD names q 0) (getD takes q 0)
 

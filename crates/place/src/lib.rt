@@ -10,9 +10,9 @@ ghost use Rattle.rules.specs.Rows.{Row, rowFor, usedIn, workUsed};
 ghost use Rattle.book.specs.Promise.{FlowStands};
 ghost use Rattle.rules.specs.Book.{flowOf};
 ghost use Rattle.rules.specs.Placing.{slotsFor};
-ghost use Rattle.place.specs.Flows.{SlotServed, RunAnswer, FlowHeld, FlowPlaced};
+ghost use Rattle.place.specs.Flows.{SlotServed, RunAnswer, SlotUsed, RunUsed, Room, RunGoes, FlowHeld, FlowPlaced};
 ghost use Rattle.place.specs.Output.{Put};
-ghost use Rattle.place.specs.Service.{Serving, currentFlow, pseudoJob, Packs, packedRow, packedRows, jobRows, overlaps};
+ghost use Rattle.place.specs.Service.{InService, PartsHeld, Serving, currentFlow, pseudoJob, Packs, packedRow, packedRows, jobRows, overlaps};
 use book::bytes;
 
 pub mod planner;
@@ -286,9 +286,73 @@ pub fn place_run(
     Placed::To(slot, next)
 }
 
+// Rule 4 in one slot without rows: what the pseudo-job in service gets, of whose units `left` are not given.
+pub fn use_slot(book: &[u8], area: &mut [u8], c: Current, left: u64, slot: usize) -> u32
+    requires { ⌜ InService (now book) c × (workBytes ≤ length (now area)) × (left ≤ work (currentFlow (now book) c) (pseudoJob c)) × (slot < 8192) ⌝ }
+    ensures { λ r. ⌜ SlotUsed (now (book .entry)) c (work (currentFlow (now (book .entry)) c) (pseudoJob c) - left) slot (now (area .entry)) (now (area .exit)) r ⌝ }
+{
+    let used = bytes::read16(area, 2 * slot);
+    let give = give_of(c.rate, left, c.processors, used);
+    if give == 0 {
+        return 0;
+    }
+    bytes::write16(area, 2 * slot, used + give as u16);
+    give
+}
+
+// Rules 4 and 6 for the pseudo-job in service, without rows; `at` is handed back.
+pub fn use_run(
+    book: &[u8],
+    area: &mut [u8],
+    at: usize,
+    c: Current,
+    from: usize,
+    limit: usize,
+) -> Placed
+    requires { ⌜ InService (now book) c × (workBytes ≤ length (now area)) × (from ≤ limit) × (limit ≤ 8192) ⌝ }
+    ensures { λ r. ⌜ RunUsed (now (book .entry)) c from limit (now (area .entry)) (now (area .exit)) r ⌝ }
+{
+    let mut left = work_of(c.width, c.rate);
+    let mut t = from;
+    while 0 < left {
+        if limit <= t {
+            return Placed::Infeasible;
+        }
+        let give = use_slot(book, area, c, left, t);
+        left = left - give as u64;
+        t = t + 1;
+    }
+    Placed::To(t, at)
+}
+
+// The pseudo-job in service with its rows, or without.
+pub fn run_as(
+    listed: bool,
+    book: &[u8],
+    names: &[u8],
+    takes: &[u32],
+    rows: &mut [u32],
+    out: &mut [u8],
+    area: &mut [u8],
+    at: usize,
+    c: Current,
+    from: usize,
+    limit: usize,
+) -> Placed
+    requires { ⌜ PartsHeld (now book) c (now names) (now takes) × (c .parts ≤ length (now rows)) × (workBytes ≤ length (now area)) × (from ≤ limit) × (limit ≤ 8192) × Room listed (length (now out)) (at + 384 * (8192 - from)) ⌝ }
+    ensures { λ r. ⌜ RunGoes listed (now (book .entry)) c from at limit (now (out .entry)) (now (area .entry)) (now (out .exit)) (now (area .exit)) r ⌝ }
+{
+    if listed {
+        pack_parts(c.flow as u8, names, takes, c.parts, rows);
+        return place_run(book, names, takes, rows, out, area, at, c, from, limit);
+    }
+    use_run(book, area, at, c, from, limit)
+}
+
 // Rules 4 to 6 for flow f, which the lists hold: its pseudo-jobs one after the other, the first from the release on, each other from the slot
-// after the one before it.
+// after the one before it; with its rows, or without.
 pub fn place_cuts(
+    listed: bool,
     book: &[u8],
     caps: &[u32],
     starts: &[u32],
@@ -308,8 +372,8 @@ pub fn place_cuts(
     limit: usize,
     release: usize,
 ) -> Placed
-    requires { ⌜ FlowHeld (now book) f (now caps) (now starts) (now ends) (now lasts) (now firsts) count path × (count ≤ length (now names)) × (count ≤ length (now takes)) × (count ≤ length (now rows)) × (processors ≡ bookOf (now book) .processors) × (limit ≡ slotsFor (flowOf (bookOf (now book)) f)) × (release ≡ flowOf (bookOf (now book)) f .release) × (workBytes ≤ length (now area)) × (at + 3145728 < 4294967296) ⌝ }
-    ensures { λ r. ⌜ ((rows : List Row) (bytes : List ℕ) → now (area .entry) ≡ workUsed slots rows bytes → ((t : ℕ) → usedIn rows t ≤ processors) → FlowPlaced (bookOf (now (book .entry))) f rows bytes (now (out .entry)) at (now (out .exit)) (now (area .exit)) r) ⌝ }
+    requires { ⌜ FlowHeld (now book) f (now caps) (now starts) (now ends) (now lasts) (now firsts) count path × (count ≤ length (now names)) × (count ≤ length (now takes)) × (count ≤ length (now rows)) × (processors ≡ bookOf (now book) .processors) × (limit ≡ slotsFor (flowOf (bookOf (now book)) f)) × (release ≡ flowOf (bookOf (now book)) f .release) × (workBytes ≤ length (now area)) × Room listed (length (now out)) (at + 3145728) ⌝ }
+    ensures { λ r. ⌜ ((rows : List Row) (bytes : List ℕ) → now (area .entry) ≡ workUsed slots rows bytes → ((t : ℕ) → usedIn rows t ≤ processors) → FlowPlaced listed (bookOf (now (book .entry))) f rows bytes (now (out .entry)) at (now (out .exit)) (now (area .exit)) r) ⌝ }
 {
     let mut from: usize = 0;
     let mut t: u32 = 0;
@@ -330,7 +394,6 @@ pub fn place_cuts(
             names,
             takes,
         );
-        pack_parts(f as u8, names, takes, run.parts, rows);
         let c = Current {
             flow: f,
             parts: run.parts,
@@ -339,8 +402,19 @@ pub fn place_cuts(
             width: run.width,
             rate: run.rate,
         };
-        let Placed::To(s, a) = place_run(book, names, takes, rows, out, area, next, c, slot, limit)
-        else {
+        let Placed::To(s, a) = run_as(
+            listed,
+            book,
+            names,
+            takes,
+            rows,
+            out,
+            area,
+            next,
+            c,
+            slot,
+            limit,
+        ) else {
             return Placed::Infeasible;
         };
         slot = s;
@@ -350,8 +424,9 @@ pub fn place_cuts(
     Placed::To(slot, next)
 }
 
-// Rules 1 to 6 for flow f, whose job records start at `records`.
+// Rules 1 to 6 for flow f, whose job records start at `records`: with its rows, or without, where no output is lent.
 pub fn place_flow(
+    listed: bool,
     book: &[u8],
     out: &mut [u8],
     area: &mut [u8],
@@ -360,22 +435,34 @@ pub fn place_flow(
     f: usize,
     processors: u16,
 ) -> Placed
-    requires { ⌜ FlowStands (now book) f records × (processors ≡ bookOf (now book) .processors) × (workBytes ≤ length (now area)) × (at + 3145728 < 4294967296) ⌝ }
-    ensures { λ r. ⌜ ((rows : List Row) (bytes : List ℕ) → now (area .entry) ≡ workUsed slots rows bytes → ((t : ℕ) → usedIn rows t ≤ processors) → FlowPlaced (bookOf (now (book .entry))) f rows bytes (now (out .entry)) at (now (out .exit)) (now (area .exit)) r) ⌝ }
+    requires { ⌜ FlowStands (now book) f records × (processors ≡ bookOf (now book) .processors) × (workBytes ≤ length (now area)) × Room listed (length (now out)) (at + 3145728) ⌝ }
+    ensures { λ r. ⌜ ((rows : List Row) (bytes : List ℕ) → now (area .entry) ≡ workUsed slots rows bytes → ((t : ℕ) → usedIn rows t ≤ processors) → FlowPlaced listed (bookOf (now (book .entry))) f rows bytes (now (out .entry)) at (now (out .exit)) (now (area .exit)) r) ⌝ }
 {
-    let jobs = book::load_flow(book, records, f);
-    let ideal = chain::ideal_of(jobs);
-    let limit = 2 * bytes::wide16(jobs.deadline);
-    let release = bytes::wide16(jobs.release);
-    let caps = jobs.cap;
-    let starts = ideal.starts;
-    let ends = ideal.ends;
-    let lasts = ideal.lasts;
-    let firsts = ideal.firsts;
+    let mut sizes = [0u32; 64];
+    let mut caps = [0u32; 64];
+    let mut predecessors = [0u64; 64];
+    let head = book::load_flow(book, records, f, &mut sizes, &mut caps, &mut predecessors);
+    let limit = 2 * bytes::wide16(head.deadline);
+    let release = bytes::wide16(head.release);
+    let mut starts = [0u32; 64];
+    let mut ends = [0u32; 64];
+    let mut lasts = [0u32; 64];
+    let mut firsts = [0u32; 64];
+    let path = chain::ideal_of(
+        head,
+        &sizes,
+        &caps,
+        &predecessors,
+        &mut starts,
+        &mut ends,
+        &mut lasts,
+        &mut firsts,
+    );
     let mut names = [0u8; 64];
     let mut takes = [0u32; 64];
     let mut rows = [0u32; 64];
     place_cuts(
+        listed,
         book,
         &caps,
         &starts,
@@ -390,8 +477,8 @@ pub fn place_flow(
         at,
         f,
         processors,
-        jobs.count,
-        ideal.path,
+        head.jobs as usize,
+        path,
         limit,
         release,
     )

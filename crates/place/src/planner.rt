@@ -51,6 +51,7 @@ pub fn place_first(
         let f = bytes::wide(flow);
         let records = x.records[f];
         let Placed::To(end, after) = super::place_flow(
+            true,
             book,
             out,
             work,

@@ -17,7 +17,7 @@ use Rattle.rules.proofs.Caps.{used-in-range}
 use Rattle.rules.proofs.Walks.{join-split, join-ext, join-moved}
 use Rattle.rules.proofs.Rising.{_∈_}
 use Rattle.rules.proofs.PlannedValid.{planned-rows-fit}
-use Rattle.rules.proofs.Demand3Values.{planned-finish-within-twice}
+use Rattle.rules.proofs.Demand3Values.{planned-finish-fits}
 use Rattle.rules.proofs.TableBytes.{RowFits, table-bytes-length, table-rows-written, finish-written}
 use Rattle.plan_text.specs.Lines.{flowsIn, rowsFrom, tableLines, tableLineAt}
 use Rattle.plan_text.specs.Printed.{rowLines, planText}
@@ -86,9 +86,6 @@ module _ (b : Book) (range : InRange b) (rows : List Row) (e : plan b ≡ planne
         processors-fit = omega (arith, fit .processors-most, flow .each-job (r .job) (fit .job-in) .cap-most, range .processors-most);
       }
 
-  finish-fits : (f : ℕ) → f < flowCount b → finishOf rows f < 256 ^ 2
-  finish-fits f l = omega (arith, planned-finish-within-twice b range rows e f, used-in-range range f l .deadline-most)
-
   abbrev table : List ℕ
   table = tableBytes b rows
 
@@ -100,7 +97,7 @@ module _ (b : Book) (range : InRange b) (rows : List Row) (e : plan b ≡ planne
   finishes-read =
       ap (λ (n : ℕ). joinFrom (λ f. finishLine f (field 2 table (8 + 2 * f))) n 0) flows-in
       ∙ join-ext (λ f. finishLine f (field 2 table (8 + 2 * f))) (λ f. finishLine f (finishOf rows f)) (flowCount b) 0
-      (λ k l. ap (finishLine (0 + k)) (finish-written b rows (0 + k) (omega arith) (finish-fits (0 + k) (omega arith))))
+      (λ k l. ap (finishLine (0 + k)) (finish-written b rows (0 + k) (omega arith) (planned-finish-fits b range rows e (0 + k) (omega arith))))
 
   rows-read : listFrom (λ k. rowAt table (rowsFrom table + rowLength * k)) ((tableLength b rows - rowsFrom table) / rowLength) 0 ≡ rows
   unfolding tableRows

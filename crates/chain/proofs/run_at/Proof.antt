@@ -5,10 +5,8 @@ use mathlib.Core.Path.{_≡_, refl, _∙_}
 use Prim.Native.Nat.{_≤_, _-_}
 use native.Mathlib.Omega.{arith}
 use lib.ListN.{length, length-set}
-use Rattle.book.specs.declared.FlowJobs.{FlowJobs}
-use Rattle.book.specs.Promise.{flowFrom}
-use Rattle.chain.specs.declared.Ideal.{Ideal}
-use Rattle.chain.specs.Runs.{RunInput}
+use Rattle.book.specs.Promise.{FlowJobs, flowFrom}
+use Rattle.chain.specs.Runs.{Ideal, RunInput}
 use Rattle.chain.proofs.Starts.{path-most}
 use Rattle.chain.proofs.Cuts.{RunSoFar, parts-so-far, ended-so-far-of, none-begun-of, all-jobs-of, change-asked-of, rate-fits-of, job-counted-in-of}
 use Rattle.chain.proofs.run_at.Statement.{statement}

@@ -1,66 +1,70 @@
--- `chain::start_of` meets its contract. The loop's invariant: `bits` is what k halvings leave of the predecessors, and `start`
--- the largest end among those below k; where no bit is left, that is the largest of all. The measure is what is left of n.
--- Assumes nothing.
+-- `chain::start_of` meets its contract. The loop's invariant: the largest end of all is `start` or one of the bits that are left.
+-- The measure is `bits`: to take a bit off makes it less. Assumes nothing.
 use borrow.Author.Needs.{needs}
-use mathlib.Core.Path.{_≡_, sym, _∙_}
-use Prim.Native.Nat.{_≤_, _-_, _/_, _^_}
+use mathlib.Core.Path.{_≡_, sym}
+use Prim.Native.Nat.{_≤_, _-_, max}
 use native.Mathlib.Nat.{div-one}
 use native.Mathlib.Omega.{arith}
+use lib.Bits.{and-le-l, and-le-r}
+use lib.Count.{trailing-le}
 use Rattle.chain.specs.Jobs.{startAmong}
-use Rattle.rules.proofs.Bits.{bit-of-left, left-next, no-bit-left}
-use Rattle.chain.proofs.Starts.{start-none, start-next, start-rest}
+use Rattle.rules.proofs.Bits.{no-bit-left}
+use Rattle.chain.proofs.Lowest.{lowest}
+use Rattle.chain.proofs.Starts.{start-none, start-lowest}
 use Rattle.chain.proofs.start_of.Statement.{statement}
 use Rattle.chain.proofs.start_of.Tie as tie
 
 abbrev Inv-loop : tie.InvT-loop
-Inv-loop ends predecessors n start₀ bits₀ k₀ start bits k =
-    (k ≤ n) × (bits ≡ predecessors / 2 ^ k) × (start ≡ startAmong predecessors ends k)
+Inv-loop ends predecessors n start₀ bits₀ start bits =
+    (bits ≤ predecessors) × (startAmong predecessors ends n ≡ max start (startAmong bits ends n))
 
 abbrev μ-loop : tie.MeasureT-loop
-μ-loop ends predecessors n start₀ bits₀ k₀ start bits k = n - k
+μ-loop ends predecessors n start₀ bits₀ start bits = bits
 
 loop-holds : tie.Need-loop-holds Inv-loop μ-loop
-loop-holds c =
-    let a = c .before .args in
-    (omega arith, sym (div-one (a .predecessors)), sym (start-none (a .predecessors) (a .ends .now)))
+loop-holds c = (omega arith, omega arith)
+
+cast-job : tie.Need-cast-job Inv-loop μ-loop
+cast-job c = omega (arith, trailing-le 64 (c .before .loop .bits))
 
 returns : tie.Need-returns Inv-loop μ-loop
 returns c =
     let a = c .before .before .before .before .args in
     let l = c .before .before .loop in
-    let none = no-bit-left (a .predecessors) (l .bits) (l .k) (l .inv .1) (c .if1 .taken) in
-    l .inv .2 ∙ start-rest (a .predecessors) (l .k) (a .ends .now) none (a .n) (omega arith)
+    let low = lowest 64 (l .bits) (omega arith) (omega arith) in
+    let none = start-none (l .bits) (a .ends .now) (a .n) (λ i h. low .below i (omega arith)) in
+    omega (arith, l .inv .1, none)
 
-mul-later : tie.Need-mul-later Inv-loop μ-loop
-mul-later c = search needs
+mul-most : tie.Need-mul-most Inv-loop μ-loop
+mul-most c = search needs
 
-shared-slice-read-later : tie.Need-shared-slice-read-later Inv-loop μ-loop
-shared-slice-read-later c = search needs
+shared-slice-read-most : tie.Need-shared-slice-read-most Inv-loop μ-loop
+shared-slice-read-most c = search needs
 
-later-requires : tie.Need-later-requires Inv-loop μ-loop
-later-requires c κs = search needs
+most-requires : tie.Need-most-requires Inv-loop μ-loop
+most-requires c κs = search needs
 
-add-k : tie.Need-add-k Inv-loop μ-loop
-add-k c = search needs
+sub-bits : tie.Need-sub-bits Inv-loop μ-loop
+sub-bits c = search needs
 
 loop-less : tie.Need-loop-less Inv-loop μ-loop
-loop-less c = search needs
+loop-less c = omega (arith, and-le-r (c .before .before .before .before .loop .bits) (c .before .before .before .before .loop .bits - 1))
 
 loop-again : tie.Need-loop-again Inv-loop μ-loop
 loop-again c =
     let a = c .before .before .before .before .before .before .args in
-    let l = c .before .before .before .before .loop in (
-      omega arith,
-      left-next (a .predecessors) (l .bits) (l .k) (l .inv .1),
-      start-next (a .predecessors) (l .k) (l .start) _ (a .ends .now) (l .inv .2) (rw (bit-of-left (a .predecessors) (l .bits) (l .k) (l .inv .1)) at (c .later .ensures)),
+    let l = c .before .before .before .before .loop in
+    let low = lowest 64 (l .bits) (omega arith) (omega arith) in (
+      omega (arith, and-le-l (l .bits) (l .bits - 1)),
+      omega (arith, l .inv .1, c .most .ensures, start-lowest (l .bits) _ _ (a .ends .now) low (a .n) (omega arith)),
     )
 
 returns-2 : tie.Need-returns-2 Inv-loop μ-loop
 returns-2 c =
     let a = c .before .before .before .args in
     let l = c .before .loop in
-    let e : l .k ≡ a .n = omega arith in
-    rw (← e) (l .inv .2)
+    let none = start-none (l .bits) (a .ends .now) (a .n) (λ i h. no-bit-left (l .bits) (l .bits) 0 (sym (div-one (l .bits))) (c .loop-test .left) i (omega arith)) in
+    omega (arith, l .inv .1, none)
 
 pub start-of-spec : {M : Type 1} → statement M
 start-of-spec =
@@ -69,11 +73,12 @@ start-of-spec =
     Inv-loop
     μ-loop
     loop-holds
+    cast-job
     returns
-    mul-later
-    shared-slice-read-later
-    later-requires
-    add-k
+    mul-most
+    shared-slice-read-most
+    most-requires
+    sub-bits
     loop-less
     loop-again
     returns-2)

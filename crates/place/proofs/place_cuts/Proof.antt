@@ -5,38 +5,42 @@ use Prim.Native.Nat.{_-_}
 use lib.ListN.{length}
 use Rattle.rules.specs.Reading.{bookOf}
 use Rattle.chain.proofs.Ended.{EndedBelow, ended-none, ended-more, ended-later}
-use Rattle.place.proofs.FlowLoop.{FlowKept, flow-kept-first, flow-kept-next, flow-kept-stops, flow-kept-done, flow-few, count-few, some-flow, run-here, parts-within, parts-fit, serving-at, cut-within, path-held, path-fits, deadline-within}
+use Rattle.place.proofs.FlowLoop.{FlowKept, flow-kept-first, flow-kept-next, flow-kept-stops, flow-kept-done, count-few, some-flow, run-here, parts-within, held-at, cut-within, path-held, path-fits, deadline-within}
 use borrow.Author.Needs.{needs}
 use native.Mathlib.Omega.{arith}
 use Rattle.place.proofs.place_cuts.Statement.{statement}
 use Rattle.place.proofs.place_cuts.Tie as tie
 
 abbrev Inv-loop : tie.InvT-loop
-Inv-loop book caps starts ends lasts firsts names₀ takes₀ rows₀ out₀ area₀ at f processors count path limit release from₀ t₀ slot₀ next₀ names takes rows out area from t slot next =
-    FlowKept (bookOf book) f at limit out₀ area₀ out area t slot next × EndedBelow ends count from t ×
+Inv-loop listed book caps starts ends lasts firsts names₀ takes₀ rows₀ out₀ area₀ at f processors count path limit release from₀ t₀ slot₀ next₀ names takes rows out area from t slot next =
+    FlowKept listed (bookOf book) f at limit out₀ area₀ out area t slot next × EndedBelow ends count from t ×
     (length names ≡ length names₀) × (length takes ≡ length takes₀) × (length rows ≡ length rows₀)
 
 abbrev μ-loop : tie.MeasureT-loop
-μ-loop book caps starts ends lasts firsts names₀ takes₀ rows₀ out₀ area₀ at f processors count path limit release from₀ t₀ slot₀ next₀ names takes rows out area from t slot next =
+μ-loop listed book caps starts ends lasts firsts names₀ takes₀ rows₀ out₀ area₀ at f processors count path limit release from₀ t₀ slot₀ next₀ names takes rows out area from t slot next =
     path - t
 
--- where the function begins, a turn, the run at the turn's cut, and its packed rows
+-- where the function begins, a turn, and the run at the turn's cut
 abbrev start : tie.At-loop Inv-loop μ-loop → tie.Start Inv-loop μ-loop
 start c = c .before .before .before .before .before .before .before .before .before .before .before .before
 
 abbrev turn : tie.After-run-at Inv-loop μ-loop → tie.At-loop Inv-loop μ-loop
 turn c = c .before .before .before .before .before
 
-abbrev made : tie.After-pack-parts Inv-loop μ-loop → tie.After-run-at Inv-loop μ-loop
-made c = c .before .before .before .before .before .before .before .before
+abbrev made : tie.After-run-as Inv-loop μ-loop → tie.After-run-at Inv-loop μ-loop
+made c = c .before .before .before .before .before .before .before .before .before .before
 
-abbrev packed : tie.After-place-run Inv-loop μ-loop → tie.After-pack-parts Inv-loop μ-loop
-packed c = c .before .before .before .before .before .before .before .before
+-- what it answered, where the flow goes on and where it stops
+abbrev goes : tie.After-struct-known Inv-loop μ-loop → tie.After-run-as Inv-loop μ-loop
+goes c = c .before .before .before .before .before .before .before .before .before .before
+
+abbrev told : tie.After-enum-told Inv-loop μ-loop → tie.After-run-as Inv-loop μ-loop
+told c = c .before .before .before .before .before .before .before .before
 
 loop-holds : tie.Need-loop-holds Inv-loop μ-loop
 loop-holds c =
     let b = c .before .before .before .before .before .before .before .before .before .before .before in
-    (flow-kept-first (b .pre .0) (b .args .at) (b .args .out .now) (b .args .area .now) (b .pre .5) (b .pre .6), ended-none _ _ _, refl, refl, refl)
+    (flow-kept-first (b .pre .0) (b .args .listed) (b .args .at) (b .args .out .now) (b .args .area .now) (b .pre .5) (b .pre .6), ended-none _ _ _, refl, refl, refl)
 
 skip-ended-requires : tie.Need-skip-ended-requires Inv-loop μ-loop
 skip-ended-requires c κs = (c .before .loop .inv .1 .within, start (c .before) .pre .0 .ends-whole)
@@ -61,27 +65,22 @@ run-at-requires c κs =
       some-flow (v .0),
     )
 
-cast-pack-parts : tie.Need-cast-pack-parts Inv-loop μ-loop
-cast-pack-parts c = omega (arith, flow-few (start (turn (c .before .before .before .before)) .pre .0))
-
-pack-parts-requires : tie.Need-pack-parts-requires Inv-loop μ-loop
-pack-parts-requires c κs =
-    let m = c .before .before .before .before .before .before .before in
+run-as-requires : tie.Need-run-as-requires Inv-loop μ-loop
+run-as-requires c κs =
+    let m = c .before .before .before .before .before .before .before .before .before in
     let l = turn m .loop in
+    let k = l .inv .0 in
     let v = start (turn m) .pre in
-    let few = parts-within (v .0) (m .run-at .ensures) in
-    (omega (arith, v .1, l .inv .2), omega (arith, v .2, l .inv .3), omega (arith, v .3, l .inv .4), parts-fit (v .0) (m .run-at .ensures))
-
-place-run-requires : tie.Need-place-run-requires Inv-loop μ-loop
-place-run-requires c κs =
-    let p = c .before .before .before .before .before .before .before in
-    let l = turn (made p) .loop in
-    let v = start (turn (made p)) .pre in (
-      serving-at (v .0) (made p .run-at .ensures) (v .4) (omega (arith, v .1, l .inv .2)) (omega (arith, v .2, l .inv .3)) (omega (arith, v .3, l .inv .4)) (p .pack-parts .ensures),
-      omega (arith, v .7, l .inv .0 .area-length),
-      l .inv .0 .slot-to,
+    let few = parts-within (v .0) (m .run-at .ensures) in (
+      held-at (v .0) (m .run-at .ensures) (v .4) (omega (arith, v .1, l .inv .2)) (omega (arith, v .2, l .inv .3)),
+      omega (arith, v .3, l .inv .4),
+      omega (arith, v .7, k .area-length),
+      k .slot-to,
       omega (arith, v .5, deadline-within (v .0)),
-      omega (arith, v .8, l .inv .0 .next-to, l .inv .0 .slot-to, v .5, deadline-within (v .0)),
+      record {
+        places = λ t. omega (arith, v .8 .places t, k .place-if t, k .place-to, k .slot-to, v .5, deadline-within (v .0));
+        nothing-lent = λ t. omega (arith, v .8 .nothing-lent t, k .out-length);
+      },
     )
 
 enum-known-s : tie.Need-enum-known-s Inv-loop μ-loop
@@ -91,50 +90,50 @@ enum-told : tie.Need-enum-told Inv-loop μ-loop
 enum-told c = search needs
 
 same-length : tie.Need-same-length Inv-loop μ-loop
-same-length c = let m = made (packed (c .before .before .before .before .before .before)) in omega (arith, m .run-at .kept .1 .1 .1 .1 .1 .1 .1 .1 .1 .0, turn m .loop .inv .2)
+same-length c = let m = made (told c) in omega (arith, m .run-at .kept .1 .1 .1 .1 .1 .1 .1 .1 .1 .0, turn m .loop .inv .2)
 
 same-length-2 : tie.Need-same-length-2 Inv-loop μ-loop
-same-length-2 c = let m = made (packed (c .before .before .before .before .before .before)) in omega (arith, m .run-at .kept .1 .1 .1 .1 .1 .1 .1 .1 .1 .1 .0, turn m .loop .inv .3)
+same-length-2 c = let m = made (told c) in omega (arith, m .run-at .kept .1 .1 .1 .1 .1 .1 .1 .1 .1 .1 .0, turn m .loop .inv .3)
 
 same-length-3 : tie.Need-same-length-3 Inv-loop μ-loop
-same-length-3 c = let p = packed (c .before .before .before .before .before .before) in omega (arith, p .pack-parts .kept .1 .1 .1 .1 .0, turn (made p) .loop .inv .4)
+same-length-3 c = let d = told c in omega (arith, d .run-as .kept .1 .1 .1 .1 .0, turn (made d) .loop .inv .4)
 
 same-length-4 : tie.Need-same-length-4 Inv-loop μ-loop
-same-length-4 c = let d = c .before .before .before .before .before .before in omega (arith, d .place-run .kept .1 .1 .1 .1 .0, turn (made (packed d)) .loop .inv .0 .out-length)
+same-length-4 c = let d = told c in omega (arith, d .run-as .kept .1 .1 .1 .1 .1 .0, turn (made d) .loop .inv .0 .out-length)
 
 same-length-5 : tie.Need-same-length-5 Inv-loop μ-loop
-same-length-5 c = let d = c .before .before .before .before .before .before in omega (arith, d .place-run .kept .1 .1 .1 .1 .1 .0, turn (made (packed d)) .loop .inv .0 .area-length)
+same-length-5 c = let d = told c in omega (arith, d .run-as .kept .1 .1 .1 .1 .1 .1 .0, turn (made d) .loop .inv .0 .area-length)
 
 returns : tie.Need-returns Inv-loop μ-loop
 returns c rows bytes used within =
-    let d = c .before .before .before .before .before .before in
-    let m = made (packed d) in
+    let d = told c in
+    let m = made d in
     let v = start (turn m) .pre in
-    flow-kept-stops (v .0) (m .run-at .ensures) _ (v .5) (turn m .loop .inv .0) (d .place-run .ensures) (c .enum-told .given .1) rows bytes used
+    flow-kept-stops (v .0) (m .run-at .ensures) _ (v .5) (turn m .loop .inv .0) (d .run-as .ensures) (c .enum-told .given .1) rows bytes used
     (λ u. omega (arith, within u, v .4))
 
 add-t : tie.Need-add-t Inv-loop μ-loop
 add-t c =
-    let m = made (packed (c .before .before .before .before .before .before .before .before)) in
+    let m = made (goes c) in
     let v = start (turn m) .pre in
     omega (arith, cut-within (v .0) (m .run-at .ensures), path-fits (v .0))
 
 loop-less : tie.Need-loop-less Inv-loop μ-loop
 loop-less c =
-    let m = made (packed (c .before .before .before .before .before .before .before .before)) in
+    let m = made (goes c) in
     omega (arith, run-here (start (turn m) .pre .0) (m .run-at .ensures) .run .some, m .before .before .before .before .loop-test .taken)
 
 loop-again : tie.Need-loop-again Inv-loop μ-loop
 loop-again c =
-    let d = c .before .before .before .before .before .before .before .before in
-    let m = made (packed d) in
+    let d = goes c in
+    let m = made d in
     let l = turn m .loop in
     let ended = ended-more _ _ _ _ _ (l .inv .1) (m .before .before .before .skip-ended .ensures) in (
-      flow-kept-next (start (turn m) .pre .0) (m .run-at .ensures) _ (l .inv .0) (d .place-run .ensures) (c .before .before .s .given .1) (omega arith) (omega arith),
+      flow-kept-next (start (turn m) .pre .0) (m .run-at .ensures) _ (l .inv .0) (d .run-as .ensures) (c .before .before .s .given .1) (omega arith) (omega arith),
       ended-later _ _ _ _ _ (omega arith) ended,
       omega (arith, l .inv .2, m .run-at .kept .1 .1 .1 .1 .1 .1 .1 .1 .1 .0),
       omega (arith, l .inv .3, m .run-at .kept .1 .1 .1 .1 .1 .1 .1 .1 .1 .1 .0),
-      omega (arith, l .inv .4, packed d .pack-parts .kept .1 .1 .1 .1 .0),
+      omega (arith, l .inv .4, d .run-as .kept .1 .1 .1 .1 .0),
     )
 
 same-length-6 : tie.Need-same-length-6 Inv-loop μ-loop
@@ -161,6 +160,6 @@ returns-2 c rows bytes used within =
 pub place-cuts-spec : {M : Type 1} → statement M
 place-cuts-spec =
     tie.close
-    (tie.spec Inv-loop μ-loop loop-holds skip-ended-requires run-at-requires cast-pack-parts pack-parts-requires place-run-requires enum-known-s enum-told
+    (tie.spec Inv-loop μ-loop loop-holds skip-ended-requires run-at-requires run-as-requires enum-known-s enum-told
     same-length same-length-2 same-length-3 same-length-4 same-length-5 returns add-t loop-less loop-again same-length-6 same-length-7 same-length-8
     same-length-9 same-length-10 returns-2)

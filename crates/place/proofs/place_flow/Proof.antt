@@ -1,38 +1,65 @@
 -- One flow: its values are read out, and its lists are those that the cuts are placed by. Assumes nothing.
-use mathlib.Core.Path.{_≡_, sym}
+use mathlib.Core.Path.{_≡_}
+use native.Mathlib.Omega.{arith}
 use lib.ListN.{length}
+use Rattle.book.specs.Promise.{FlowJobs, flowHeld}
+use Rattle.chain.specs.Runs.{Ideal}
 use Rattle.place.proofs.FlowLoop.{chain-asked, release-held, limit-held, flow-held}
 use borrow.Author.Needs.{needs}
 use Rattle.place.proofs.place_flow.Statement.{statement}
 use Rattle.place.proofs.place_flow.Tie as tie
 
--- where all of the flow is read, before its lists are lent
-abbrev read : tie.After-firsts2 → tie.After-wide162
-read c = c .before .before .before .before .before .before .before .before .before .before
+-- the flow's values, where they are read
+abbrev begun : tie.After-load-flow → tie.Start
+begun c = c .before .before .before .before .before .before .before
+
+abbrev jobs : tie.After-load-flow → FlowJobs
+jobs c =
+    let l = c .load-flow .last in
+    flowHeld (c .load-flow .result) (l .1 .1 .1 .0) (l .1 .1 .1 .1 .0) (l .1 .1 .1 .1 .1 .0)
+
+-- what its lists hold then
+abbrev loaded : tie.After-firsts → tie.After-load-flow
+loaded c = c .before .before .before .before .before .before .before .before .before .before .before .before
+
+abbrev ideal : tie.After-ideal-of → Ideal
+ideal c =
+    let l = c .ideal-of .last in
+    record { starts = l .1 .1 .1 .1 .0; ends = l .1 .1 .1 .1 .1 .0; lasts = l .1 .1 .1 .1 .1 .1 .0; firsts = l .1 .1 .1 .1 .1 .1 .1 .0; path = c .ideal-of .result }
 
 -- the lists are as long as the arrays
-caps-long : (c : tie.After-ideal-of) → length (c .before .load-flow .result .cap) ≡ 64
+sizes-long : (c : tie.After-load-flow) → length (jobs c .size) ≡ 64
+sizes-long c = search needs
+
+caps-long : (c : tie.After-load-flow) → length (jobs c .cap) ≡ 64
 caps-long c = search needs
 
-starts-long : (c : tie.After-ideal-of) → length (c .ideal-of .result .starts) ≡ 64
+predecessors-long : (c : tie.After-load-flow) → length (jobs c .predecessors) ≡ 64
+predecessors-long c = search needs
+
+starts-long : (c : tie.After-ideal-of) → length (ideal c .starts) ≡ 64
 starts-long c = search needs
 
-ends-long : (c : tie.After-ideal-of) → length (c .ideal-of .result .ends) ≡ 64
+ends-long : (c : tie.After-ideal-of) → length (ideal c .ends) ≡ 64
 ends-long c = search needs
 
-lasts-long : (c : tie.After-ideal-of) → length (c .ideal-of .result .lasts) ≡ 64
+lasts-long : (c : tie.After-ideal-of) → length (ideal c .lasts) ≡ 64
 lasts-long c = search needs
 
-firsts-long : (c : tie.After-ideal-of) → length (c .ideal-of .result .firsts) ≡ 64
+firsts-long : (c : tie.After-ideal-of) → length (ideal c .firsts) ≡ 64
 firsts-long c = search needs
+
+slice-aggregate-load-flow : tie.Need-slice-aggregate-load-flow
+slice-aggregate-load-flow c = search needs
+
+slice-aggregate-load-flow-2 : tie.Need-slice-aggregate-load-flow-2
+slice-aggregate-load-flow-2 c = search needs
+
+slice-aggregate-load-flow-3 : tie.Need-slice-aggregate-load-flow-3
+slice-aggregate-load-flow-3 c = search needs
 
 load-flow-requires : tie.Need-load-flow-requires
 load-flow-requires c κs = search needs
-
-ideal-of-requires : tie.Need-ideal-of-requires
-ideal-of-requires c κs =
-    let a = c .before .before .before .before .args in
-    chain-asked (a .book .now) (a .f) (a .records) (c .load-flow .result) (c .before .before .before .before .pre .0) (c .load-flow .ensures)
 
 wide16-requires : tie.Need-wide16-requires
 wide16-requires c κs = search needs
@@ -42,6 +69,42 @@ mul-limit c = search needs
 
 wide16-requires-2 : tie.Need-wide16-requires-2
 wide16-requires-2 c κs = search needs
+
+slice-aggregate-ideal-of : tie.Need-slice-aggregate-ideal-of
+slice-aggregate-ideal-of c = search needs
+
+slice-aggregate-ideal-of-2 : tie.Need-slice-aggregate-ideal-of-2
+slice-aggregate-ideal-of-2 c = search needs
+
+slice-aggregate-ideal-of-3 : tie.Need-slice-aggregate-ideal-of-3
+slice-aggregate-ideal-of-3 c = search needs
+
+slice-aggregate-ideal-of-4 : tie.Need-slice-aggregate-ideal-of-4
+slice-aggregate-ideal-of-4 c = search needs
+
+slice-aggregate-ideal-of-5 : tie.Need-slice-aggregate-ideal-of-5
+slice-aggregate-ideal-of-5 c = search needs
+
+slice-aggregate-ideal-of-6 : tie.Need-slice-aggregate-ideal-of-6
+slice-aggregate-ideal-of-6 c = search needs
+
+slice-aggregate-ideal-of-7 : tie.Need-slice-aggregate-ideal-of-7
+slice-aggregate-ideal-of-7 c = search needs
+
+ideal-of-requires : tie.Need-ideal-of-requires
+ideal-of-requires c κs =
+    let h = loaded c in
+    let a = begun h .args in
+    let few = h .load-flow .ensures .few in (
+      chain-asked (a .book .now) (a .f) (a .records) (jobs h) (begun h .pre .0) (h .load-flow .ensures),
+      omega (arith, few, sizes-long h),
+      omega (arith, few, caps-long h),
+      omega (arith, few, predecessors-long h),
+      few,
+      few,
+      few,
+      few,
+    )
 
 slice-aggregate-place-cuts : tie.Need-slice-aggregate-place-cuts
 slice-aggregate-place-cuts c = search needs
@@ -56,7 +119,7 @@ slice-aggregate-place-cuts-4 : tie.Need-slice-aggregate-place-cuts-4
 slice-aggregate-place-cuts-4 c = search needs
 
 slice-aggregate-place-cuts-5 : tie.Need-slice-aggregate-place-cuts-5
-slice-aggregate-place-cuts-5 c = sym (firsts-long (read c .before .before))
+slice-aggregate-place-cuts-5 c = search needs
 
 slice-aggregate-place-cuts-6 : tie.Need-slice-aggregate-place-cuts-6
 slice-aggregate-place-cuts-6 c = search needs
@@ -67,21 +130,24 @@ slice-aggregate-place-cuts-7 c = search needs
 slice-aggregate-place-cuts-8 : tie.Need-slice-aggregate-place-cuts-8
 slice-aggregate-place-cuts-8 c = search needs
 
+cast-place-cuts : tie.Need-cast-place-cuts
+cast-place-cuts c = search needs
+
 place-cuts-requires : tie.Need-place-cuts-requires
 place-cuts-requires c κs =
-    let r = read (c .before .before .before .before .before) in
-    let h = r .before .before in
-    let load = h .before .load-flow in
-    let b = h .before .before .before .before .before in
+    let i = c .before .before .before .before .before .before .before .before .before .before .before .before .before .before .before in
+    let h = loaded (i .before) in
+    let load = h .load-flow in
+    let b = begun h in
     let few = load .ensures .few in (
-      flow-held (b .args .book .now) (b .args .f) (b .args .records) (load .result) (b .pre .0) (load .ensures) (h .ideal-of .result) (h .ideal-of .ensures)
-          (caps-long h) (starts-long h) (ends-long h) (lasts-long h) (firsts-long h),
+      flow-held (b .args .book .now) (b .args .f) (b .args .records) (jobs h) (b .pre .0) (load .ensures) (ideal i) (i .ideal-of .ensures)
+          (caps-long h) (starts-long i) (ends-long i) (lasts-long i) (firsts-long i),
       few,
       few,
       few,
       b .pre .1,
-      limit-held (b .args .book .now) (b .args .f) (b .args .records) (load .result) (b .pre .0) (load .ensures) _ (r .before .wide16 .ensures .0),
-      release-held (b .args .book .now) (b .args .f) (b .args .records) (load .result) (b .pre .0) (load .ensures) _ (r .wide162 .ensures .0),
+      limit-held (b .args .book .now) (b .args .f) (b .args .records) (jobs h) (b .pre .0) (load .ensures) _ (i .before .before .before .before .before .before .before .before .before .wide16 .ensures .0),
+      release-held (b .args .book .now) (b .args .f) (b .args .records) (jobs h) (b .pre .0) (load .ensures) _ (i .before .before .before .before .before .before .before .before .wide162 .ensures .0),
       b .pre .2,
       b .pre .3,
     )
@@ -99,11 +165,21 @@ pub place-flow-spec : {M : Type 1} → statement M
 place-flow-spec =
     tie.close
     (tie.spec
+    slice-aggregate-load-flow
+    slice-aggregate-load-flow-2
+    slice-aggregate-load-flow-3
     load-flow-requires
-    ideal-of-requires
     wide16-requires
     mul-limit
     wide16-requires-2
+    slice-aggregate-ideal-of
+    slice-aggregate-ideal-of-2
+    slice-aggregate-ideal-of-3
+    slice-aggregate-ideal-of-4
+    slice-aggregate-ideal-of-5
+    slice-aggregate-ideal-of-6
+    slice-aggregate-ideal-of-7
+    ideal-of-requires
     slice-aggregate-place-cuts
     slice-aggregate-place-cuts-2
     slice-aggregate-place-cuts-3
@@ -112,6 +188,7 @@ place-flow-spec =
     slice-aggregate-place-cuts-6
     slice-aggregate-place-cuts-7
     slice-aggregate-place-cuts-8
+    cast-place-cuts
     place-cuts-requires
     same-length
     same-length-2

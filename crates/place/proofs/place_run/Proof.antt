@@ -21,7 +21,7 @@ work-of-requires c κs = tt
 loop-holds : tie.Need-loop-holds Inv-loop μ-loop
 loop-holds c =
     let v = c .before .before .before .before .before .before .before .pre in
-    (run-kept-first (v .0) (v .2) (omega arith), omega arith)
+    (run-kept-first (v .0 .held .in-service) (v .2) (omega arith), omega arith)
 
 same-length : tie.Need-same-length Inv-loop μ-loop
 same-length c = c .before .before .loop .inv .0 .out-length
@@ -33,8 +33,8 @@ returns : tie.Need-returns Inv-loop μ-loop
 returns c =
     let v = c .before .before .before .before .before .before .before .before .before .before .pre in
     let l = c .before .before .loop in
-    run-kept-stops (v .0) (l .inv .0) (c .if1 .taken)
-    (omega (arith, c .before .before .before .work-of .ensures, c .before .loop-test .taken, work-held (v .0)))
+    run-kept-stops (v .0 .held .in-service) (l .inv .0) (c .if1 .taken)
+    (omega (arith, c .before .before .before .work-of .ensures, c .before .loop-test .taken, work-held (v .0 .held .in-service)))
 
 sub-serve-slot : tie.Need-sub-serve-slot Inv-loop μ-loop
 sub-serve-slot c = omega arith
@@ -55,7 +55,7 @@ sub-left c =
     let looped = c .before .before .before .before .before .before .before .before .before .before in
     let v = looped .before .before .before .before .before .before .before .before .pre in
     let served = c .before .before .before .before .before .serve-slot .ensures in
-    omega (arith, looped .before .work-of .ensures, served .give-within, work-held (v .0))
+    omega (arith, looped .before .work-of .ensures, served .give-within, work-held (v .0 .held .in-service))
 
 add-slot : tie.Need-add-slot Inv-loop μ-loop
 add-slot c =
@@ -73,8 +73,8 @@ loop-again c =
     let l = looped .loop in
     let served = c .before .before .before .before .before .serve-slot .ensures in
     let all = looped .before .work-of .ensures in
-    let more = run-kept-next (v .0) (l .inv .0) (v .3) (inside .if1 .left) (omega (arith, all, inside .before .loop-test .taken, work-held (v .0))) served in
-    (more (omega (arith, all, served .give-within, work-held (v .0))) (omega arith) (omega arith), omega arith)
+    let more = run-kept-next (v .0 .held .in-service) (l .inv .0) (v .3) (inside .if1 .left) (omega (arith, all, inside .before .loop-test .taken, work-held (v .0 .held .in-service))) served in
+    (more (omega (arith, all, served .give-within, work-held (v .0 .held .in-service))) (omega arith) (omega arith), omega arith)
 
 same-length-3 : tie.Need-same-length-3 Inv-loop μ-loop
 same-length-3 c = c .before .loop .inv .0 .out-length
@@ -86,7 +86,7 @@ returns-2 : tie.Need-returns-2 Inv-loop μ-loop
 returns-2 c =
     let v = c .before .before .before .before .before .before .before .before .before .pre in
     let l = c .before .loop in
-    run-kept-done (v .0) (l .inv .0) (omega (arith, c .before .before .work-of .ensures, c .loop-test .left, work-held (v .0)))
+    run-kept-done (v .0 .held .in-service) (l .inv .0) (omega (arith, c .before .before .work-of .ensures, c .loop-test .left, work-held (v .0 .held .in-service)))
 
 pub place-run-spec : {M : Type 1} → statement M
 place-run-spec =

@@ -25,7 +25,7 @@ cast-put-full c = search needs
 put-full-requires : tie.Need-put-full-requires Inv-loop μ-loop
 put-full-requires c κs =
     let v = c .before .before .before .before .before .before .before .before .pre in
-    (v .0 .rows-whole, parts-within (v .0), v .4)
+    (v .0 .rows-whole, parts-within (v .0 .held), v .4)
 
 same-length : tie.Need-same-length Inv-loop μ-loop
 same-length c = search needs
@@ -37,7 +37,7 @@ returns c =
     rw (← full-rows (v .0) (a .slot) (a .done) (a .give) (v .1) (c .before .before .before .before .if1 .taken)) (c .before .before .put-full .ensures)
 
 cast-flow : tie.Need-cast-flow Inv-loop μ-loop
-cast-flow c = omega (arith, flow-within (c .before .before .before .before .before .before .before .before .pre .0))
+cast-flow c = omega (arith, flow-within (c .before .before .before .before .before .before .before .before .pre .0 .held .in-service))
 
 cast-o : tie.Need-cast-o Inv-loop μ-loop
 cast-o c = search needs
@@ -49,7 +49,7 @@ cast-o-2 : tie.Need-cast-o-2 Inv-loop μ-loop
 cast-o-2 c =
     let a = c .before .before .before .before .before .before .before .before .before .args in
     let v = c .before .before .before .before .before .before .before .before .before .pre in
-    omega (arith, mod-lt (a .done) (v .0 .rate-positive), rate-within (v .0))
+    omega (arith, mod-lt (a .done) (v .0 .held .in-service .rate-positive), rate-within (v .0 .held .in-service))
 
 loop-holds : tie.Need-loop-holds Inv-loop μ-loop
 loop-holds c = slot-kept-first
@@ -76,7 +76,7 @@ add-offset : tie.Need-add-offset Inv-loop μ-loop
 add-offset c =
     let v = c .before .before .before .before .before .before .before .before .before .before .before .before .before .before .before .before .before .pre in
     let l = c .before .before .before .before .before .before .before .loop in
-    omega (arith, units-within (v .0) (v .1) (v .2) (l .inv) (c .before .before .before .before .before .before .loop-test .taken), rate-within (v .0))
+    omega (arith, units-within (v .0) (v .1) (v .2) (l .inv) (c .before .before .before .before .before .before .loop-test .taken), rate-within (v .0 .held .in-service))
 
 add-q : tie.Need-add-q Inv-loop μ-loop
 add-q c = search needs

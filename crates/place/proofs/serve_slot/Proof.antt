@@ -19,7 +19,7 @@ work-of-requires c κs = search needs
 sub-give-of : tie.Need-sub-give-of
 sub-give-of c =
     let v = c .before .before .before .before .before .before .before .before .before .pre in
-    omega (arith, c .work-of .ensures, work-held (v .0), v .2)
+    omega (arith, c .work-of .ensures, work-held (v .0 .held .in-service), v .2)
 
 give-of-requires : tie.Need-give-of-requires
 give-of-requires c κs = search needs
@@ -34,14 +34,14 @@ returns c =
     let used = c .before .before .before .read16 in
     let total = c .before .before .work-of in
     let give = c .before .give-of in
-    served-nothing (v .0) (a .done) (a .slot) (a .area .now) (total .ensures) (v .2) (v .3) (used .ensures) (sym (give .ensures) ∙ c .if1 .taken)
+    served-nothing (v .0 .held .in-service) (a .done) (a .slot) (a .area .now) (total .ensures) (v .2) (v .3) (used .ensures) (sym (give .ensures) ∙ c .if1 .taken)
 
 put-slot-requires : tie.Need-put-slot-requires
 put-slot-requires c κs =
     let v = c .before .before .before .before .before .before .before .before .before .before .before .before .pre in
     let total = c .before .before .before .work-of in
     let give = c .before .before .give-of in
-    (v .0, omega (arith, give .ensures, total .ensures, work-held (v .0), v .2), omega (arith, give .ensures), v .3, v .4)
+    (v .0, omega (arith, give .ensures, total .ensures, work-held (v .0 .held .in-service), v .2), omega (arith, give .ensures), v .3, v .4)
 
 mul-write16 : tie.Need-mul-write16
 mul-write16 c = search needs
@@ -49,12 +49,12 @@ mul-write16 c = search needs
 cast-write16 : tie.Need-cast-write16
 cast-write16 c =
     let gave = c .before .before .before .before .before .before in
-    omega (arith, gave .give-of .ensures, processors-within (gave .before .before .before .before .before .before .before .before .before .before .pre .0))
+    omega (arith, gave .give-of .ensures, processors-within (gave .before .before .before .before .before .before .before .before .before .before .pre .0 .held .in-service))
 
 add-write16 : tie.Need-add-write16
 add-write16 c =
     let gave = c .before .before .before .before .before .before in
-    omega (arith, gave .give-of .ensures, processors-within (gave .before .before .before .before .before .before .before .before .before .before .pre .0))
+    omega (arith, gave .give-of .ensures, processors-within (gave .before .before .before .before .before .before .before .before .before .before .pre .0 .held .in-service))
 
 write16-requires : tie.Need-write16-requires
 write16-requires c κs = search needs
@@ -74,7 +74,7 @@ returns-2 c =
     let total = gave .before .work-of in
     let give = gave .give-of in
     let put = c .before .before .before .before .before .before .put-slot in
-    served-some (v .0) (a .done) (a .slot) (a .area .now) (total .ensures) (v .2) (v .3) (used .ensures) (give .ensures) (put .ensures) (c .before .before .write16 .ensures)
+    served-some (v .0 .held .in-service) (a .done) (a .slot) (a .area .now) (total .ensures) (v .2) (v .3) (used .ensures) (give .ensures) (put .ensures) (c .before .before .write16 .ensures)
 
 pub serve-slot-spec : {M : Type 1} → statement M
 serve-slot-spec =

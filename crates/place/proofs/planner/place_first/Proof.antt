@@ -1,6 +1,7 @@
 -- The first flows in service order, one a turn: the invariant is where the placing stands after k flows. Assumes nothing.
 use mathlib.Core.Path.{_≡_, refl, sym, ap, subst}
 use Prim.Native.Nat.{suc, _+_, _-_, _≤_}
+use mathlib.Core.Bool.{true, false≢true}
 use mathlib.Core.List.{List, [], _++_}
 use lib.ListN.{length}
 use Rattle.rules.specs.Reading.{bookOf}
@@ -8,7 +9,7 @@ use Rattle.rules.specs.Rows.{Row}
 use Rattle.place.specs.declared.Placed.{Placed}
 use Rattle.place.specs.declared.planner.Ended.the-variants.{Infeasible}
 use Rattle.place.specs.Flows.{newRows, FlowPlaced}
-use Rattle.place.proofs.FirstFlows.{NextFlow, Stands, few-flows, next-flow, place-most, stands-first, goes-on, infeasible-next, infeasible-stays, ends-planned, ends-infeasible}
+use Rattle.place.proofs.FirstFlows.{NextFlow, Stands, few-flows, next-flow, listed-done, place-most, stands-first, goes-on, infeasible-next, infeasible-stays, ends-planned, ends-infeasible}
 use borrow.Author.Needs.{needs}
 use native.Mathlib.Omega.{arith}
 use Rattle.place.proofs.planner.place_first.Statement.{statement}
@@ -39,8 +40,8 @@ next c = next-flow _ _ _ _ _ (start (turn c) .pre) _ _ (c .before .loop-test .ta
 abbrev Beside : tie.After-place-flow Inv-loop μ-loop → Placed → Type 0
 Beside c w =
     let u = turn (served c) in
-    FlowPlaced (bookOf (start u .args .book .now)) (served c .wide .result) (u .loop .inv .3 .0) (start u .args .work .now) (u .loop .out) (u .loop .next)
-    (c .place-flow .last .1 .0) (c .place-flow .last .1 .1 .0) w
+    FlowPlaced true (bookOf (start u .args .book .now)) (served c .wide .result) (u .loop .inv .3 .0) (start u .args .work .now) (u .loop .out) (u .loop .next)
+    (c .place-flow .last .1 .1 .0) (c .place-flow .last .1 .1 .1 .0) w
 
 placed : (c : tie.After-place-flow Inv-loop μ-loop) (w : Placed) → c .place-flow .result ≡ w → Beside c w
 placed c w e =
@@ -77,7 +78,8 @@ place-flow-requires : tie.Need-place-flow-requires Inv-loop μ-loop
 place-flow-requires c κs =
     let w = c .before .before .before in
     let n = next w in
-    (n .stands, start (turn w) .pre .indexed .processors, omega arith, omega (arith, place-most _ _ _ _ _ _ _ _ _ (omega arith) (n .few-flows) (turn w .loop .inv .3 .1 .first)))
+    let most = place-most _ _ _ _ _ _ _ _ _ (omega arith) (n .few-flows) (turn w .loop .inv .3 .1 .first) in
+    (n .stands, start (turn w) .pre .indexed .processors, omega arith, record { places = λ _. omega (arith, most); nothing-lent = λ t. absurd (false≢true (sym t)) })
 
 enum-known-end : tie.Need-enum-known-end Inv-loop μ-loop
 enum-known-end c = search needs
@@ -105,7 +107,7 @@ returns c =
 
 cast-finish : tie.Need-cast-finish Inv-loop μ-loop
 cast-finish c =
-    let d = placed (c .before .before .before .before .before .before .before) _ (c .before .end .given .1) in
+    let d = placed (c .before .before .before .before .before .before .before) _ (c .before .end .given .1) .2 in
     omega (arith, d .finish-within, next (served (c .before .before .before .before .before .before .before)) .deadline-most)
 
 mul-finish : tie.Need-mul-finish Inv-loop μ-loop
@@ -128,7 +130,7 @@ loop-again c =
     let n = next w in
     let l = turn w .loop in
     let rows = l .inv .3 .0 in
-    let d = placed (c .before .before .before .before .before .before .before) _ (c .before .end .given .1) in
+    let d = listed-done (placed (c .before .before .before .before .before .before .before) _ (c .before .end .given .1)) in
     (omega arith, search needs, search needs, (rows ++ newRows (bookOf (start (turn w) .args .book .now)) (w .wide .result) rows, goes-on _ (l .k) _ rows _ _ _ _ _ _ (n .below) (n .served) (l .inv .3 .1) (n .few-flows) _ _ _ _ d))
 
 same-length-3 : tie.Need-same-length-3 Inv-loop μ-loop
