@@ -3,8 +3,10 @@
 ghost use mathlib.Core.Path.{_≡_};
 ghost use Rattle.rules.specs.Check.{checkCall};
 ghost use Rattle.rules.specs.Dispatch.{dispatchCall};
+ghost use Rattle.rules.specs.Finish.{finishCall};
 ghost use Rattle.rules.specs.Planner.{planCall};
 use rules::CheckAnswer;
+use rules::FinishAnswer;
 use rules::ListAnswer;
 use rules::PlanAnswer;
 
@@ -40,4 +42,13 @@ pub extern "C" fn flowplan_dispatch(
     ensures area { λ r. ⌜ now (work .exit) ≡ dispatchCall (now (book .entry)) (now (table .entry)) (now (output .entry)) (now (work .entry)) .area ⌝ }
 {
     dispatch::dispatch_table(book, table, output, work)
+}
+
+// The finish of one flow of a book.
+#[no_mangle]
+pub extern "C" fn flowplan_finish(book: &[u8], flow: u32, work: &mut [u8]) -> FinishAnswer
+    ensures answer { λ r. ⌜ r ≡ finishCall (now (book .entry)) flow (now (work .entry)) .answer ⌝ }
+    ensures area { λ r. ⌜ now (work .exit) ≡ finishCall (now (book .entry)) flow (now (work .entry)) .area ⌝ }
+{
+    finish::finish_flow(book, flow, work)
 }

@@ -1,0 +1,5 @@
+-- Laws of placing up to one flow that the proofs of the code cite.
+-- a state in a local that is lent by `&mut`
+pub mod Local
+pub mod Flows
+pub mod Call

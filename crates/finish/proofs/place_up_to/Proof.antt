@@ -1,0 +1,102 @@
+-- Flow after flow: the invariant is that the flows before the state's position are placed. Assumes nothing.
+use mathlib.Core.Path.{_≡_, refl}
+use mathlib.Core.Logic.{inl, inr}
+use Prim.Native.Nat.{_-_, _≤_}
+use lib.ListN.{length}
+use borrow.Author.Needs.{needs}
+use native.Mathlib.Omega.{arith}
+use Rattle.rules.specs.Reading.{bookOf}
+use Rattle.place.proofs.FirstFlows.{few-flows}
+use Rattle.finish.specs.Flows.{PlacedTo}
+use Rattle.finish.proofs.Flows.{placed-none, flow-fits, next-asked, moved, stopped}
+use Rattle.finish.proofs.place_up_to.Statement.{statement}
+use Rattle.finish.proofs.place_up_to.Tie as tie
+
+abbrev Inv-loop : tie.InvT-loop
+Inv-loop book work₀ count x order processors placement₀ work placement =
+    (placement .position ≤ count) × (length work ≡ length work₀) × PlacedTo (bookOf book) work₀ work placement
+
+abbrev μ-loop : tie.MeasureT-loop
+μ-loop book work₀ count x order processors placement₀ work placement = count - placement .position
+
+-- where the function begins, and a turn
+abbrev start : tie.At-loop Inv-loop μ-loop → tie.Start Inv-loop μ-loop
+start c = c .before .before .before
+
+abbrev turn : tie.After-wide Inv-loop μ-loop → tie.At-loop Inv-loop μ-loop
+turn c = c .before .before .before
+
+abbrev advanced : tie.After-struct-known2 Inv-loop μ-loop → tie.After-advance Inv-loop μ-loop
+advanced c = c .before .before .before
+
+loop-holds : tie.Need-loop-holds Inv-loop μ-loop
+loop-holds c =
+    let a = c .before .before in
+    (omega arith, refl, placed-none (bookOf (a .args .book .now)) (a .args .work .now) (a .pre .zero))
+
+array-read-wide : tie.Need-array-read-wide Inv-loop μ-loop
+array-read-wide c = let p = start (c .before .before) .pre in omega (arith, few-flows p, p .within, p .indexed .flows)
+
+wide-requires : tie.Need-wide-requires Inv-loop μ-loop
+wide-requires c κs = search needs
+
+mul-records : tie.Need-mul-records Inv-loop μ-loop
+mul-records c = omega (arith, flow-fits (start (turn c) .pre) (turn c .loop .placement) (c .before .if1 .taken) (c .wide .ensures .0))
+
+element-copy-out-records : tie.Need-element-copy-out-records Inv-loop μ-loop
+element-copy-out-records c = omega (arith, flow-fits (start (turn c) .pre) (turn c .loop .placement) (c .before .if1 .taken) (c .wide .ensures .0))
+
+advance-requires : tie.Need-advance-requires Inv-loop μ-loop
+advance-requires c κs =
+    let w = c .before .before in
+    let l = turn w .loop in
+    next-asked (start (turn w) .pre) (l .placement) (w .before .if1 .taken) (w .wide .ensures .0) (l .inv .1) (l .inv .2)
+
+same-length : tie.Need-same-length Inv-loop μ-loop
+same-length c = search needs
+
+returns : tie.Need-returns Inv-loop μ-loop
+returns c =
+    let d = advanced (c .before) in
+    let w = d .before .before .before in
+    inr (record { some = w .before .if1 .taken; stopped = stopped (d .advance .result) (d .advance .ensures) (turn w .loop .inv .2) (c .if2 .taken) })
+
+loop-less : tie.Need-loop-less Inv-loop μ-loop
+loop-less c =
+    let d = advanced (c .before) in
+    let w = d .before .before .before in
+    omega (arith, moved (d .advance .result) (d .advance .ensures) (turn w .loop .inv .2) (c .if2 .left) .moves, w .before .if1 .taken)
+
+loop-again : tie.Need-loop-again Inv-loop μ-loop
+loop-again c =
+    let d = advanced (c .before) in
+    let w = d .before .before .before in
+    let m = moved (d .advance .result) (d .advance .ensures) (turn w .loop .inv .2) (c .if2 .left) in
+    (omega (arith, m .moves, w .before .if1 .taken), search needs, m .so-far)
+
+same-length-2 : tie.Need-same-length-2 Inv-loop μ-loop
+same-length-2 c = search needs
+
+returns-2 : tie.Need-returns-2 Inv-loop μ-loop
+returns-2 c =
+    let l = c .before .before .loop in
+    inl (record { all = omega (arith, c .if1 .left, l .inv .0); so-far = l .inv .2 })
+
+pub place-up-to-spec : {M : Type 1} → statement M
+place-up-to-spec =
+    tie.close
+    (tie.spec
+    Inv-loop
+    μ-loop
+    loop-holds
+    array-read-wide
+    wide-requires
+    mul-records
+    element-copy-out-records
+    advance-requires
+    same-length
+    returns
+    loop-less
+    loop-again
+    same-length-2
+    returns-2)

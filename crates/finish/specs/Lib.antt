@@ -1,0 +1,3 @@
+-- The definitions that the contracts of `finish` cite.
+pub mod Flows
+pub mod Call
