@@ -13,6 +13,7 @@ bench:
 	cd tests && cargo run --release --offline --quiet --bin bench_check
 	cd tests && cargo run --release --offline --quiet --bin bench_plan
 	cd tests && cargo run --release --offline --quiet --bin bench_dispatch
+	cd tests && cargo run --release --offline --quiet --bin bench_finish
 
 # This library beside that of an earlier commit: make bench-between BEFORE=COMMIT
 SHARED = cc -shared -Wl,-u,flowplan_plan -Wl,-u,flowplan_check

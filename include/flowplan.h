@@ -1,5 +1,5 @@
 /*
- * flowplan.h: flow planner, table check and dispatch list.
+ * flowplan.h: flow planner, table check, dispatch list and finish of one flow.
  *
  * Version of this header, FLOWPLAN_HEADER_VERSION
  *   1  the base: planner and table check
@@ -10,6 +10,7 @@
  *      as P; number 9 is only a cap of 0
  *   4  Req 03, dispatch list: flowplan_dispatch with its answer, and the list's
  *      layout; number 13 also for a list longer than the lent output
+ *   5  Req 05, the finish of one flow: flowplan_finish with its answer; number 23
  *
  * Every call takes every sequence of bytes, comes to an end on each, allocates
  * nothing and keeps nothing between calls.
@@ -59,13 +60,14 @@
  *
  * Work area
  *   At least FLOWPLAN_WORK_BYTES, two bytes for each of the slots 0 to 8,191.
- *   After acceptance each pair holds the processors in use in that slot. Bytes
- *   past FLOWPLAN_WORK_BYTES are never touched.
+ *   After acceptance each pair holds the processors in use in that slot: by all
+ *   flows, or where the finish of one was asked for, by that flow and those
+ *   before it in service order. Bytes past FLOWPLAN_WORK_BYTES are never touched.
  *
  * Stack
- *   A call needs at most FLOWPLAN_CHECK_STACK, FLOWPLAN_PLAN_STACK or
- *   FLOWPLAN_DISPATCH_STACK bytes of stack (tested on x86-64 Linux, on full,
- *   small and refused input).
+ *   A call needs at most FLOWPLAN_CHECK_STACK, FLOWPLAN_PLAN_STACK,
+ *   FLOWPLAN_DISPATCH_STACK or FLOWPLAN_FINISH_STACK bytes of stack (tested on
+ *   x86-64 Linux, on full, small and refused input).
  *
  * Buffers
  *   The buffers of one call must not overlap. No pointer may be null, also
@@ -82,7 +84,7 @@ extern "C" {
 #endif
 
 /* What changed from version to version stands at the top. */
-#define FLOWPLAN_HEADER_VERSION 4
+#define FLOWPLAN_HEADER_VERSION 5
 
 /* Bytes of the work area that are used, and the slots that they stand for. */
 #define FLOWPLAN_WORK_BYTES 16384
@@ -92,6 +94,7 @@ extern "C" {
 #define FLOWPLAN_CHECK_STACK 16384
 #define FLOWPLAN_PLAN_STACK 20480
 #define FLOWPLAN_DISPATCH_STACK 20480
+#define FLOWPLAN_FINISH_STACK 20480
 
 /* The longest book that passes its checks: version 2, 64 flows of 64 jobs. */
 #define FLOWPLAN_LONGEST_BOOK 57672
@@ -104,14 +107,15 @@ extern "C" {
  * stands behind it; "-, -" is FLOWPLAN_NONE, FLOWPLAN_NONE.
  *
  * Numbers 1 to 4 are tested in that order; then for each flow 5, 6, 22, 7 and
- * for each of its jobs 5, 8, 9, 10; then bytes left over; then 11. The planner
- * goes on with 12, 13; the check with 14, with 15 to 19 in order for each row,
- * then 20, 21; the dispatch list as the check, and then 13. The first fault met
- * is answered. A flow head or job record must be there whole before any of its
+ * for each of its jobs 5, 8, 9, 10; then bytes left over; then 23, only for the
+ * finish of one flow; then 11. The planner goes on with 12, 13; the check with
+ * 14, with 15 to 19 in order for each row, then 20, 21; the dispatch list as the
+ * check, and then 13; the finish of one flow with 12. The first fault met is
+ * answered. A flow head or job record must be there whole before any of its
  * fields is looked at.
  *
- * Numbers 1 to 11 and 22 leave the work area as it was; the others leave its
- * first FLOWPLAN_WORK_BYTES bytes zero.
+ * Numbers 1 to 11, 22 and 23 leave the work area as it was; the others leave
+ * its first FLOWPLAN_WORK_BYTES bytes zero.
  */
 enum flowplan_number {
     /* accepted; -, - */
@@ -167,7 +171,9 @@ enum flowplan_number {
     /* a stated finish differs; lowest flow, - */
     FLOWPLAN_FINISH = 21,
     /* release not below the deadline, tested directly after 6; flow, - */
-    FLOWPLAN_RELEASE = 22
+    FLOWPLAN_RELEASE = 22,
+    /* the flow that was named is not in the book; -, - */
+    FLOWPLAN_NO_SUCH_FLOW = 23
 };
 
 /* ---- Table check ------------------------------------------------------- */
@@ -258,6 +264,38 @@ struct flowplan_list_answer flowplan_dispatch(const uint8_t *book, size_t book_l
                                               uint8_t *work, size_t work_len);
 
 /* ---- End of dispatch list ---------------------------------------------- */
+
+/* ---- Finish of one flow ------------------------------------------------ */
+
+struct flowplan_finish_answer {
+    uint8_t number; /* 0 or the refusal, see enum flowplan_number */
+    uint8_t flow;   /* place of the refusal, else FLOWPLAN_NONE */
+    uint8_t job;
+    uint16_t finish; /* accepted: the flow's last used slot plus 1; else 0 */
+};
+
+/*
+ * The finish of one flow, and no table. The book is checked in full, but flows
+ * are placed only up to the one named, in service order. The finish is the one
+ * that the planner's table shows, or would show without the flows after this
+ * one. It is at most twice the flow's deadline.
+ *
+ * Where the flow named or one before it in service order is infeasible, the
+ * answer is 12 with that flow's number in the book. An infeasible flow after the
+ * one named is not reported.
+ *
+ * book: read only, any bytes, any length.
+ * flow: number of the flow in the book, 0 for the first. One that is not in the
+ *       book is answered by 23; all 32 bits count, so that 256 is not flow 0.
+ * work: accepted: the use of each slot by this flow and those before it in
+ *       service order. Number 1 to 11, 22 or 23: as it was. Number 12: its
+ *       first FLOWPLAN_WORK_BYTES bytes are zero.
+ */
+struct flowplan_finish_answer flowplan_finish(const uint8_t *book, size_t book_len,
+                                              uint32_t flow,
+                                              uint8_t *work, size_t work_len);
+
+/* ---- End of finish of one flow ----------------------------------------- */
 
 #ifdef __cplusplus
 }

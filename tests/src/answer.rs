@@ -1,5 +1,5 @@
-//! The answers of the table check, of the planner and of the dispatch list, laid
-//! out as in C.
+//! The answers of the table check, of the planner, of the dispatch list and of the
+//! finish of one flow, laid out as in C.
 
 /// Stands in the place of a refusal where there is no flow or job.
 pub const NONE: u8 = 255;
@@ -11,7 +11,7 @@ pub const WORK_BYTES: usize = 16_384;
 pub const SLOTS: usize = 8_192;
 
 /// One more than the greatest number that is answered.
-pub const NUMBERS: usize = 23;
+pub const NUMBERS: usize = 24;
 
 /// A refusal number with its place.
 #[derive(Clone, Copy, Debug, PartialEq, Eq)]
@@ -121,6 +121,36 @@ impl ListAnswer {
             flow: refusal.flow,
             job: refusal.job,
             length: 0,
+        }
+    }
+}
+
+/// What the finish of one flow answers.
+#[repr(C)]
+#[derive(Clone, Copy, Debug, PartialEq, Eq)]
+pub struct FinishAnswer {
+    pub number: u8,
+    pub flow: u8,
+    pub job: u8,
+    pub finish: u16,
+}
+
+impl FinishAnswer {
+    pub fn accepted(finish: u16) -> FinishAnswer {
+        FinishAnswer {
+            number: 0,
+            flow: NONE,
+            job: NONE,
+            finish,
+        }
+    }
+
+    pub fn refused(refusal: Refusal) -> FinishAnswer {
+        FinishAnswer {
+            number: refusal.number,
+            flow: refusal.flow,
+            job: refusal.job,
+            finish: 0,
         }
     }
 }

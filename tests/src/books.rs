@@ -72,12 +72,18 @@ pub fn fit_length(bytes: &mut [u8]) {
     }
 }
 
-/// The book cut after its first `kept` flows in service order; the flows that
-/// stay keep the order of the book.
-pub fn cut(book: &Book, kept: usize) -> Book {
+/// The numbers of the first `kept` flows in service order, in the order of the book.
+pub fn kept_by_cut(book: &Book, kept: usize) -> Vec<usize> {
     let mut stay = book.service_order();
     stay.truncate(kept);
     stay.sort_unstable();
+    stay
+}
+
+/// The book cut after its first `kept` flows in service order; the flows that
+/// stay keep the order of the book.
+pub fn cut(book: &Book, kept: usize) -> Book {
+    let stay = kept_by_cut(book, kept);
     Book {
         flows: stay.into_iter().map(|k| book.flows[k].clone()).collect(),
         ..*book
@@ -601,6 +607,14 @@ pub fn late_layered_book(flows: usize, jobs: usize, slots: u32) -> Book {
         }
     }
     book
+}
+
+/// The one or the other, by the version.
+pub fn layered_in(version: Version, flows: usize, jobs: usize, slots: u32) -> Book {
+    match version {
+        Version::One => layered_book(flows, jobs, slots),
+        Version::Two => late_layered_book(flows, jobs, slots),
+    }
 }
 
 /// The most flows of the most jobs as version 2, each released in one of the last

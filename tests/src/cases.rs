@@ -1,6 +1,6 @@
-//! What the benchmarks measure: books for the planner, and books whose plans are
-//! the tables of the check and of the dispatch list, each with how often it is
-//! measured.
+//! What the benchmarks measure: books for the planner and for the finish of one flow,
+//! and books whose plans are the tables of the check and of the dispatch list, each
+//! with how often it is measured.
 
 use crate::books::{full_book, largest_book, late_full_book, layered_book, usual_book, Family};
 use crate::marked;
@@ -80,6 +80,22 @@ fn waiting_book(flows: usize, layers: usize, width: usize, slots: u32) -> Book {
     let jobs = (0..layers * width).map(job).collect();
     let flow = Flow::new(slots * layers as u32, jobs);
     Book::new((flows * width) as u32, vec![flow; flows])
+}
+
+/// The most flows of the most jobs, each in eight lanes, on so few processors that
+/// over half of the slots that a flow is given are given in part.
+fn contended_book(rng: &mut Rng) -> Book {
+    let mut book = Book::new(40, Vec::new());
+    for _ in 0..64 {
+        let deadline = 2_000 + rng.below(2_000) as u32;
+        let jobs = (0..64u32).map(|job| Job {
+            size: rng.range(6, 60) as u32,
+            cap: rng.range(2, 40) as u32,
+            precedence: job.checked_sub(8).map_or(0, |before| 1 << before),
+        });
+        book.flows.push(Flow::new(deadline, jobs.collect()));
+    }
+    book
 }
 
 /// A drawn book of several flows, with jobs that wait for others, whose table
@@ -226,6 +242,39 @@ pub fn dispatch_cases() -> Vec<Case> {
         "growth with slots, 63 flows waiting behind one:",
         growth
             .map(|n| case(format!("  {n} slots"), queue_book(*n), 15, 20))
+            .collect(),
+    ));
+    cases
+}
+
+/// The books whose flows are asked for.
+pub fn finish_cases() -> Vec<Case> {
+    let book_a = read_book(&marked::BOOK_A).expect("book A");
+    let mut small = vec![
+        case("book A", book_a, 31, 1_000),
+        case("free jobs, 8 flows of 4", layered_book(8, 4, 12), 31, 500),
+    ];
+    let mut rng = Rng::new(11);
+    small.extend((0..3).map(|_| case("drawn book", drawn_book(&mut rng), 31, 500)));
+    let mut cases = group("small books:", small);
+    let full = planned_book(&mut Rng::new(64), full_book);
+    let late = planned_book(&mut Rng::new(64), late_full_book);
+    let contended = planned_book(&mut Rng::new(64), contended_book);
+    cases.extend(group(
+        "usual, full and large books:",
+        vec![
+            case("usual book, 20 flows of 10 jobs", shift_book(), 31, 100),
+            case("full book, 64 flows of 64 jobs", full, 31, 10),
+            case("version 2, full book with late releases", late, 31, 10),
+            case("full book, slots given in part", contended, 31, 10),
+            case("largest table", largest_book(), 5, 1),
+        ],
+    ));
+    let growth = [256, 1_024, 4_000].iter();
+    cases.extend(group(
+        "growth with slots, 63 flows waiting behind one:",
+        growth
+            .map(|n| case(format!("{n} slots"), queue_book(*n), 15, 20))
             .collect(),
     ));
     cases

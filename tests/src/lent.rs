@@ -1,6 +1,7 @@
 //! Buffers lent to a call: a slice in the middle of junk, so that every byte
 //! around and behind it can be compared after the call.
 
+use crate::answer::WORK_BYTES;
 use crate::rng::Rng;
 
 const GUARD: usize = 64;
@@ -26,6 +27,18 @@ impl Junk {
             done += step;
             from = 0;
         }
+    }
+}
+
+/// A length of a work area: none, too short, short by one, exact or longer.
+pub fn work_length(rng: &mut Rng) -> usize {
+    match rng.below(16) {
+        0 => rng.pick(&[0, 1, 2, WORK_BYTES - 2, WORK_BYTES - 1]),
+        1 => rng.skewed(0, WORK_BYTES as u64 - 1) as usize,
+        2..=8 => WORK_BYTES,
+        9..=12 => WORK_BYTES + 1 + rng.index(64),
+        13..=14 => WORK_BYTES + 1,
+        _ => WORK_BYTES + rng.index(5_000),
     }
 }
 
@@ -68,6 +81,12 @@ impl Lent {
 
     pub fn is_empty(&self) -> bool {
         self.length == 0
+    }
+
+    /// The first byte of the slice in which another buffer differs.
+    pub fn differs_at(&mut self, other: &mut Lent) -> Option<usize> {
+        let mut pairs = self.slice().iter().zip(other.slice());
+        pairs.position(|(one, other)| one != other)
     }
 
     pub fn pointer(&mut self) -> *mut u8 {

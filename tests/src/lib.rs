@@ -1,17 +1,20 @@
-//! A second planner, a second table check and a second dispatch list, made apart
-//! from the proved ones and from the rules alone, with generators of books and
-//! tables, for differential tests and as a baseline of speed.
+//! A second planner, a second table check, a second dispatch list and a second
+//! finish of one flow, made apart from the proved ones and from the rules alone,
+//! with generators of books and tables, for differential tests and as a baseline of
+//! speed.
 
 pub mod answer;
 pub mod books;
 pub mod caps;
 pub mod cases;
 pub mod fast_dispatch;
+pub mod fast_finish;
 pub mod fast_planner;
 pub mod heads;
 pub mod lent;
 pub mod linked;
 pub mod linked_dispatch;
+pub mod linked_finish;
 pub mod linked_plan;
 pub mod lists;
 pub mod lowered;
@@ -22,6 +25,7 @@ pub mod reader;
 pub mod rng;
 pub mod second_check;
 pub mod second_dispatch;
+pub mod second_finish;
 pub mod second_planner;
 pub mod tables;
 pub mod twins;

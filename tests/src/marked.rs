@@ -1,7 +1,7 @@
-//! The marked plans A to G, held against any planner, any check and any dispatch
-//! list.
+//! The marked plans A to G, held against any planner, any check, any dispatch list
+//! and any finish of one flow.
 
-use crate::answer::{CheckAnswer, ListAnswer, PlanAnswer, Refusal, WORK_BYTES};
+use crate::answer::{CheckAnswer, FinishAnswer, ListAnswer, PlanAnswer, Refusal, WORK_BYTES};
 use crate::books::{encode_book, encode_list, encode_table, fit_length};
 use crate::reader::{Book, Flow, Job, Version, VERSIONS};
 use crate::second_check::Row;
@@ -9,6 +9,7 @@ use crate::second_check::Row;
 pub type Planner = fn(&[u8], &mut [u8], &mut [u8]) -> PlanAnswer;
 pub type Check = fn(&[u8], &[u8], &mut [u8]) -> CheckAnswer;
 pub type Dispatch = fn(&[u8], &[u8], &mut [u8], &mut [u8]) -> ListAnswer;
+pub type Finish = fn(&[u8], u32, &mut [u8]) -> FinishAnswer;
 
 const JUNK: u8 = 0xa5;
 
@@ -281,6 +282,29 @@ pub fn table_f(take: u16) -> Vec<u8> {
     encode_table(3, &[6, 3], &rows(&listed))
 }
 
+/// Book A with a third flow, deadline 4, one job of a size at cap 1. With a size of 9
+/// it is not finished after slot 7.
+pub fn book_a_between(size: u32) -> Vec<u8> {
+    let second = Job {
+        precedence: 1,
+        ..free(4, 3)
+    };
+    let flows = vec![
+        Flow::new(5, vec![free(5, 2), second]),
+        Flow::new(3, vec![free(5, 2)]),
+        Flow::new(4, vec![free(size, 1)]),
+    ];
+    encode_book(&Book::new(3, flows))
+}
+
+/// Flow numbers that are in no book of so many flows, among them those whose lowest
+/// bytes are the number of a flow.
+pub fn no_flows(count: u32) -> Vec<u32> {
+    let mut numbers = vec![64, 65, 255, 256, 257, 1 << 16, 1 << 24, 1 << 31, u32::MAX];
+    numbers.extend((count..64).take(2));
+    numbers
+}
+
 /// The values of book G with a release for flow 0, in a version.
 pub fn book_g(version: Version, release: u32) -> Vec<u8> {
     let mut later = Flow::new(6, vec![free(5, 2)]);
@@ -371,6 +395,37 @@ pub fn not_listed(dispatch: Dispatch, book: &[u8], table: &[u8], room: usize, re
     left_by(refusal, &work);
 }
 
+pub fn finished(finish: Finish, book: &[u8], flow: u32, at: u16, used: &[u16]) {
+    let mut work = vec![JUNK; WORK_BYTES + 3];
+    let answer = finish(book, flow, &mut work);
+    assert_eq!(answer, FinishAnswer::accepted(at));
+    holds_use(&work, used);
+    in_short_area(finish, book, flow, Refusal::of_all(11));
+}
+
+pub fn not_finished(finish: Finish, book: &[u8], flow: u32, refusal: Refusal) {
+    let mut work = vec![JUNK; WORK_BYTES + 3];
+    let answer = finish(book, flow, &mut work);
+    assert_eq!(answer, FinishAnswer::refused(refusal));
+    left_by(refusal, &work);
+    // All but 12 come before 11.
+    let first = match refusal.number {
+        12 => Refusal::of_all(11),
+        _ => refusal,
+    };
+    in_short_area(finish, book, flow, first);
+}
+
+/// In a work area of one byte less than it needs, and of none.
+fn in_short_area(finish: Finish, book: &[u8], flow: u32, refusal: Refusal) {
+    for length in [WORK_BYTES - 1, 0] {
+        let mut work = vec![JUNK; length];
+        let answer = finish(book, flow, &mut work);
+        assert_eq!(answer, FinishAnswer::refused(refusal));
+        assert!(work.iter().all(|&byte| byte == JUNK));
+    }
+}
+
 fn holds_use(work: &[u8], used: &[u16]) {
     for (slot, pair) in work[..WORK_BYTES].chunks_exact(2).enumerate() {
         let in_use = used.get(slot).copied().unwrap_or(0);
@@ -381,7 +436,7 @@ fn holds_use(work: &[u8], used: &[u16]) {
 
 fn left_by(refusal: Refusal, work: &[u8]) {
     let zeroed = match refusal.number {
-        ..=11 | 22 => 0,
+        ..=11 | 22 | 23 => 0,
         _ => WORK_BYTES,
     };
     assert!(work[..zeroed].iter().all(|&byte| byte == 0));
@@ -535,4 +590,62 @@ pub fn hold_dispatch(dispatch: Dispatch) {
     refused(&BOOK_G, &moved_g(1, 1), Refusal::new(19, 0, 0));
     let book = book_g(Version::Two, 6);
     refused(&book, &table_g(), Refusal::new(22, 0, 255));
+}
+
+/// Holds the marked plans against a finish of one flow.
+pub fn hold_finish(finish: Finish) {
+    let finished = |book: &[u8], flow, at, used: &[u16]| finished(finish, book, flow, at, used);
+    let refused = |book: &[u8], flow, number, named| {
+        not_finished(finish, book, flow, Refusal::new(number, named, 255));
+    };
+    // In every book: flow numbers that are not in it.
+    let none = |book: &[u8]| {
+        for flow in no_flows(u32::from(book[7])) {
+            not_finished(finish, book, flow, Refusal::of_all(23));
+        }
+    };
+    finished(&BOOK_A, 0, 6, &[3, 3, 3, 1, 3, 1]);
+    finished(&BOOK_A, 1, 3, &[2, 2, 1]);
+    none(&BOOK_A);
+    finished(&book_b(), 0, 3, &[1, 1, 1]);
+    finished(&book_b(), 1, 3, &[3, 3, 3]);
+    finished(&book_c(2), 0, 2, &[1, 1]);
+    finished(&book_c(4), 0, 4, &[1, 1, 1, 1]);
+    refused(&book_c(5), 0, 12, 0);
+    none(&book_c(5));
+    for processors in [1, 3, 4_096] {
+        not_finished(finish, &book_d(processors), 0, Refusal::of_all(23));
+        none(&book_d(processors));
+    }
+    for version in VERSIONS {
+        for cap in [2, 3, 65_535] {
+            let book = book_e_capped(version, cap);
+            finished(&book, 0, 8, &USED_E);
+            finished(&book, 1, 3, &[2, 2, 1]);
+            none(&book);
+        }
+        // A fault of a flow that is served later, or of no flow that was named.
+        let book = book_e_capped(version, 0);
+        for flow in [0, 1].into_iter().chain(no_flows(2)) {
+            not_finished(finish, &book, flow, Refusal::new(9, 0, 1));
+        }
+    }
+    finished(&BOOK_G, 0, 6, &[2, 2, 3, 2, 1, 1]);
+    finished(&BOOK_G, 1, 3, &[2, 2, 2]);
+    none(&BOOK_G);
+    finished(&book_g(Version::Two, 5), 0, 8, &[2, 2, 2, 0, 0, 2, 2, 1]);
+    for flow in [0, 1].into_iter().chain(no_flows(2)) {
+        refused(&book_g(Version::Two, 6), flow, 22, 0);
+    }
+    // The third flow is served second: flow 1 has its finish though flow 2 is
+    // infeasible, and flow 0, which is served last, has not.
+    let book = book_a_between(9);
+    finished(&book, 1, 3, &[2, 2, 1]);
+    refused(&book, 2, 12, 2);
+    refused(&book, 0, 12, 2);
+    none(&book);
+    let book = book_a_between(8);
+    finished(&book, 1, 3, &[2, 2, 1]);
+    finished(&book, 2, 8, &[3, 3, 2, 1, 1, 1, 1, 1]);
+    finished(&book, 0, 9, &[3, 3, 3, 3, 2, 2, 3, 2, 1]);
 }

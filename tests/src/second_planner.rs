@@ -182,7 +182,7 @@ pub fn schedule(book: &Book) -> Result<Schedule, u8> {
 
 /// Rules 4 to 6 for one flow: its finish, or nothing where it is not finished
 /// after slot 2 x deadline - 1. Slots before its release give it nothing.
-fn place(book: &Book, number: usize, used: &mut [u32], rows: &mut Vec<Row>) -> Option<u16> {
+pub fn place(book: &Book, number: usize, used: &mut [u32], rows: &mut Vec<Row>) -> Option<u16> {
     let flow = &book.flows[number];
     let chain = chain(flow, book.processors);
     let mut shares = vec![0u16; flow.jobs.len()];
@@ -259,6 +259,13 @@ pub fn outcome(book: &[u8]) -> Outcome {
     }
 }
 
+/// Writes the processors in use in each slot into the work area.
+pub fn put_use(used: &[u32], work: &mut [u8]) {
+    for (slot, &in_use) in used.iter().enumerate() {
+        work[2 * slot..2 * slot + 2].copy_from_slice(&(in_use as u16).to_be_bytes());
+    }
+}
+
 /// Gives an outcome out into the lent output and work area.
 pub fn deliver(outcome: &Outcome, output: &mut [u8], work: &mut [u8]) -> PlanAnswer {
     if let Outcome::Faulty(refusal) = outcome {
@@ -279,9 +286,7 @@ pub fn deliver(outcome: &Outcome, output: &mut [u8], work: &mut [u8]) -> PlanAns
         return PlanAnswer::refused(Refusal::of_all(13));
     }
     output[..plan.table.len()].copy_from_slice(&plan.table);
-    for (slot, &in_use) in plan.schedule.used.iter().enumerate() {
-        work[2 * slot..2 * slot + 2].copy_from_slice(&(in_use as u16).to_be_bytes());
-    }
+    put_use(&plan.schedule.used, work);
     PlanAnswer::accepted(plan.schedule.late, plan.table.len() as u32)
 }
 

@@ -3,9 +3,9 @@
 //! books of both versions, with work areas of every length class and junk
 //! everywhere first.
 
-use flowplan_tests::answer::{CheckAnswer, NUMBERS, WORK_BYTES};
+use flowplan_tests::answer::{CheckAnswer, NUMBERS};
 use flowplan_tests::books::{self, encode_book, Family};
-use flowplan_tests::lent::{Junk, Lent};
+use flowplan_tests::lent::{work_length, Junk, Lent};
 use flowplan_tests::reader::{Book, Version};
 use flowplan_tests::rng::Rng;
 use flowplan_tests::tables::{self, Table, WideRows};
@@ -57,20 +57,9 @@ impl Trial {
         books::drawn(&mut self.rng, self.version, family)
     }
 
-    fn work_length(&mut self) -> usize {
-        match self.rng.below(16) {
-            0 => self.rng.pick(&[0, 1, 2, WORK_BYTES - 2, WORK_BYTES - 1]),
-            1 => self.rng.skewed(0, WORK_BYTES as u64 - 1) as usize,
-            2..=8 => WORK_BYTES,
-            9..=12 => WORK_BYTES + 1 + self.rng.index(64),
-            13..=14 => WORK_BYTES + 1,
-            _ => WORK_BYTES + self.rng.index(5_000),
-        }
-    }
-
     /// One call of each check on equal buffers; all must end equal.
     fn compare(&mut self, book: &[u8], table: &[u8]) -> CheckAnswer {
-        let length = self.work_length();
+        let length = work_length(&mut self.rng);
         let rng = &mut self.rng;
         let mut book = Lent::holding(rng, &self.junk, book);
         let mut table = Lent::holding(rng, &self.junk, table);
@@ -82,7 +71,7 @@ impl Trial {
         let answer = linked::check_lent(&mut book, &mut table, &mut work);
 
         if answer != expected || work != expected_work {
-            let differs = (0..length).find(|&k| work.slice()[k] != expected_work.slice()[k]);
+            let differs = work.differs_at(&mut expected_work);
             panic!(
                 "answer {answer:?}, expected {expected:?}; work area of {length} bytes differs \
                  first at {differs:?}\nbook {:02x?}\ntable {:02x?}",
@@ -163,10 +152,7 @@ fn hold_trial(version: Version, seed: u64) {
     }
     // Every slot of the work area in use from the release on, by every flow.
     for (flows, jobs, slots) in [(64, 1, 8_192), (1, 64, 8_192), (64, 64, 64)] {
-        let book = match version {
-            Version::One => books::layered_book(flows, jobs, slots),
-            Version::Two => books::late_layered_book(flows, jobs, slots),
-        };
+        let book = books::layered_in(version, flows, jobs, slots);
         let table = tables::planned_table(&book).expect("feasible");
         trial.compare_around(&book, &table, 3);
     }

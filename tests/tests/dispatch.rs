@@ -5,7 +5,7 @@
 
 use flowplan_tests::answer::{CheckAnswer, ListAnswer, Refusal, NUMBERS, WORK_BYTES};
 use flowplan_tests::books::{self, encode_book, Family};
-use flowplan_tests::lent::{Junk, Lent};
+use flowplan_tests::lent::{work_length, Junk, Lent};
 use flowplan_tests::reader::{read_book, Book, Flow, Version, VERSIONS};
 use flowplan_tests::rng::Rng;
 use flowplan_tests::second_check::Row;
@@ -139,17 +139,6 @@ impl Trial {
         }
     }
 
-    fn work_length(&mut self) -> usize {
-        match self.rng.below(16) {
-            0 => self.rng.pick(&[0, 1, 2, WORK_BYTES - 2, WORK_BYTES - 1]),
-            1 => self.rng.skewed(0, WORK_BYTES as u64 - 1) as usize,
-            2..=8 => WORK_BYTES,
-            9..=12 => WORK_BYTES + 1 + self.rng.index(64),
-            13..=14 => WORK_BYTES + 1,
-            _ => WORK_BYTES + self.rng.index(5_000),
-        }
-    }
-
     /// Lengths of the output: exact for an accepted table, one short, longer, and
     /// any other.
     fn rooms(&mut self, table: &[u8]) -> [usize; 4] {
@@ -162,7 +151,7 @@ impl Trial {
 
     /// One call of each dispatch list on equal buffers; all must end equal.
     fn compare(&mut self, book: &[u8], table: &[u8], room: usize) -> ListAnswer {
-        let work_length = self.work_length();
+        let work_length = work_length(&mut self.rng);
         let rng = &mut self.rng;
         let mut book = Lent::holding(rng, &self.junk, book);
         let mut table = Lent::holding(rng, &self.junk, table);
@@ -180,8 +169,8 @@ impl Trial {
         let answer = linked_dispatch::dispatch_lent(&mut book, &mut table, &mut output, &mut work);
 
         if answer != expected || output != expected_output || work != expected_work {
-            let out_at = (0..room).find(|&k| output.slice()[k] != expected_output.slice()[k]);
-            let work_at = (0..work_length).find(|&k| work.slice()[k] != expected_work.slice()[k]);
+            let out_at = output.differs_at(&mut expected_output);
+            let work_at = work.differs_at(&mut expected_work);
             panic!(
                 "answer {answer:?}, expected {expected:?}; output of {room} bytes differs first \
                  at {out_at:?}, work area of {work_length} bytes at {work_at:?}\nbook {:02x?}\n\
@@ -281,10 +270,7 @@ fn hold_trial(version: Version, seed: u64) {
     }
     // Every slot of the work area in use from the release on, by every flow.
     for (flows, jobs, slots) in [(64, 1, 8_192), (1, 64, 8_192), (64, 64, 64)] {
-        let book = match version {
-            Version::One => books::layered_book(flows, jobs, slots),
-            Version::Two => books::late_layered_book(flows, jobs, slots),
-        };
+        let book = books::layered_in(version, flows, jobs, slots);
         let table = tables::planned_table(&book).expect("feasible");
         trial.compare_around(&book, &table, 1);
     }

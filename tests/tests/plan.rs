@@ -6,7 +6,7 @@
 
 use flowplan_tests::answer::{CheckAnswer, PlanAnswer, Refusal, NUMBERS, WORK_BYTES};
 use flowplan_tests::books::{self, encode_book, Family};
-use flowplan_tests::lent::{Junk, Lent};
+use flowplan_tests::lent::{work_length, Junk, Lent};
 use flowplan_tests::reader::{read_book, Book, Flow, Job, Version, VERSIONS};
 use flowplan_tests::rng::Rng;
 use flowplan_tests::second_planner::{self, Outcome};
@@ -65,17 +65,6 @@ impl Trial {
         }
     }
 
-    fn work_length(&mut self) -> usize {
-        match self.rng.below(16) {
-            0 => self.rng.pick(&[0, 1, 2, WORK_BYTES - 2, WORK_BYTES - 1]),
-            1 => self.rng.skewed(0, WORK_BYTES as u64 - 1) as usize,
-            2..=8 => WORK_BYTES,
-            9..=12 => WORK_BYTES + 1 + self.rng.index(64),
-            13..=14 => WORK_BYTES + 1,
-            _ => WORK_BYTES + self.rng.index(5_000),
-        }
-    }
-
     /// One call of each planner on equal buffers; all must end equal.
     fn compare(&mut self, book: &[u8], outcome: &Outcome, room: usize, work_length: usize) {
         let above = read_book(book).is_ok_and(|book| books::has_cap_above(&book));
@@ -91,8 +80,8 @@ impl Trial {
         let answer = linked_plan::plan_lent(&mut book, &mut output, &mut work);
 
         if answer != expected || output != expected_output || work != expected_work {
-            let out_at = (0..room).find(|&k| output.slice()[k] != expected_output.slice()[k]);
-            let work_at = (0..work_length).find(|&k| work.slice()[k] != expected_work.slice()[k]);
+            let out_at = output.differs_at(&mut expected_output);
+            let work_at = work.differs_at(&mut expected_work);
             panic!(
                 "answer {answer:?}, expected {expected:?}; output of {room} bytes differs first \
                  at {out_at:?}, work area of {work_length} bytes at {work_at:?}\nbook {:02x?}",
@@ -128,7 +117,7 @@ impl Trial {
             _ => vec![self.rng.skewed(0, 2_000) as usize],
         };
         for room in rooms {
-            let work_length = self.work_length();
+            let work_length = work_length(&mut self.rng);
             self.compare(book, &outcome, room, work_length);
         }
     }
@@ -188,10 +177,7 @@ fn hold_trial(version: Version, seed: u64) {
     }
     // Every slot in use from the release on, by every flow or by one.
     for (flows, jobs, slots) in [(64, 1, 8_192), (1, 64, 8_192), (64, 64, 128)] {
-        trial.compare_book(&match version {
-            Version::One => books::layered_book(flows, jobs, slots),
-            Version::Two => books::late_layered_book(flows, jobs, slots),
-        });
+        trial.compare_book(&books::layered_in(version, flows, jobs, slots));
     }
 
     // Books cut at any point of the service order.
@@ -326,7 +312,7 @@ fn short_and_damaged_inputs() {
             _ => trial.rng.index(40),
         };
         let work_length = match trial.rng.below(4) {
-            0 => trial.work_length(),
+            0 => work_length(&mut trial.rng),
             1 => WORK_BYTES,
             _ => trial.rng.index(100),
         };

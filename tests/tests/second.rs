@@ -1,18 +1,20 @@
 //! The second implementations held against the marked plans and against each
 //! other, before they are held against the proved library.
 
-use flowplan_tests::answer::{CheckAnswer, ListAnswer, PlanAnswer, Refusal, NUMBERS, WORK_BYTES};
+use flowplan_tests::answer::{
+    CheckAnswer, FinishAnswer, ListAnswer, PlanAnswer, Refusal, NUMBERS, WORK_BYTES,
+};
 use flowplan_tests::books::{self, encode_book};
 use flowplan_tests::reader::{read_book, Book, Version, MOST_CAP, MOST_DEADLINE, VERSIONS};
 use flowplan_tests::rng::Rng;
 use flowplan_tests::second_check::Row;
 use flowplan_tests::second_planner::{
-    chain, chain_by_change_points, chain_by_slots, critical_path, schedule, PseudoJob,
+    chain, chain_by_change_points, chain_by_slots, critical_path, schedule, Outcome, PseudoJob,
 };
 use flowplan_tests::tables::{self, Table, WideRows};
 use flowplan_tests::{
-    caps, fast_dispatch, fast_planner, heads, lists, lowered, marked, second_check,
-    second_dispatch, second_planner, twins,
+    caps, fast_dispatch, fast_finish, fast_planner, heads, lists, lowered, marked, second_check,
+    second_dispatch, second_finish, second_planner, twins,
 };
 
 #[test]
@@ -23,6 +25,9 @@ fn marked_plans() {
     marked::hold_check(second_check::check_by_definition);
     marked::hold_dispatch(second_dispatch::dispatch);
     marked::hold_dispatch(fast_dispatch::dispatch);
+    marked::hold_finish(second_finish::finish);
+    marked::hold_finish(fast_finish::finish);
+    marked::hold_finish(fast_finish::finish_sorted);
 }
 
 #[test]
@@ -570,6 +575,90 @@ fn merged_list_is_the_sorted_one() {
     assert!(met[0] > 2_000 && orders_apart > 500 && blocks > 100);
 }
 
+/// What all finishes answer; the work areas must be equal too.
+fn finish_of_all(book: &[u8], flow: u32, area: usize) -> (FinishAnswer, Vec<u8>) {
+    let mut work = vec![5; area];
+    let literal = second_finish::finish(book, flow, &mut work);
+    for fast in [fast_finish::finish, fast_finish::finish_sorted] {
+        let mut other = vec![5; area];
+        let answer = fast(book, flow, &mut other);
+        assert_eq!(literal, answer, "flow {flow} of book {book:02x?}");
+        assert!(work == other);
+    }
+    (literal, work)
+}
+
+/// All finishes on every flow and on numbers of none, and beside the literal planner:
+/// on the book as it is, and cut after the flow.
+#[test]
+fn fast_finishes_are_the_literal_one() {
+    let mut rng = Rng::new(17);
+    let mut met = [0u32; NUMBERS];
+    let (mut in_table, mut behind) = (0, 0);
+    let mut output = vec![0; 1 << 24];
+    for case in 0..3_000 {
+        let family = match case % 1_000 {
+            0 => books::full_book,
+            1 => books::heavy_book,
+            _ => books::any_book,
+        };
+        let book = books::drawn(&mut rng, VERSIONS[case % 2], family);
+        let mut bytes = encode_book(&book);
+        if rng.chance(1, 4) {
+            books::damage_book(&mut rng, &mut bytes);
+        }
+        let area = WORK_BYTES + rng.index(9) - usize::from(rng.chance(1, 16));
+        for flow in marked::no_flows(book.flows.len() as u32) {
+            let (answer, _) = finish_of_all(&bytes, flow, area);
+            met[answer.number as usize] += 1;
+        }
+        let Ok(book) = read_book(&bytes) else {
+            continue;
+        };
+        let whole = schedule(&book);
+        let owed = second_finish::outcomes(&book);
+        let order = book.service_order();
+        for (place, &flow) in order.iter().enumerate() {
+            if order.len() > 12 && place % 8 != case % 8 {
+                continue;
+            }
+            let (answer, work) = finish_of_all(&bytes, flow as u32, area);
+            met[answer.number as usize] += 1;
+            assert_eq!(owed[flow], second_finish::outcome(&bytes, flow as u32));
+            if answer.number == 11 {
+                continue;
+            }
+            match &whole {
+                Ok(whole) => {
+                    assert_eq!(answer, FinishAnswer::accepted(whole.finishes[flow]));
+                    in_table += 1;
+                }
+                Err(_) => behind += usize::from(answer.number == 0),
+            }
+            let kept = books::kept_by_cut(&book, place + 1);
+            let mut planned = vec![5; area];
+            let cut = second_planner::outcome(&encode_book(&books::cut(&book, place + 1)));
+            let plan = second_planner::deliver(&cut, &mut output, &mut planned);
+            assert!(planned == work);
+            assert_eq!(plan.number, answer.number);
+            match cut {
+                Outcome::Planned(plan) => {
+                    let at = kept.iter().position(|&number| number == flow);
+                    let finish = plan.schedule.finishes[at.expect("the flow is kept")];
+                    assert_eq!(finish, answer.finish);
+                }
+                _ => assert_eq!(kept[plan.flow as usize], answer.flow as usize),
+            }
+        }
+    }
+    println!("numbers met by the finishes: {met:?}");
+    println!("finishes as in the table: {in_table}; before an infeasible flow: {behind}");
+    for number in (0..=12).chain([22, 23]) {
+        assert!(met[number] > 0, "number {number} was never met");
+    }
+    assert!(in_table > 1_000 && behind > 500 && met[12] > 500);
+}
+
 /// On tiny books every valid schedule that ends each flow by its deadline is
 /// searched for; where the planner refuses there must be none up to the flow
 /// that it names.
@@ -702,4 +791,7 @@ fn answers_are_laid_out_as_in_c() {
     assert_eq!(std::mem::size_of::<ListAnswer>(), 8);
     assert_eq!(std::mem::align_of::<ListAnswer>(), 4);
     assert_eq!(std::mem::offset_of!(ListAnswer, length), 4);
+    assert_eq!(std::mem::size_of::<FinishAnswer>(), 6);
+    assert_eq!(std::mem::align_of::<FinishAnswer>(), 2);
+    assert_eq!(std::mem::offset_of!(FinishAnswer, finish), 4);
 }

@@ -8,7 +8,8 @@ use flowplan_tests::reader::{read_book, Book};
 use flowplan_tests::rng::Rng;
 use flowplan_tests::tables::{self, Table};
 use flowplan_tests::{
-    fast_dispatch, fast_planner, linked, linked_dispatch, linked_plan, lists, marked, second_check,
+    fast_dispatch, fast_finish, fast_planner, linked, linked_dispatch, linked_finish, linked_plan,
+    lists, marked, second_check,
 };
 use std::hint::black_box;
 
@@ -16,6 +17,7 @@ use std::hint::black_box;
 const CHECK_STACK: usize = 16 * 1024;
 const PLAN_STACK: usize = 20 * 1024;
 const DISPATCH_STACK: usize = 20 * 1024;
+const FINISH_STACK: usize = 20 * 1024;
 
 /// A book that can be planned, with its table.
 struct Case {
@@ -135,6 +137,16 @@ fn dispatch(book: &[u8], table: &[u8], output: usize, work: usize) -> Seen {
     (expected.number, stack)
 }
 
+/// One proved finish, whose answer must be the fast one's.
+fn finish(book: &[u8], flow: u32, work: usize) -> Seen {
+    let mut work = vec![0x5a; work];
+    let expected = fast_finish::finish(book, flow, &mut work);
+    let mut answer = None;
+    let stack = stack_of(&mut || answer = Some(linked_finish::finish(book, flow, &mut work)));
+    assert_eq!(answer, Some(expected));
+    (expected.number, stack)
+}
+
 /// Prints what the calls on one book took and gives the most. Each number by
 /// which the book can be refused must have been answered once, and so each of
 /// the others.
@@ -232,6 +244,37 @@ fn dispatch_list_in_little_stack() {
     }
     println!("dispatch list: at most {most} bytes of stack");
     assert!(most <= DISPATCH_STACK, "{most} is above {DISPATCH_STACK}");
+}
+
+/// Asked for the flow that is served last, and once for every other.
+#[test]
+fn finish_in_little_stack() {
+    let mut rng = Rng::new(0x5eed_0007);
+    let mut most = 0;
+    for case in cases(&mut rng) {
+        let book = encode_book(&case.book);
+        let order = case.book.service_order();
+        let (last, others) = order.split_last().expect("a flow");
+        let last = *last as u32;
+        let mut seen = vec![
+            finish(&book, last, WORK_BYTES),
+            finish(&book, last, WORK_BYTES - 1),
+            finish(&infeasible(&case), last, WORK_BYTES),
+            finish(&book, 256, WORK_BYTES),
+        ];
+        for damaged in damaged_books(&mut rng, &case) {
+            seen.push(finish(&damaged, last, WORK_BYTES));
+        }
+        for &flow in others {
+            let (number, stack) = finish(&book, flow as u32, WORK_BYTES);
+            assert_eq!(number, 0);
+            most = most.max(stack);
+        }
+        let numbers = [0, 11, 12, 23].into_iter();
+        most = most.max(most_of("finish", &case, seen, numbers));
+    }
+    println!("finish: at most {most} bytes of stack");
+    assert!(most <= FINISH_STACK, "{most} is above {FINISH_STACK}");
 }
 
 const KNOWN_STACK: usize = 64 * 1024;
