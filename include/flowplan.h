@@ -11,6 +11,9 @@
  *   4  Req 03, dispatch list: flowplan_dispatch with its answer, and the list's
  *      layout; number 13 also for a list longer than the lent output
  *   5  Req 05, the finish of one flow: flowplan_finish with its answer; number 23
+ *   6  Req 06, the write-back slot: a flow is late when its finish plus 1 is
+ *      greater than its deadline, in planner and check; formerly when its finish
+ *      was. Layouts and numbers are as they were
  *
  * Every call takes every sequence of bytes, comes to an end on each, allocates
  * nothing and keeps nothing between calls.
@@ -49,6 +52,11 @@
  *   Rows stand by service order of the flow, then slot, then job, all strictly
  *   rising. Service order is by deadline, equal deadlines by place in the book.
  *
+ * Late flows
+ *   Results are written back and reach the stands one slot after a flow's
+ *   finish, so a flow is late when its finish plus 1 is greater than its
+ *   deadline. Refusal (12) still goes by the finish and twice the deadline.
+ *
  * Dispatch list
  *   length of the whole list in bytes    4
  *   version = 1                          1
@@ -84,7 +92,7 @@ extern "C" {
 #endif
 
 /* What changed from version to version stands at the top. */
-#define FLOWPLAN_HEADER_VERSION 5
+#define FLOWPLAN_HEADER_VERSION 6
 
 /* Bytes of the work area that are used, and the slots that they stand for. */
 #define FLOWPLAN_WORK_BYTES 16384
@@ -182,7 +190,7 @@ struct flowplan_check_answer {
     uint8_t number; /* 0 or the refusal, see enum flowplan_number */
     uint8_t flow;   /* place of the refusal, else FLOWPLAN_NONE */
     uint8_t job;
-    uint8_t late; /* accepted: flows with a finish above their deadline; else 0 */
+    uint8_t late; /* accepted: flows with finish + 1 > deadline; else 0 */
 };
 
 /*
@@ -211,7 +219,7 @@ struct flowplan_plan_answer {
     uint8_t number; /* 0 or the refusal, see enum flowplan_number */
     uint8_t flow;   /* place of the refusal, else FLOWPLAN_NONE */
     uint8_t job;
-    uint8_t late;    /* accepted: flows with a finish above their deadline; else 0 */
+    uint8_t late;    /* accepted: flows with finish + 1 > deadline; else 0 */
     uint32_t length; /* accepted: bytes of the table; else 0 */
 };
 

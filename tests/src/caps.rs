@@ -101,7 +101,8 @@ fn hold_lone_job(plan: Planner, version: Version, cap: Cap) {
                     .map(|slot| [slot, 0, uses[slot as usize]])
                     .collect();
                 let table = table(processors, finish, &rows);
-                planned(plan, &book, &table, u8::from(finish > deadline), &uses);
+                let late = u8::from(finish + 1 > deadline);
+                planned(plan, &book, &table, late, &uses);
             }
         }
     }
@@ -117,7 +118,7 @@ fn hold_jobs_beside(plan: Planner, version: Version, cap: Cap) {
         used,
     } = cap;
     let jobs = [job(2 * u32::from(used), stands, 0), job(2, 1, 0)];
-    let book = book(version, processors, [2, 0], &jobs);
+    let book = book(version, processors, [3, 0], &jobs);
     let in_slot = [vec![0; used as usize], vec![1]].concat();
     let gets = in_slot.len().min(processors as usize);
     let (mut rows, mut uses) = (Vec::new(), Vec::new());
@@ -132,7 +133,7 @@ fn hold_jobs_beside(plan: Planner, version: Version, cap: Cap) {
     }
     let finish = uses.len() as u16;
     let table = table(processors, finish, &rows);
-    planned(plan, &book, &table, u8::from(finish > 2), &uses);
+    planned(plan, &book, &table, u8::from(finish + 1 > 3), &uses);
 }
 
 /// Job 0 of one unit, then job 1 for two slots at its cap as used.

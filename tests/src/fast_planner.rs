@@ -223,7 +223,9 @@ fn plan_read(
         let chain = chain(flow, book.processors);
         let finish = place(book, number, &chain, used, &mut count);
         let finish = finish.ok_or(Refusal::new(12, number as u8, NONE))?;
-        late += u8::from(u32::from(finish) > flow.deadline);
+        // By the deadline also the slot after the finish must be over, else the flow is
+        // late (02, Req 06).
+        late += u8::from(u32::from(finish) >= flow.deadline);
         finishes[number] = finish;
         chains.push(chain);
     }

@@ -7,6 +7,7 @@ pub mod answer;
 pub mod books;
 pub mod caps;
 pub mod cases;
+pub mod edges;
 pub mod fast_dispatch;
 pub mod fast_finish;
 pub mod fast_planner;

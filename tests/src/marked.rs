@@ -125,7 +125,7 @@ pub const TABLE_E: [u8; 66] = [
 
 /// What the program prints of plan E.
 pub const TEXT_E: &str = "\
-table 66 late 1
+table 66 late 2
 finish 0 8
 finish 1 3
 slot 0 flow 1 job 0 take 2
@@ -175,7 +175,7 @@ const LISTED_G: [[u16; 4]; 7] = [
 
 /// What the program prints of plan G.
 pub const TEXT_G: &str = "\
-table 54 late 0
+table 54 late 1
 finish 0 6
 finish 1 3
 slot 0 flow 1 job 0 take 2
@@ -445,9 +445,9 @@ fn left_by(refusal: Refusal, work: &[u8]) {
 
 /// Holds the marked plans against a planner.
 pub fn hold_planner(plan: Planner) {
-    planned(plan, &BOOK_A, &table_a(), 1, &[3, 3, 3, 1, 3, 1]);
-    planned(plan, &book_b(), &table_b(), 0, &[3, 3, 3]);
-    planned(plan, &book_c(2), &table_c(2), 0, &[1, 1]);
+    planned(plan, &BOOK_A, &table_a(), 2, &[3, 3, 3, 1, 3, 1]);
+    planned(plan, &book_b(), &table_b(), 1, &[3, 3, 3]);
+    planned(plan, &book_c(2), &table_c(2), 1, &[1, 1]);
     planned(plan, &book_c(4), &table_c(4), 1, &[1, 1, 1, 1]);
     not_planned(plan, &book_c(5), 100, Refusal::new(12, 0, 255));
     for processors in [1, 3, 4_096] {
@@ -458,15 +458,15 @@ pub fn hold_planner(plan: Planner) {
         not_planned(plan, &book, 7, Refusal::of_all(13));
     }
     assert_eq!(book_e_capped(Version::One, 3), book_e());
-    planned(plan, &book_e(), &TABLE_E, 1, &USED_E);
+    planned(plan, &book_e(), &TABLE_E, 2, &USED_E);
     for version in VERSIONS {
         for cap in [2, 3, 65_535] {
-            planned(plan, &book_e_capped(version, cap), &TABLE_E, 1, &USED_E);
+            planned(plan, &book_e_capped(version, cap), &TABLE_E, 2, &USED_E);
         }
         let book = book_e_capped(version, 0);
         not_planned(plan, &book, 100, Refusal::new(9, 0, 1));
     }
-    planned(plan, &BOOK_G, &table_g(), 0, &[2, 2, 3, 2, 1, 1]);
+    planned(plan, &BOOK_G, &table_g(), 1, &[2, 2, 3, 2, 1, 1]);
     // In version 1 the release is 0.
     for book in [book_g(Version::One, 0), book_g(Version::Two, 0)] {
         let at_once = [0, 1, 2, 3, 4].map(|slot| [slot, 0, 0, 1]);
@@ -484,9 +484,9 @@ pub fn hold_planner(plan: Planner) {
 
 /// Holds the marked plans and tables against a check.
 pub fn hold_check(check: Check) {
-    checked(check, &BOOK_A, &table_a(), 1, &[3, 3, 3, 1, 3, 1]);
-    checked(check, &book_b(), &table_b(), 0, &[3, 3, 3]);
-    checked(check, &book_c(2), &table_c(2), 0, &[1, 1]);
+    checked(check, &BOOK_A, &table_a(), 2, &[3, 3, 3, 1, 3, 1]);
+    checked(check, &book_b(), &table_b(), 1, &[3, 3, 3]);
+    checked(check, &book_c(2), &table_c(2), 1, &[1, 1]);
     checked(check, &book_c(4), &table_c(4), 1, &[1, 1, 1, 1]);
     // Beyond twice the deadline a valid table is still accepted by the check.
     checked(check, &book_c(5), &table_c(5), 1, &[1, 1, 1, 1, 1]);
@@ -495,12 +495,12 @@ pub fn hold_check(check: Check) {
         checked(check, &book, &table_d(processors), 0, &[]);
     }
     assert_eq!(table_e(7, 2), TABLE_E);
-    checked(check, &book_e(), &TABLE_E, 1, &USED_E);
+    checked(check, &book_e(), &TABLE_E, 2, &USED_E);
     not_checked(check, &book_e(), &table_a(), Refusal::of_all(14));
     for version in VERSIONS {
         for cap in [2, 3, 65_535] {
             let book = book_e_capped(version, cap);
-            checked(check, &book, &TABLE_E, 1, &USED_E);
+            checked(check, &book, &TABLE_E, 2, &USED_E);
             // One more than P to job 1 is more than its cap.
             for row in [7, 8] {
                 not_checked(check, &book, &table_e(row, 3), Refusal::new(17, 0, 1));
@@ -516,9 +516,9 @@ pub fn hold_check(check: Check) {
     not_checked(check, &BOOK_A, &short, Refusal::of_all(14));
     fit_length(&mut short);
     not_checked(check, &BOOK_A, &short, Refusal::new(20, 0, 1));
-    checked(check, &BOOK_G, &table_g(), 0, &[2, 2, 3, 2, 1, 1]);
+    checked(check, &BOOK_G, &table_g(), 1, &[2, 2, 3, 2, 1, 1]);
     let later = with_g(6, &[[3, 0, 0, 2], [4, 0, 0, 2], [5, 0, 0, 1]]);
-    checked(check, &BOOK_G, &later, 0, &[2, 2, 2, 2, 2, 1]);
+    checked(check, &BOOK_G, &later, 1, &[2, 2, 2, 2, 2, 1]);
     // Before the release: 17 and 18 are tested first.
     for slot in [0, 1] {
         let fault = |take, number| {
@@ -532,8 +532,8 @@ pub fn hold_check(check: Check) {
     }
     // Without a release the same row may stand there.
     for book in [book_g(Version::One, 0), book_g(Version::Two, 0)] {
-        checked(check, &book, &moved_g(1, 1), 0, &[2, 3, 2, 2, 1, 1]);
-        checked(check, &book, &moved_g(0, 1), 0, &[3, 2, 2, 2, 1, 1]);
+        checked(check, &book, &moved_g(1, 1), 1, &[2, 3, 2, 2, 1, 1]);
+        checked(check, &book, &moved_g(0, 1), 1, &[3, 2, 2, 2, 1, 1]);
     }
     for release in [6, 7, 4_096, 65_535] {
         let book = book_g(Version::Two, release);

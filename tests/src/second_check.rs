@@ -341,7 +341,10 @@ fn close(book: &Index, tally: &Tally, stated: &[u8]) -> Result<u8, Refusal> {
         if u16::from_be_bytes(*stated) != finish {
             return Err(Refusal::new(21, flow as u8, NONE));
         }
-        late += u8::from(finish > deadline);
+        // Results reach the stands one slot after the finish (02, Req 06). That is at
+        // most 8,193.
+        let at_the_stands = finish + 1;
+        late += u8::from(at_the_stands > deadline);
     }
     Ok(late)
 }
@@ -443,7 +446,10 @@ fn judge(book: &Book, table: &[u8]) -> Result<(u8, Vec<Row>), Refusal> {
         if be16(table, TABLE_HEAD + FINISH * flow) != finish {
             return Err(Refusal::new(21, flow as u8, NONE));
         }
-        if finish > record.deadline {
+        // In time is only a flow that leaves the write-back a slot before its deadline
+        // (02, Req 06).
+        let in_time = finish < record.deadline;
+        if !in_time {
             late += 1;
         }
     }

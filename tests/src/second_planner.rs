@@ -170,7 +170,8 @@ pub fn schedule(book: &Book) -> Result<Schedule, u8> {
         finishes[flow] = finish;
     }
     let stated = finishes.iter().zip(&book.flows);
-    let late = stated.filter(|(&finish, flow)| u32::from(finish) > flow.deadline);
+    // Rule 7: "late when its finish plus 1 is greater than its deadline" (02, Req 06).
+    let late = stated.filter(|(&finish, flow)| u32::from(finish) + 1 > flow.deadline);
     let late = late.count() as u8;
     Ok(Schedule {
         rows,

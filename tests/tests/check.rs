@@ -5,6 +5,7 @@
 
 use flowplan_tests::answer::{CheckAnswer, NUMBERS};
 use flowplan_tests::books::{self, encode_book, Family};
+use flowplan_tests::edges::Edges;
 use flowplan_tests::lent::{work_length, Junk, Lent};
 use flowplan_tests::reader::{Book, Version};
 use flowplan_tests::rng::Rng;
@@ -37,6 +38,8 @@ struct Trial {
     early: [u64; NUMBERS],
     wide_rows: WideRows,
     beyond_twice: u64,
+    /// Of the flows of accepted tables.
+    edges: Edges,
 }
 
 impl Trial {
@@ -49,6 +52,7 @@ impl Trial {
             early: [0; NUMBERS],
             wide_rows: WideRows::default(),
             beyond_twice: 0,
+            edges: Edges::default(),
         }
     }
 
@@ -82,6 +86,9 @@ impl Trial {
         assert!(book == book_before, "the book was changed");
         assert!(table == table_before, "the table was changed");
         self.met[expected.number as usize] += 1;
+        if expected.number == 0 {
+            self.edges.count(book.slice(), table.slice());
+        }
         expected
     }
 
@@ -208,4 +215,5 @@ fn hold_trial(version: Version, seed: u64) {
     }
     trial.wide_rows.hold();
     assert!(trial.beyond_twice > 0);
+    trial.edges.hold(&format!("{version:?}, checked"));
 }

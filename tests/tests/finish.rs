@@ -85,8 +85,8 @@ struct Kinds {
     infeasible_after: u64,
     /// 12 whose flow has another number in the cut book.
     renumbered: u64,
-    /// Accepted: above the deadline, at twice the deadline, in a book with caps above
-    /// P, of a flow with a release.
+    /// Accepted: of a late flow (02, Req 06), at twice the deadline, in a book with caps
+    /// above P, of a flow with a release.
     late: u64,
     at_twice: u64,
     caps_above: u64,
@@ -285,7 +285,7 @@ impl Trial {
         let finish = u32::from(finish);
         let like = |&number: &usize| book.flows[number].deadline == flow.deadline;
         let kinds = &mut self.kinds;
-        count(&mut kinds.late, finish > flow.deadline);
+        count(&mut kinds.late, finish + 1 > flow.deadline);
         count(&mut kinds.at_twice, finish == 2 * flow.deadline);
         count(&mut kinds.caps_above, books::has_cap_above(book));
         count(&mut kinds.released, flow.release > 0);

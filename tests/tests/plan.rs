@@ -6,6 +6,7 @@
 
 use flowplan_tests::answer::{CheckAnswer, PlanAnswer, Refusal, NUMBERS, WORK_BYTES};
 use flowplan_tests::books::{self, encode_book, Family};
+use flowplan_tests::edges::Edges;
 use flowplan_tests::lent::{work_length, Junk, Lent};
 use flowplan_tests::reader::{read_book, Book, Flow, Job, Version, VERSIONS};
 use flowplan_tests::rng::Rng;
@@ -51,6 +52,8 @@ struct Trial {
     above: [u64; NUMBERS],
     books: u64,
     late: u64,
+    /// Of the flows of accepted calls.
+    edges: Edges,
 }
 
 impl Trial {
@@ -62,6 +65,7 @@ impl Trial {
             above: [0; NUMBERS],
             books: 0,
             late: 0,
+            edges: Edges::default(),
         }
     }
 
@@ -95,6 +99,7 @@ impl Trial {
         if answer.number == 0 {
             self.late += u64::from(answer.late > 0);
             let table = &output.slice()[..answer.length as usize];
+            self.edges.count(book.slice(), table);
             let mut checked = Lent::junk(&mut self.rng, &self.junk, work_length);
             let verdict = linked::check(book.slice(), table, checked.slice());
             assert_eq!(verdict, CheckAnswer::accepted(answer.late));
@@ -206,6 +211,7 @@ fn hold_trial(version: Version, seed: u64) {
         assert!(met > 0, "number {number} was never met with caps above P");
     }
     assert!(trial.late > 0);
+    trial.edges.hold(&format!("{version:?}, planned"));
 }
 
 /// Jobs without a rest, with a rest of one and with the largest rest, up to the

@@ -5,6 +5,7 @@ use flowplan_tests::answer::{
     CheckAnswer, FinishAnswer, ListAnswer, PlanAnswer, Refusal, NUMBERS, WORK_BYTES,
 };
 use flowplan_tests::books::{self, encode_book};
+use flowplan_tests::edges::Edges;
 use flowplan_tests::reader::{read_book, Book, Version, MOST_CAP, MOST_DEADLINE, VERSIONS};
 use flowplan_tests::rng::Rng;
 use flowplan_tests::second_check::Row;
@@ -292,6 +293,7 @@ fn a_lone_flow_is_moved_by_its_release() {
 fn fast_planner_is_the_literal_one() {
     let mut rng = Rng::new(4);
     let mut met = [0u32; NUMBERS];
+    let mut edges = Edges::default();
     let mut output = vec![0; 1 << 20];
     let mut one = |book: &[u8], room: usize, work: usize| {
         let mut work = [vec![7; work], vec![7; work]];
@@ -304,6 +306,9 @@ fn fast_planner_is_the_literal_one() {
         assert!(written == output[..room]);
         assert!(work[0] == work[1]);
         met[literal.number as usize] += 1;
+        if literal.number == 0 {
+            edges.count(book, &output[..literal.length as usize]);
+        }
         literal
     };
     for case in 0..24_000 {
@@ -331,6 +336,7 @@ fn fast_planner_is_the_literal_one() {
     for number in (1..=11).chain([22]) {
         assert!(met[number] > 0, "number {number} was never met");
     }
+    edges.hold("both planners");
 }
 
 /// Every accepted plan is a valid schedule and ends within twice the deadline;
@@ -377,6 +383,7 @@ fn one_pass_check_is_the_one_by_definition() {
     let mut met = [0u32; NUMBERS];
     let mut early = [0u32; NUMBERS];
     let mut wide_rows = WideRows::default();
+    let mut edges = Edges::default();
     for case in 0..8_000 {
         let book = books::drawn(&mut rng, VERSIONS[case % 2], books::tiny_book);
         let table = if rng.chance(1, 2) {
@@ -404,6 +411,9 @@ fn one_pass_check_is_the_one_by_definition() {
             let room = WORK_BYTES + rng.index(9) - usize::from(rng.chance(1, 32));
             let answer = answer_of_both(&bytes, &table, room);
             met[answer.number as usize] += 1;
+            if answer.number == 0 {
+                edges.count(&bytes, &table);
+            }
             if tables::begins_early(&book, &table, answer.flow) {
                 early[answer.number as usize] += 1;
             }
@@ -421,6 +431,7 @@ fn one_pass_check_is_the_one_by_definition() {
         assert!(early[number] > 0, "number {number} was never met early");
     }
     wide_rows.hold();
+    edges.hold("both checks");
 }
 
 /// Every row of a table moved to every place, taken out together with every

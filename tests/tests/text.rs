@@ -16,6 +16,9 @@ use flowplan_tests::second_planner;
 
 const LENT: usize = 65_536;
 
+/// What the program prints of plan A.
+const TEXT_A: &str = include_str!("../../crates/plan/stdout");
+
 /// What document 01 has the program print for an input.
 fn expected(input: &[u8]) -> String {
     if input.len() > LENT {
@@ -62,11 +65,12 @@ fn printed(input: &[u8]) -> String {
     String::from_utf8(output.stdout).unwrap()
 }
 
-/// Plans E and G as they are listed.
+/// Plans A, E and G as they are listed.
 #[test]
-fn program_prints_plans_e_and_g() {
+fn program_prints_listed_plans() {
     for (book, text) in [
-        (&marked::book_e()[..], marked::TEXT_E),
+        (&marked::BOOK_A[..], TEXT_A),
+        (&marked::book_e(), marked::TEXT_E),
         (&marked::BOOK_G, marked::TEXT_G),
     ] {
         assert_eq!(expected(book), text);

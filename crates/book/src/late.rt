@@ -4,11 +4,11 @@ ghost use Prim.Native.Nat.{_+_, _<_, _≤_};
 ghost use Rattle.rules.specs.Walks.{bit};
 ghost use Rattle.book.specs.Late.{lateBy, lateCount};
 
-// Rule 7: a flow is late when its finish is greater than its deadline.
+// Rule 7 (02, Req 06): a flow is late when its finish plus 1 is greater than its deadline. In 32 bits the sum fits, whatever the finish.
 pub fn is_late(deadline: u16, finish: u16) -> bool
     ensures { λ r. ⌜ r ≡ lateBy deadline finish ⌝ }
 {
-    deadline < finish
+    (deadline as u32) < finish as u32 + 1
 }
 
 // One more where a flow is late.

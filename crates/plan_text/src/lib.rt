@@ -79,7 +79,7 @@ pub fn put_pair(out: &mut [u8], at: usize, first: &[u8], x: u32, second: &[u8], 
     put_word(out, after_second, b"\n")
 }
 
-// `table 66 late 1`
+// `table 66 late 2`
 pub fn put_table_line(out: &mut [u8], at: usize, bytes: u32, late: u8) -> usize
     requires { ⌜ at + longestLine ≤ length (now out) ⌝ }
     ensures { λ r. ⌜ Put (now (out .entry)) at (tableLine bytes late) (now (out .exit)) r ⌝ }

@@ -37,7 +37,7 @@ planned-finish-fits b range rows e f l = omega (arith, planned-finish-within-twi
 pub infeasible-proves : (b : Book) → InRange b → (f : ℕ) → plan b ≡ infeasible f → (f < flowCount b) × NoneOnTime b f
 infeasible-proves b range f e = stopped-proves b range (flowCount b) f (omega arith) (placing-stops b (flowCount b) f (unfold plan in e))
 
--- a plan without late flows is a schedule on time: what a refusal denies can be had
+-- a plan with every finish at most its deadline is a schedule on time: what a refusal denies can be had
 pub on-time-plan : (b : Book) → InRange b → (rows : List Row) → plan b ≡ planned rows →
     ((f : ℕ) → f < flowCount b → finishOf rows f ≤ flowOf b f .deadline) →
     (σ : Schedule) × Valid b everyFlow σ × ((f : ℕ) → f < flowCount b → EndsBy σ f (flowOf b f .deadline))

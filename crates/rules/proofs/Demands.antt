@@ -10,6 +10,7 @@ use Rattle.rules.proofs.Versions.{version-1-kept}
 use Rattle.rules.proofs.Lowered.{caps-lowered}
 use Rattle.rules.proofs.Dispatches.{dispatches}
 use Rattle.rules.proofs.Finishes.{finishes}
+use Rattle.rules.proofs.WriteBack.{write-back}
 
 pub demands : Demands
 demands = record {
@@ -22,4 +23,5 @@ demands = record {
   caps-lowered = caps-lowered;
   dispatches = dispatches;
   finishes = finishes;
+  write-back = write-back;
 }

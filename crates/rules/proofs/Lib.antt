@@ -9,6 +9,7 @@ pub mod AcceptsExactly
 pub mod AcceptsPlans
 pub mod Dispatches
 pub mod Finishes
+pub mod WriteBack
 -- laws that the proofs here and in the crates above cite
 pub mod Division
 pub mod Bits

@@ -1,6 +1,6 @@
 -- The marked plans A to F of document 01, E as Req 02 has it, G for releases (02, Req 01) and H for caps above P (02, Req 02), the dispatch lists of
--- A, D and F (02, Req 03), and finishes of single flows of A, G and I (02, Req 05), shown of the rules themselves by one theorem: whole outcomes, with output
--- and work area. Each field is computed from the definitions. Assumes nothing.
+-- A, D and F (02, Req 03), and finishes of single flows of A, G and I (02, Req 05), with late flows as Req 06 has them, shown of the rules themselves by one
+-- theorem: whole outcomes, with output and work area. Each field is computed from the definitions. Assumes nothing.
 use mathlib.Core.Path.{_≡_, refl}
 use Prim.Native.Nat.{ℕ, zero, suc, _*_, _-_, _/_, _%_, _^_}
 use mathlib.Core.List.{List, [], _∷_, _++_}
@@ -241,11 +241,11 @@ marked-finishes = record {
 -- all of it
 pub record MarkedPlans : Type 0 where
   pub A : planCall bookA (out 70) area
-      ≡ record { answer = planAccepted 1 66; output = tableA ++ out 4; area = used 6 0x0003_0003_0003_0001_0003_0001 }
-  pub B : planCall bookB (out 60) area ≡ record { answer = planAccepted 0 60; output = tableB; area = used 3 0x0003_0003_0003 }
+      ≡ record { answer = planAccepted 2 66; output = tableA ++ out 4; area = used 6 0x0003_0003_0003_0001_0003_0001 }
+  pub B : planCall bookB (out 60) area ≡ record { answer = planAccepted 1 60; output = tableB; area = used 3 0x0003_0003_0003 }
   pub C-size-2 : planCall (bookC 2) (out 22) area
       ≡ record {
-        answer = planAccepted 0 22;
+        answer = planAccepted 1 22;
         output = hex 22 0x00000016_01_0002_01_0002_0000_00_00_0001_0001_00_00_0001;
         area = used 2 0x0001_0001;
       }
@@ -260,18 +260,18 @@ pub record MarkedPlans : Type 0 where
       ≡ record { answer = planAccepted 0 8; output = hex 8 0x00000008_01_0003_00; area = used 0 0 }
   pub D-output-7 : planCall bookD (out 7) area ≡ record { answer = planRefused 13 255 255; output = out 7; area = used 0 0 }
   pub E : planCall bookE (out 66) area
-      ≡ record { answer = planAccepted 1 66; output = tableE 2; area = used 8 0x0002_0002_0002_0002_0001_0001_0002_0002 }
-  pub E-accepted : checkCall bookE (tableE 2) area ≡ record { answer = checkAccepted 1; area = used 8 0x0002_0002_0002_0002_0001_0001_0002_0002 }
+      ≡ record { answer = planAccepted 2 66; output = tableE 2; area = used 8 0x0002_0002_0002_0002_0001_0001_0002_0002 }
+  pub E-accepted : checkCall bookE (tableE 2) area ≡ record { answer = checkAccepted 2; area = used 8 0x0002_0002_0002_0002_0001_0001_0002_0002 }
   pub E-row-above-P : checkCall bookE (tableE 3) area ≡ record { answer = checkRefused 17 0 1; area = used 0 0 }
   pub E-cap-0 : planCall bookNoCap (out 66) area ≡ record { answer = planRefused 9 0 1; output = out 66; area = area }
   pub F-slot-3 : checkCall bookA (tableF 3) area ≡ record { answer = checkRefused 18 0 1; area = used 0 0 }
   pub F-slot-3-take-2 : checkCall bookA (tableF 2) area ≡ record { answer = checkRefused 19 0 1; area = used 0 0 }
-  pub A-accepted : checkCall bookA tableA area ≡ record { answer = checkAccepted 1; area = used 6 0x0003_0003_0003_0001_0003_0001 }
+  pub A-accepted : checkCall bookA tableA area ≡ record { answer = checkAccepted 2; area = used 6 0x0003_0003_0003_0001_0003_0001 }
   pub lists : MarkedLists
   pub finishes : MarkedFinishes
   pub G : planCall bookG (out 60) area
-      ≡ record { answer = planAccepted 0 54; output = tableG ++ out 6; area = used 6 0x0002_0002_0003_0002_0001_0001 }
-  pub G-accepted : checkCall bookG tableG area ≡ record { answer = checkAccepted 0; area = used 6 0x0002_0002_0003_0002_0001_0001 }
+      ≡ record { answer = planAccepted 1 54; output = tableG ++ out 6; area = used 6 0x0002_0002_0003_0002_0001_0001 }
+  pub G-accepted : checkCall bookG tableG area ≡ record { answer = checkAccepted 1; area = used 6 0x0002_0002_0003_0002_0001_0001 }
   pub G-row-before-release : checkCall bookG tableEarly area ≡ record { answer = checkRefused 19 0 0; area = used 0 0 }
   pub G-release-at-deadline : planCall bookLateRelease (out 60) area ≡ record { answer = planRefused 22 0 255; output = out 60; area = area }
   pub H : planCall bookH (out 52) area ≡ record { answer = planAccepted 0 52; output = tableH; area = used 5 0x0002_0002_0002_0002_0001 }

@@ -286,7 +286,8 @@ module _ (b : Book) (range : InRange b) where
     -- each of them ends within twice its deadline
     pub first-within-twice : (f : ℕ) → EndsBy (scheduleOf rows) f (2 * flowOf b f .deadline)
     unfolding EndsBy
-    first-within-twice = by-flow (λ f. (i t : ℕ) → 2 * flowOf b f .deadline ≤ t → scheduleOf rows f i t ≡ 0) flow-ends (λ f z q i t g. z i t)
+    first-within-twice = by-flow (λ f. (i t : ℕ) → 2 * flowOf b f .deadline ≤ t → scheduleOf rows f i t ≡ 0)
+        (λ n l i t g. flow-ends n l i t (omega arith)) (λ f z q i t g. z i t)
 
     -- so does each finish
     pub first-finish-within-twice : (f : ℕ) → finishOf rows f ≤ 2 * flowOf b f .deadline

@@ -1,4 +1,5 @@
--- The demands as types: what is owed of the planner, of the table check, of the dispatch list and of the finish of one flow, for every input. Later files prove them. Assumes nothing.
+-- The demands as types: what is owed of the planner, of the table check, of the dispatch list and of the finish of one flow, for every input, and what it
+-- means that a flow is late. Later files prove them. Assumes nothing.
 use mathlib.Core.Path.{_≡_}
 use mathlib.Core.Logic.{_⊎_}
 use Prim.Native.Nat.{ℕ, suc, _+_, _*_, _≤_, _<_}
@@ -13,7 +14,7 @@ use Rattle.rules.specs.Limits.{slots, workBytes}
 use Rattle.rules.specs.Book.{Book, flowCount, flowIn, flowOf, lowered, jobOf}
 use Rattle.rules.specs.Reading.{versionOf, read, unread, readBook, bookBytes}
 use Rattle.rules.specs.Service.{servedBefore}
-use Rattle.rules.specs.Rows.{Row, usedIn, lateFlows, workZero}
+use Rattle.rules.specs.Rows.{Row, usedIn, finishOf, isLate, lateFlows, workZero}
 use Rattle.rules.specs.Placing.{planned, rowsOf, plan}
 use Rattle.rules.specs.Table.{tableLength, tableBytes}
 use Rattle.rules.specs.Planner.{PlanOutcome, planCall}
@@ -305,6 +306,30 @@ pub record Finishes : Type 0 where
   pub caps-lowered : (book : List ℕ) (b : Book) → readBook book ≡ read b → (f : ℕ) (area : List ℕ) →
       finishCall book f area ≡ finishCall (bookBytes (versionOf book) (lowered b)) f area
 
+-- ---- the write-back slot (02, Req 06): "Results now go through the historian and reach the stands one slot after the flow's finish."
+
+-- slot t is left for the write-back of flow f: it is after the flow's last used slot and before its deadline
+pub record LeftForWriteBack (b : Book) (σ : Schedule) (f t : ℕ) : Type 0 where
+  pub after-last-used : EndsBy σ f t
+  pub before-deadline : t < flowOf b f .deadline
+
+-- what it means that flow f is late, or is not, with this finish in this schedule
+pub record LateMeans (b : Book) (σ : Schedule) (f finish : ℕ) : Type 0 where
+  -- it is late exactly when no slot is left for its write-back
+  pub late-none-left : isLate (flowOf b f) finish ≡ true → (t : ℕ) → LeftForWriteBack b σ f t → ⊥
+  pub none-left-late : ((t : ℕ) → LeftForWriteBack b σ f t → ⊥) → isLate (flowOf b f) finish ≡ true
+  -- where it is not late, the slot after its last used one is left
+  pub next-slot-left : isLate (flowOf b f) finish ≡ false → LeftForWriteBack b σ f finish
+  -- with a deadline of 1 it is always late
+  pub deadline-1-late : flowOf b f .deadline ≡ 1 → isLate (flowOf b f) finish ≡ true
+
+-- "in planner and check alike": of every plan, and of every valid schedule, whoever made it, by the rows that their late flows are counted by
+pub record WriteBack : Type 0 where
+  pub of-plans : (book : List ℕ) (b : Book) → readBook book ≡ read b → (rows : List Row) → plan b ≡ planned rows → (f : ℕ) → f < flowCount b →
+      LateMeans b (scheduleOf rows) f (finishOf rows f)
+  pub of-schedules : (book : List ℕ) (b : Book) → readBook book ≡ read b → (σ : Schedule) → Valid b everyFlow σ → InSlots σ → (f : ℕ) → f < flowCount b →
+      LateMeans b σ f (finishOf (scheduleRows b σ) f)
+
 -- ---- all of it
 pub record Demands : Type 0 where
   pub refuses-by-the-list : Demand1
@@ -316,3 +341,4 @@ pub record Demands : Type 0 where
   pub caps-lowered : CapsLowered
   pub dispatches : Dispatches
   pub finishes : Finishes
+  pub write-back : WriteBack

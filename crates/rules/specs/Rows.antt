@@ -46,9 +46,9 @@ unfoldable pub finishOf : List Row → ℕ → ℕ
 finishOf [] f = 0
 finishOf (r ∷ rs) f = max (if eqb (r .flow) f then r .slot + 1 else 0) (finishOf rs f)
 
--- rule 7: "A flow is late when its finish is greater than its deadline." ("late" is document 01's word)
+-- rule 7: "A flow is therefore late when its finish plus 1 is greater than its deadline" (02, Req 06). ("late" is document 01's word)
 unfoldable pub isLate : Flow → ℕ → Bool
-isLate w finish = ltb (w .deadline) finish
+isLate w finish = ltb (w .deadline) (finish + 1)
 
 -- rule 7: "the number of late flows"
 unfoldable pub lateFlows : Book → List Row → ℕ

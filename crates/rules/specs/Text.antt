@@ -51,7 +51,7 @@ wordRefused = bytesOf 8 0x7265667573656420
 abbrev pub wordEnd : List ℕ
 wordEnd = bytesOf 1 0x0a
 
--- "The first line has the table's bytes and the late flows": `table 66 late 1`
+-- "The first line has the table's bytes and the late flows": `table 66 late 2`
 unfoldable pub tableLine : ℕ → ℕ → List ℕ
 tableLine length late = wordTable ++ decimal length ++ wordLate ++ decimal late ++ wordEnd
 

@@ -94,7 +94,8 @@ struct Run {
 }
 
 /// One case in each run; every other run begins with `before`. None where the two
-/// answer differently.
+/// answer differently. The late flows are not compared: libraries of both sides of
+/// Req 06 count them by different rules.
 fn measured<A: PartialEq>(
     case: &Case,
     runs: usize,
@@ -159,11 +160,12 @@ fn main() {
     for case in plan_cases() {
         let book = encode_book(&case.book);
         let plan = |library: &Library| {
-            library.plan(
+            let answer = library.plan(
                 black_box(&book),
                 &mut output.borrow_mut(),
                 &mut work.borrow_mut(),
-            )
+            );
+            PlanAnswer { late: 0, ..answer }
         };
         let found = measured(&case, runs, &mut || plan(&before), &mut || plan(&after));
         show(&case, found);
@@ -177,7 +179,9 @@ fn main() {
         };
         let table = output.borrow()[..planned.length as usize].to_vec();
         let check = |library: &Library| {
-            library.check(black_box(&book), black_box(&table), &mut work.borrow_mut())
+            let work = &mut work.borrow_mut();
+            let answer = library.check(black_box(&book), black_box(&table), work);
+            CheckAnswer { late: 0, ..answer }
         };
         let found = measured(&case, runs, &mut || check(&before), &mut || check(&after));
         show(&case, found);
