@@ -15,11 +15,12 @@ bench:
 	cd tests && cargo run --release --offline --quiet --bin bench_dispatch
 	cd tests && cargo run --release --offline --quiet --bin bench_finish
 
-# This library beside that of an earlier commit: make bench-between BEFORE=COMMIT
+# This library beside that of an earlier commit: make bench-between BEFORE=COMMIT. The calls of one from before Req 07 take no calendar.
 SHARED = cc -shared -Wl,-u,flowplan_plan -Wl,-u,flowplan_check
 bench-between:
 	rt staticlib flowplan
 	$(SHARED) target/staticlib/libflowplan.a -o target/after.so
 	before=$$(mktemp -d) && git clone -q . $$before && cd $$before && git checkout -q $(BEFORE) && rt staticlib flowplan && \
-	$(SHARED) target/staticlib/libflowplan.a -o $(CURDIR)/target/before.so && rm -rf $$before
-	cd tests && cargo run --release --offline --quiet --bin bench_between -- ../target/before.so ../target/after.so
+	$(SHARED) target/staticlib/libflowplan.a -o $(CURDIR)/target/before.so && \
+	calendars=$$(grep -q FLOWPLAN_NO_WINDOWS include/flowplan.h || echo --before-calendars) && rm -rf $$before && cd $(CURDIR)/tests && \
+	cargo run --release --offline --quiet --bin bench_between -- ../target/before.so ../target/after.so $$calendars

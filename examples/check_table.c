@@ -1,9 +1,9 @@
 /*
- * Runs the table check over a book file and a table file:
+ * Runs the table check over a book file, a table file and a calendar file:
  *
- *     check_table BOOK TABLE
+ *     check_table BOOK TABLE [CALENDAR]
  *
- * The exit status is 0 when the table is accepted, 1 when it is refused and 2
+ * Without a calendar no slot is shut. The exit status is 0 when the table is accepted, 1 when it is refused and 2
  * when a file could not be read.
  *
  * Without arguments it takes the marked book A and its table, which must be
@@ -11,7 +11,10 @@
  * which must be refused. So with the marked book E, where a cap is above P: its
  * table, and then with a row that gives that job one processor more than P. So
  * with the marked book G: its table, and then with a row moved to a slot before
- * its flow's release. The exit status is 0 when all are answered so.
+ * its flow's release. So with the marked book J and its calendar: its table, then
+ * with a row moved to a shut slot, and that table again without windows, where it is
+ * accepted; then a calendar whose windows touch, which must be refused. The exit
+ * status is 0 when all are answered so.
  */
 #include <stdint.h>
 #include <stdio.h>
@@ -84,12 +87,48 @@ static const uint8_t table_g[] = {
     0x00, 0x05, 0x00, 0x00, 0x00, 0x01
 };
 
+/* Version 2: two flows that may begin at once. */
+static const uint8_t book_j[] = {
+    0x00, 0x00, 0x00, 0x2e, 0x02, 0x00, 0x02, 0x02, /* 46 bytes, P 2, 2 flows */
+    0x00, 0x09, 0x00, 0x00, 0x01,                   /* flow 0: deadline 9, release 0, 1 job */
+    0x00, 0x00, 0x00, 0x09, 0x00, 0x02,             /* size 9, cap 2 */
+    0x00, 0x00, 0x00, 0x00, 0x00, 0x00, 0x00, 0x00, /* free */
+    0x00, 0x04, 0x00, 0x00, 0x01,                   /* flow 1: deadline 4, release 0, 1 job */
+    0x00, 0x00, 0x00, 0x02, 0x00, 0x01,             /* size 2, cap 1 */
+    0x00, 0x00, 0x00, 0x00, 0x00, 0x00, 0x00, 0x00  /* free */
+};
+
+/* The cluster is shut in slot 0, in 3 and 4, and in 8 to 10. */
+static const uint8_t calendar_j[] = {
+    0x00, 0x00, 0x00, 0x12, 0x01, 0x03,             /* 18 bytes, 3 windows */
+    0x00, 0x00, 0x00, 0x01,                         /* first slot shut, first open again */
+    0x00, 0x03, 0x00, 0x05,
+    0x00, 0x08, 0x00, 0x0b
+};
+
+static const uint8_t no_windows[] = FLOWPLAN_NO_WINDOWS;
+
+static const uint8_t table_j[] = {
+    0x00, 0x00, 0x00, 0x3c, 0x01, 0x00, 0x02, 0x02, /* 60 bytes, P 2, 2 flows */
+    0x00, 0x0c, 0x00, 0x03,                         /* finishes 12 and 3 */
+    0x00, 0x01, 0x01, 0x00, 0x00, 0x01,             /* slot, flow, job, take */
+    0x00, 0x02, 0x01, 0x00, 0x00, 0x01,
+    0x00, 0x01, 0x00, 0x00, 0x00, 0x01,
+    0x00, 0x02, 0x00, 0x00, 0x00, 0x01,
+    0x00, 0x05, 0x00, 0x00, 0x00, 0x02,
+    0x00, 0x06, 0x00, 0x00, 0x00, 0x02,
+    0x00, 0x07, 0x00, 0x00, 0x00, 0x02,
+    0x00, 0x0b, 0x00, 0x00, 0x00, 0x01
+};
+
 /* Checks one table and prints what is answered; 0 when it is accepted. */
-static int check(const uint8_t *book, size_t book_len, const uint8_t *table, size_t table_len)
+static int check_with(const uint8_t *book, size_t book_len, const uint8_t *calendar,
+                      size_t calendar_len, const uint8_t *table, size_t table_len)
 {
     static uint8_t work[FLOWPLAN_WORK_BYTES];
     struct flowplan_check_answer answer =
-        flowplan_check(book, book_len, table, table_len, work, sizeof work);
+        flowplan_check(book, book_len, calendar, calendar_len, table, table_len, work,
+                       sizeof work);
 
     if (answer.number != FLOWPLAN_ACCEPTED) {
         printf("refused %u flow %u job %u\n", (unsigned)answer.number, (unsigned)answer.flow,
@@ -104,6 +143,12 @@ static int check(const uint8_t *book, size_t book_len, const uint8_t *table, siz
     }
     printf("accepted late %u busiest slot %u\n", (unsigned)answer.late, busiest);
     return 0;
+}
+
+/* The same without windows. */
+static int check(const uint8_t *book, size_t book_len, const uint8_t *table, size_t table_len)
+{
+    return check_with(book, book_len, no_windows, sizeof no_windows, table, table_len);
 }
 
 /* Reads a whole file; null when it cannot be read. The pointer is never null
@@ -144,6 +189,7 @@ int main(int count, char **arguments)
     if (count == 1) {
         uint8_t full[sizeof table_a], early[sizeof table_g];
         uint8_t book_e[sizeof book_a], wide[sizeof table_e];
+        uint8_t shut[sizeof table_j], touching[sizeof calendar_j];
 
         memcpy(full, table_a, sizeof full);
         full[12 + 7 * 6 + 1] = 3; /* the eighth row to slot 3 */
@@ -153,25 +199,40 @@ int main(int count, char **arguments)
         wide[12 + 7 * 6 + 5] = 3; /* the eighth row takes 3 */
         memcpy(early, table_g, sizeof early);
         early[12 + 3 * 6 + 1] = 1; /* the fourth row to slot 1 */
+        memcpy(shut, table_j, sizeof shut);
+        shut[12 + 4 * 6 + 1] = 4; /* the fifth row to slot 4 */
+        memcpy(touching, calendar_j, sizeof touching);
+        touching[6 + 4 + 1] = 1; /* the second window begins where the first ended */
         int as_said = check(book_a, sizeof book_a, table_a, sizeof table_a) == 0;
         as_said &= check(book_a, sizeof book_a, full, sizeof full) == 1;
         as_said &= check(book_e, sizeof book_e, table_e, sizeof table_e) == 0;
         as_said &= check(book_e, sizeof book_e, wide, sizeof wide) == 1;
         as_said &= check(book_g, sizeof book_g, table_g, sizeof table_g) == 0;
         as_said &= check(book_g, sizeof book_g, early, sizeof early) == 1;
+        as_said &= check_with(book_j, sizeof book_j, calendar_j, sizeof calendar_j, table_j,
+                              sizeof table_j) == 0;
+        as_said &= check_with(book_j, sizeof book_j, calendar_j, sizeof calendar_j, shut,
+                              sizeof shut) == 1;
+        as_said &= check(book_j, sizeof book_j, shut, sizeof shut) == 0;
+        as_said &= check_with(book_j, sizeof book_j, touching, sizeof touching, table_j,
+                              sizeof table_j) == 1;
         return as_said ? 0 : 1;
     }
-    if (count != 3) {
-        fprintf(stderr, "usage: check_table [BOOK TABLE]\n");
+    if (count != 3 && count != 4) {
+        fprintf(stderr, "usage: check_table [BOOK TABLE [CALENDAR]]\n");
         return 2;
     }
-    size_t book_len = 0, table_len = 0;
+    size_t book_len = 0, table_len = 0, calendar_len = 0;
     uint8_t *book = read_file(arguments[1], &book_len);
     uint8_t *table = read_file(arguments[2], &table_len);
+    uint8_t *calendar = count == 4 ? read_file(arguments[3], &calendar_len) : NULL;
     int status = 2;
-    if (book != NULL && table != NULL)
+    if (book != NULL && table != NULL && count == 3)
         status = check(book, book_len, table, table_len);
+    else if (book != NULL && table != NULL && calendar != NULL)
+        status = check_with(book, book_len, calendar, calendar_len, table, table_len);
     free(book);
     free(table);
+    free(calendar);
     return status;
 }

@@ -2,12 +2,13 @@
  * Plans a book, has the plan checked and listed, and hands out processors slot by
  * slot:
  *
- *     dispatcher [BOOK]
+ *     dispatcher [BOOK [CALENDAR]]
  *
- * Without an argument it takes the marked books A, E and G: the second is A for a
- * cluster smaller than one of its caps, the third has a release. The exit status
- * is 0 when each book was planned, 1 when one was refused and 2 when something
- * else failed.
+ * Without an argument it takes the marked books A, E, G and J: the second is A for a
+ * cluster smaller than one of its caps, the third has a release, the fourth goes with
+ * a calendar of three windows. A book without a calendar is planned without windows.
+ * The exit status is 0 when each book was planned, 1 when one was refused and 2 when
+ * something else failed.
  */
 #include <stdint.h>
 #include <stdio.h>
@@ -39,6 +40,27 @@ static const uint8_t book_g[] = {
     0x00, 0x00, 0x00, 0x00, 0x00, 0x00, 0x00, 0x00  /* free */
 };
 
+/* Version 2: two flows that may begin at once. */
+static const uint8_t book_j[] = {
+    0x00, 0x00, 0x00, 0x2e, 0x02, 0x00, 0x02, 0x02, /* 46 bytes, P 2, 2 flows */
+    0x00, 0x09, 0x00, 0x00, 0x01,                   /* flow 0: deadline 9, release 0, 1 job */
+    0x00, 0x00, 0x00, 0x09, 0x00, 0x02,             /* size 9, cap 2 */
+    0x00, 0x00, 0x00, 0x00, 0x00, 0x00, 0x00, 0x00, /* free */
+    0x00, 0x04, 0x00, 0x00, 0x01,                   /* flow 1: deadline 4, release 0, 1 job */
+    0x00, 0x00, 0x00, 0x02, 0x00, 0x01,             /* size 2, cap 1 */
+    0x00, 0x00, 0x00, 0x00, 0x00, 0x00, 0x00, 0x00  /* free */
+};
+
+/* The cluster is shut in slot 0, in 3 and 4, and in 8 to 10. */
+static const uint8_t calendar_j[] = {
+    0x00, 0x00, 0x00, 0x12, 0x01, 0x03,             /* 18 bytes, 3 windows */
+    0x00, 0x00, 0x00, 0x01,                         /* first slot shut, first open again */
+    0x00, 0x03, 0x00, 0x05,
+    0x00, 0x08, 0x00, 0x0b
+};
+
+static const uint8_t no_windows[] = FLOWPLAN_NO_WINDOWS;
+
 /* Lent to every call. */
 static uint8_t work[FLOWPLAN_WORK_BYTES];
 
@@ -62,7 +84,8 @@ static void print_finishes(const uint8_t *table)
 
 /*
  * Hands out the processors of a dispatch list. Its rows stand slot by slot, so each
- * is looked at once; the work area has the use of each slot.
+ * is looked at once; the work area has the use of each slot, which is 0 where the
+ * cluster is shut.
  */
 static void hand_out(const uint8_t *list, size_t length)
 {
@@ -83,15 +106,16 @@ static int no_memory(void)
 }
 
 /* Checks and lists a plan, and hands it out. A list is shorter than its table. */
-static int hand_out_plan(const uint8_t *book, size_t book_len, const uint8_t *table,
-                         size_t table_len)
+static int hand_out_plan(const uint8_t *book, size_t book_len, const uint8_t *calendar,
+                         size_t calendar_len, const uint8_t *table, size_t table_len)
 {
     uint8_t *list = malloc(table_len);
 
     if (list == NULL)
         return no_memory();
     struct flowplan_list_answer answer =
-        flowplan_dispatch(book, book_len, table, table_len, list, table_len, work, sizeof work);
+        flowplan_dispatch(book, book_len, calendar, calendar_len, table, table_len, list,
+                          table_len, work, sizeof work);
     if (answer.number != FLOWPLAN_ACCEPTED) {
         free(list);
         return refused(answer.number, answer.flow, answer.job);
@@ -104,7 +128,8 @@ static int hand_out_plan(const uint8_t *book, size_t book_len, const uint8_t *ta
 }
 
 /* Plans a book and hands the plan out; the table is grown until the plan fits. */
-static int dispatch(const uint8_t *book, size_t book_len)
+static int dispatch(const uint8_t *book, size_t book_len, const uint8_t *calendar,
+                    size_t calendar_len)
 {
     size_t room = 65536;
     uint8_t *table = NULL;
@@ -117,7 +142,8 @@ static int dispatch(const uint8_t *book, size_t book_len)
             return no_memory();
         }
         table = larger;
-        plan = flowplan_plan(book, book_len, table, room, work, sizeof work);
+        plan = flowplan_plan(book, book_len, calendar, calendar_len, table, room, work,
+                             sizeof work);
         if (plan.number != FLOWPLAN_OUTPUT || room >= FLOWPLAN_LONGEST_TABLE)
             break;
         room *= 2;
@@ -128,15 +154,40 @@ static int dispatch(const uint8_t *book, size_t book_len)
     }
     printf("planned: table %lu late %u\n", (unsigned long)plan.length, (unsigned)plan.late);
 
-    int status = hand_out_plan(book, book_len, table, plan.length);
+    int status =
+        hand_out_plan(book, book_len, calendar, calendar_len, table, plan.length);
     free(table);
     return status;
 }
 
+static int worse(int one, int other)
+{
+    return one > other ? one : other;
+}
+
+/* Reads a file that is shorter than the room; -1 when it cannot be read or is not. */
+static long read_file(const char *name, uint8_t *bytes, size_t room)
+{
+    FILE *file = fopen(name, "rb");
+    if (file == NULL) {
+        perror(name);
+        return -1;
+    }
+    size_t length = fread(bytes, 1, room, file);
+    int failed = ferror(file);
+    fclose(file);
+    if (failed || length == room) {
+        fprintf(stderr, "%s: cannot be read, or too long\n", name);
+        return -1;
+    }
+    return (long)length;
+}
+
 int main(int count, char **arguments)
 {
-    /* One byte more than the longest book that passes its checks. */
+    /* One byte more than the longest that pass their checks. */
     static uint8_t book[FLOWPLAN_LONGEST_BOOK + 1];
+    static uint8_t calendar[FLOWPLAN_LONGEST_CALENDAR + 1];
 
     if (count == 1) {
         uint8_t book_e[sizeof book_a];
@@ -144,29 +195,26 @@ int main(int count, char **arguments)
         memcpy(book_e, book_a, sizeof book_e);
         book_e[6] = 2; /* P 2: the cap of 3 counts as 2 */
         printf("book A\n");
-        int of_a = dispatch(book_a, sizeof book_a);
+        int worst = dispatch(book_a, sizeof book_a, no_windows, sizeof no_windows);
         printf("book E\n");
-        int of_e = dispatch(book_e, sizeof book_e);
+        worst = worse(worst, dispatch(book_e, sizeof book_e, no_windows, sizeof no_windows));
         printf("book G\n");
-        int of_g = dispatch(book_g, sizeof book_g);
-        int worst = of_a > of_e ? of_a : of_e;
-        return worst > of_g ? worst : of_g;
+        worst = worse(worst, dispatch(book_g, sizeof book_g, no_windows, sizeof no_windows));
+        printf("book J with its calendar\n");
+        worst = worse(worst, dispatch(book_j, sizeof book_j, calendar_j, sizeof calendar_j));
+        return worst;
     }
-    if (count != 2) {
-        fprintf(stderr, "usage: dispatcher [BOOK]\n");
+    if (count > 3) {
+        fprintf(stderr, "usage: dispatcher [BOOK [CALENDAR]]\n");
         return 2;
     }
-    FILE *file = fopen(arguments[1], "rb");
-    if (file == NULL) {
-        perror(arguments[1]);
+    long length = read_file(arguments[1], book, sizeof book);
+    if (length < 0)
         return 2;
-    }
-    size_t length = fread(book, 1, sizeof book, file);
-    int failed = ferror(file);
-    fclose(file);
-    if (failed || length == sizeof book) {
-        fprintf(stderr, "%s: cannot be read, or longer than any book\n", arguments[1]);
+    if (count == 2)
+        return dispatch(book, (size_t)length, no_windows, sizeof no_windows);
+    long of_calendar = read_file(arguments[2], calendar, sizeof calendar);
+    if (of_calendar < 0)
         return 2;
-    }
-    return dispatch(book, length);
+    return dispatch(book, (size_t)length, calendar, (size_t)of_calendar);
 }

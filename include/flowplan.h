@@ -14,6 +14,9 @@
  *   6  Req 06, the write-back slot: a flow is late when its finish plus 1 is
  *      greater than its deadline, in planner and check; formerly when its finish
  *      was. Layouts and numbers are as they were
+ *   7  Req 07, service windows: every call takes a calendar behind the book;
+ *      numbers 24 and 25; number 12 by open slots. With FLOWPLAN_NO_WINDOWS every
+ *      call answers as before
  *
  * Every call takes every sequence of bytes, comes to an end on each, allocates
  * nothing and keeps nothing between calls.
@@ -38,6 +41,19 @@
  *                                             the same flow must be complete
  *                                             first; only lower jobs
  *
+ * Calendar
+ *   length of the whole calendar         4
+ *   version = 1                          1
+ *   windows                              1    0 to 32
+ *   then for each window, in which the whole cluster is shut
+ *     first slot shut                    2    in the first window 0 or more, in the
+ *                                             others above the slot at which the one
+ *                                             before it opened again
+ *     first slot open again              2    above the first slot shut, at most
+ *                                             4,096
+ *   It goes with the book. Shut slots are passed over: no row may stand in one. A
+ *   calendar without windows is FLOWPLAN_NO_WINDOWS; no bytes at all are a fault.
+ *
  * Table
  *   length of the whole table in bytes   4
  *   version = 1                          1
@@ -45,7 +61,7 @@
  *   flows                                1    as in the book
  *   finish of each flow, book order      2    last used slot plus 1
  *   then rows of 6 bytes, one for each slot and job with a processor
- *     slot                               2    the flow's release to 8,191
+ *     slot                               2    the flow's release to 8,191, open
  *     flow                               1
  *     job                                1
  *     processors                         2    1 to the job's cap, at most P
@@ -55,7 +71,13 @@
  * Late flows
  *   Results are written back and reach the stands one slot after a flow's
  *   finish, so a flow is late when its finish plus 1 is greater than its
- *   deadline. Refusal (12) still goes by the finish and twice the deadline.
+ *   deadline, both in slots, shut or open.
+ *
+ * Infeasible flows
+ *   Twice the deadline is counted in open slots: a flow that is not finished when
+ *   twice as many open slots from slot 0 have passed as stand before its deadline
+ *   is refused by 12. With no open slot before its deadline it always is. Without
+ *   windows that is a finish above twice the deadline.
  *
  * Dispatch list
  *   length of the whole list in bytes    4
@@ -70,7 +92,8 @@
  *   At least FLOWPLAN_WORK_BYTES, two bytes for each of the slots 0 to 8,191.
  *   After acceptance each pair holds the processors in use in that slot: by all
  *   flows, or where the finish of one was asked for, by that flow and those
- *   before it in service order. Bytes past FLOWPLAN_WORK_BYTES are never touched.
+ *   before it in service order; 0 in a shut slot. Bytes past FLOWPLAN_WORK_BYTES
+ *   are never touched.
  *
  * Stack
  *   A call needs at most FLOWPLAN_CHECK_STACK, FLOWPLAN_PLAN_STACK,
@@ -92,7 +115,7 @@ extern "C" {
 #endif
 
 /* What changed from version to version stands at the top. */
-#define FLOWPLAN_HEADER_VERSION 6
+#define FLOWPLAN_HEADER_VERSION 7
 
 /* Bytes of the work area that are used, and the slots that they stand for. */
 #define FLOWPLAN_WORK_BYTES 16384
@@ -107,22 +130,28 @@ extern "C" {
 /* The longest book that passes its checks: version 2, 64 flows of 64 jobs. */
 #define FLOWPLAN_LONGEST_BOOK 57672
 
+/* The bytes of the longest calendar, of 32 windows. */
+#define FLOWPLAN_LONGEST_CALENDAR 134
+
+/* The bytes of the calendar without windows, to initialise an array of uint8_t. */
+#define FLOWPLAN_NO_WINDOWS { 0x00, 0x00, 0x00, 0x06, 0x01, 0x00 }
+
 /* Stands for the flow or the job where a place has none. */
 #define FLOWPLAN_NONE 255
 
 /*
- * What a book or table is turned down by. The place that goes with each number
- * stands behind it; "-, -" is FLOWPLAN_NONE, FLOWPLAN_NONE.
+ * What a book, calendar or table is turned down by. The place that goes with each
+ * number stands behind it; "-, -" is FLOWPLAN_NONE, FLOWPLAN_NONE.
  *
  * Numbers 1 to 4 are tested in that order; then for each flow 5, 6, 22, 7 and
  * for each of its jobs 5, 8, 9, 10; then bytes left over; then 23, only for the
- * finish of one flow; then 11. The planner goes on with 12, 13; the check with
- * 14, with 15 to 19 in order for each row, then 20, 21; the dispatch list as the
- * check, and then 13; the finish of one flow with 12. The first fault met is
- * answered. A flow head or job record must be there whole before any of its
- * fields is looked at.
+ * finish of one flow; then 24; then 11. The planner goes on with 12, 13; the
+ * check with 14, with 15, 25 and 16 to 19 in that order for each row, then 20, 21;
+ * the dispatch list as the check, and then 13; the finish of one flow with 12. The
+ * first fault met is answered. A flow head or job record must be there whole before
+ * any of its fields is looked at.
  *
- * Numbers 1 to 11, 22 and 23 leave the work area as it was; the others leave
+ * Numbers 1 to 11 and 22 to 24 leave the work area as it was; the others leave
  * its first FLOWPLAN_WORK_BYTES bytes zero.
  */
 enum flowplan_number {
@@ -152,8 +181,8 @@ enum flowplan_number {
     FLOWPLAN_PREDECESSOR = 10,
     /* work area too short; -, - */
     FLOWPLAN_WORK_AREA = 11,
-    /* infeasible: a flow is not finished after slot 2 x deadline - 1; that
-       flow, - */
+    /* infeasible: a flow is not finished when twice as many open slots from slot
+       0 have passed as stand before its deadline; that flow, - */
     FLOWPLAN_INFEASIBLE = 12,
     /* the planner's table, or the dispatch list, longer than the lent output;
        -, - */
@@ -181,7 +210,14 @@ enum flowplan_number {
     /* release not below the deadline, tested directly after 6; flow, - */
     FLOWPLAN_RELEASE = 22,
     /* the flow that was named is not in the book; -, - */
-    FLOWPLAN_NO_SUCH_FLOW = 23
+    FLOWPLAN_NO_SUCH_FLOW = 23,
+    /* calendar under 6 bytes, length field wrong, version not 1, more than 32
+       windows, bytes unlike the windows, or a window that is empty, that does not
+       begin later than the one before it opened again, or that opens again after
+       slot 4,096; -, - */
+    FLOWPLAN_CALENDAR = 24,
+    /* a row in a shut slot, tested directly after 15; row's flow, job */
+    FLOWPLAN_ROW_SHUT = 25
 };
 
 /* ---- Table check ------------------------------------------------------- */
@@ -194,17 +230,18 @@ struct flowplan_check_answer {
 };
 
 /*
- * Accepts a table exactly when it is a valid schedule of the book, written in
- * the stated order under the right head and finishes. A valid schedule has
- * nothing before a flow's release. A finish beyond twice the deadline is
- * accepted and counted as late.
+ * Accepts a table exactly when it is a valid schedule of the book with its
+ * calendar, written in the stated order under the right head and finishes. A valid
+ * schedule has nothing before a flow's release and nothing in a shut slot. A finish
+ * beyond twice the deadline is accepted and counted as late.
  *
- * book, table: read only, any bytes, any length.
- * work:        accepted: the use of each slot by the table's rows. Number 1 to
- *              11 or 22: as it was. Any other number: its first
- *              FLOWPLAN_WORK_BYTES bytes are zero.
+ * book, calendar, table: read only, any bytes, any length.
+ * work: accepted: the use of each slot by the table's rows. Number 1 to 11, 22 or
+ *       24: as it was. Any other number: its first FLOWPLAN_WORK_BYTES bytes are
+ *       zero.
  */
 struct flowplan_check_answer flowplan_check(const uint8_t *book, size_t book_len,
+                                            const uint8_t *calendar, size_t calendar_len,
                                             const uint8_t *table, size_t table_len,
                                             uint8_t *work, size_t work_len);
 
@@ -224,18 +261,19 @@ struct flowplan_plan_answer {
 };
 
 /*
- * Plans a book by the deadline-greedy rule on chains of pseudo-jobs. Slots
- * before a flow's release are not given to it. Service order, late flows and
- * twice the deadline do not go by the release.
+ * Plans a book with its calendar by the deadline-greedy rule on chains of
+ * pseudo-jobs. Slots before a flow's release are not given to it, and shut slots to
+ * none. Service order, late flows and twice the deadline do not go by the release.
  *
- * book:   read only, any bytes, any length.
+ * book, calendar: read only, any bytes, any length.
  * output: accepted: its first `length` bytes are the table, the bytes past them
  *         are as they were. Refused: as it was.
- * work:   accepted: the use of each slot by the table's rows. Number 1 to 11 or
- *         22: as it was. Number 12 or 13: its first FLOWPLAN_WORK_BYTES bytes
+ * work:   accepted: the use of each slot by the table's rows. Number 1 to 11, 22
+ *         or 24: as it was. Number 12 or 13: its first FLOWPLAN_WORK_BYTES bytes
  *         are zero.
  */
 struct flowplan_plan_answer flowplan_plan(const uint8_t *book, size_t book_len,
+                                          const uint8_t *calendar, size_t calendar_len,
                                           uint8_t *output, size_t output_len,
                                           uint8_t *work, size_t work_len);
 
@@ -259,14 +297,15 @@ struct flowplan_list_answer {
  * refuses is refused with the same number and place, however short the output
  * is; then 13. An output as long as the table is always long enough.
  *
- * book, table: read only, any bytes, any length.
- * output:      accepted: its first `length` bytes are the dispatch list, the
- *              bytes past them are as they were. Refused: as it was.
- * work:        accepted: the use of each slot by the table's rows. Number 1 to
- *              11 or 22: as it was. Any other number: its first
- *              FLOWPLAN_WORK_BYTES bytes are zero.
+ * book, calendar, table: read only, any bytes, any length.
+ * output: accepted: its first `length` bytes are the dispatch list, the bytes past
+ *         them are as they were. Refused: as it was.
+ * work:   accepted: the use of each slot by the table's rows. Number 1 to 11, 22
+ *         or 24: as it was. Any other number: its first FLOWPLAN_WORK_BYTES bytes
+ *         are zero.
  */
 struct flowplan_list_answer flowplan_dispatch(const uint8_t *book, size_t book_len,
+                                              const uint8_t *calendar, size_t calendar_len,
                                               const uint8_t *table, size_t table_len,
                                               uint8_t *output, size_t output_len,
                                               uint8_t *work, size_t work_len);
@@ -283,23 +322,24 @@ struct flowplan_finish_answer {
 };
 
 /*
- * The finish of one flow, and no table. The book is checked in full, but flows
- * are placed only up to the one named, in service order. The finish is the one
+ * The finish of one flow, and no table. Book and calendar are checked in full, but
+ * flows are placed only up to the one named, in service order. The finish is the one
  * that the planner's table shows, or would show without the flows after this
- * one. It is at most twice the flow's deadline.
+ * one. Before it stand at most twice as many open slots as before the deadline.
  *
  * Where the flow named or one before it in service order is infeasible, the
  * answer is 12 with that flow's number in the book. An infeasible flow after the
  * one named is not reported.
  *
- * book: read only, any bytes, any length.
+ * book, calendar: read only, any bytes, any length.
  * flow: number of the flow in the book, 0 for the first. One that is not in the
  *       book is answered by 23; all 32 bits count, so that 256 is not flow 0.
  * work: accepted: the use of each slot by this flow and those before it in
- *       service order. Number 1 to 11, 22 or 23: as it was. Number 12: its
+ *       service order. Number 1 to 11 or 22 to 24: as it was. Number 12: its
  *       first FLOWPLAN_WORK_BYTES bytes are zero.
  */
 struct flowplan_finish_answer flowplan_finish(const uint8_t *book, size_t book_len,
+                                              const uint8_t *calendar, size_t calendar_len,
                                               uint32_t flow,
                                               uint8_t *work, size_t work_len);
 

@@ -11,7 +11,7 @@ pub const WORK_BYTES: usize = 16_384;
 pub const SLOTS: usize = 8_192;
 
 /// One more than the greatest number that is answered.
-pub const NUMBERS: usize = 24;
+pub const NUMBERS: usize = 26;
 
 /// A refusal number with its place.
 #[derive(Clone, Copy, Debug, PartialEq, Eq)]

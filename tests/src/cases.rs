@@ -1,8 +1,10 @@
 //! What the benchmarks measure: books for the planner and for the finish of one flow,
 //! and books whose plans are the tables of the check and of the dispatch list, each
-//! with how often it is measured.
+//! with its calendar, mostly one without windows, and how often it is measured.
 
 use crate::books::{full_book, largest_book, late_full_book, layered_book, usual_book, Family};
+use crate::calendar::{Calendar, Window, MOST_WINDOWS};
+use crate::calendars::stretched;
 use crate::marked;
 use crate::reader::{read_book, Book, Flow, Job};
 use crate::rng::Rng;
@@ -14,6 +16,7 @@ pub struct Case {
     pub heading: Option<&'static str>,
     pub name: String,
     pub book: Book,
+    pub calendar: Calendar,
     pub rounds: usize,
     pub calls: u32,
 }
@@ -23,8 +26,24 @@ fn case(name: impl Into<String>, book: Book, rounds: usize, calls: u32) -> Case 
         heading: None,
         name: name.into(),
         book,
+        calendar: Calendar::default(),
         rounds,
         calls,
+    }
+}
+
+/// The same in the open slots of a calendar of 32 windows of five slots each, every
+/// 25 slots.
+fn in_windows(case: Case) -> Case {
+    let shut = |k: u32| Window::new(25 * k + 20, 25 * k + 25);
+    let calendar = Calendar {
+        windows: (0..MOST_WINDOWS as u32).map(shut).collect(),
+    };
+    Case {
+        name: format!("{}, 32 windows", case.name),
+        book: stretched(&case.book, &calendar).expect("deadlines below 4,097"),
+        calendar,
+        ..case
     }
 }
 
@@ -105,7 +124,8 @@ fn drawn_book(rng: &mut Rng) -> Book {
         let book = usual_book(rng);
         let mut jobs = book.flows.iter().flat_map(|flow| &flow.jobs);
         let waits = jobs.any(|job| job.precedence != 0);
-        let rows = tables::planned_table(&book).map_or(0, |table| table.rows.len());
+        let rows =
+            tables::planned_table(&book, &Calendar::default()).map_or(0, |table| table.rows.len());
         if book.flows.len() > 3 && waits && (100..=500).contains(&rows) {
             return book;
         }
@@ -116,7 +136,7 @@ fn drawn_book(rng: &mut Rng) -> Book {
 fn planned_book(rng: &mut Rng, family: Family) -> Book {
     loop {
         let book = family(rng);
-        if tables::planned_table(&book).is_some() {
+        if tables::planned_table(&book, &Calendar::default()).is_some() {
             return book;
         }
     }
@@ -128,7 +148,9 @@ pub fn plan_cases() -> Vec<Case> {
     let late = planned_book(&mut Rng::new(64), late_full_book);
     let mut cases = vec![
         case("usual book, 20 flows of 10 jobs", shift_book(), 15, 200),
-        case("full book, 64 flows of 64 jobs", full, 15, 5),
+        in_windows(case("usual book", shift_book(), 15, 200)),
+        case("full book, 64 flows of 64 jobs", full.clone(), 15, 5),
+        in_windows(case("full book", full, 15, 5)),
         case("version 2, full book with late releases", late, 15, 5),
         case("largest table", largest_book(), 5, 1),
     ];
@@ -170,11 +192,14 @@ pub fn check_cases() -> Vec<Case> {
     let mut cases = group("small tables:", small);
     let full = planned_book(&mut rng, full_book);
     let late = planned_book(&mut rng, late_full_book);
+    // Another one, which has room for its windows.
+    let windowed = planned_book(&mut Rng::new(64), full_book);
     let million = |layers, width| waiting_book(64, layers, width, 256);
     cases.extend(group(
         "large tables:",
         vec![
             case("  full book, 64 flows of 64 jobs", full, 31, 20),
+            in_windows(case("  full book", windowed, 31, 20)),
             case("  version 2, full book with late releases", late, 31, 20),
             case(
                 "  free jobs, a million rows",
@@ -213,6 +238,7 @@ pub fn dispatch_cases() -> Vec<Case> {
         "usual, full and large tables:",
         vec![
             case("  usual book, 20 flows of 10 jobs", shift_book(), 31, 100),
+            in_windows(case("  usual book", shift_book(), 31, 100)),
             case("  full book, 64 flows of 64 jobs", full, 31, 20),
             case("  version 2, full book with late releases", late, 31, 20),
             case(
@@ -264,7 +290,9 @@ pub fn finish_cases() -> Vec<Case> {
         "usual, full and large books:",
         vec![
             case("usual book, 20 flows of 10 jobs", shift_book(), 31, 100),
-            case("full book, 64 flows of 64 jobs", full, 31, 10),
+            in_windows(case("usual book", shift_book(), 31, 100)),
+            case("full book, 64 flows of 64 jobs", full.clone(), 31, 10),
+            in_windows(case("full book", full, 31, 10)),
             case("version 2, full book with late releases", late, 31, 10),
             case("full book, slots given in part", contended, 31, 10),
             case("largest table", largest_book(), 5, 1),

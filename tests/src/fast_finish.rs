@@ -1,11 +1,12 @@
 //! Two straightforward optimised finishes of one flow, as baselines of speed. The
 //! book is checked in one pass that keeps only where each flow stands; then the flows
 //! up to the one named are placed alone, from one change of the rate to the next, with
-//! the use of each slot counted in the lent work area. They make no rows, no shares
-//! and no copy of the book. One looks at every job at every change, as the proved
+//! the use of each slot counted in the lent work area, where a shut slot has all its
+//! processors in use until the end. They make no rows, no shares and no copy of the book. One looks at every job at every change, as the proved
 //! finish does; the other sorts the changes first.
 
 use crate::answer::{FinishAnswer, Refusal, NONE, WORK_BYTES};
+use crate::calendar::{limit_in, windows_in};
 use crate::reader::{
     be16, be32, be64, cap_in_use, predecessors, Version, BOOK_HEAD, JOB_RECORD, MOST_DEADLINE,
     MOST_FLOWS, MOST_JOBS, MOST_PROCESSORS, MOST_SIZE,
@@ -212,11 +213,18 @@ fn by_sorting(jobs: &[Ideal], slots: &mut Slots, processors: u32) -> Option<()> 
 /// How the runs of a flow are given to its slots.
 type Runs = fn(&[Ideal], &mut Slots, u32) -> Option<()>;
 
-/// Places one flow; its finish, or nothing where it is infeasible.
+/// Places one flow before a slot; its finish, or nothing where it is infeasible.
 #[inline(always)]
-fn place(runs: Runs, book: &[u8], flow: &Flow, processors: u32, work: &mut [u8]) -> Option<u16> {
+fn place(
+    runs: Runs,
+    book: &[u8],
+    flow: &Flow,
+    limit: usize,
+    processors: u32,
+    work: &mut [u8],
+) -> Option<u16> {
     let (jobs, count) = ideal(&book[flow.from..flow.to], processors);
-    let (from, limit) = (flow.release as usize, 2 * flow.deadline as usize);
+    let from = (flow.release as usize).min(limit);
     let mut slots = work[2 * from..2 * limit].chunks_exact_mut(2);
     runs(&jobs[..count], &mut slots, processors)?;
     Some((limit - slots.len()) as u16)
@@ -228,6 +236,7 @@ fn place_upto(
     runs: Runs,
     book: &[u8],
     index: &Index,
+    windows: impl Iterator<Item = [usize; 2]> + Clone,
     flow: usize,
     work: &mut [u8],
 ) -> Result<u16, Refusal> {
@@ -245,14 +254,24 @@ fn place_upto(
     for rank in &ranks[..count] {
         let number = *rank as u8;
         let flow = &index.flows[number as usize];
-        let placed = place(runs, book, flow, index.processors, work);
+        let limit = limit_in(windows.clone(), flow.deadline as usize);
+        let placed = place(runs, book, flow, limit, index.processors, work);
         finish = placed.ok_or(Refusal::new(12, number, NONE))?;
     }
     Ok(finish)
 }
 
+/// Gives each shut slot so many used processors.
+fn shut(windows: impl Iterator<Item = [usize; 2]>, with: u32, work: &mut [u8]) {
+    let used = (with as u16).to_be_bytes();
+    for [from, to] in windows {
+        let (slots, _) = work[2 * from..2 * to].as_chunks_mut();
+        slots.fill(used);
+    }
+}
+
 #[inline(always)]
-fn finish_by(runs: Runs, book: &[u8], flow: u32, work: &mut [u8]) -> FinishAnswer {
+fn finish_by(runs: Runs, book: &[u8], calendar: &[u8], flow: u32, work: &mut [u8]) -> FinishAnswer {
     let index = match index(book) {
         Ok(index) => index,
         Err(refusal) => return FinishAnswer::refused(refusal),
@@ -260,12 +279,19 @@ fn finish_by(runs: Runs, book: &[u8], flow: u32, work: &mut [u8]) -> FinishAnswe
     if flow as usize >= index.count {
         return FinishAnswer::refused(Refusal::of_all(23));
     }
+    let Some(windows) = windows_in(calendar) else {
+        return FinishAnswer::refused(Refusal::of_all(24));
+    };
     let Some(area) = work.get_mut(..WORK_BYTES) else {
         return FinishAnswer::refused(Refusal::of_all(11));
     };
     area.fill(0);
-    match place_upto(runs, book, &index, flow as usize, area) {
-        Ok(finish) => FinishAnswer::accepted(finish),
+    shut(windows.clone(), index.processors, area);
+    match place_upto(runs, book, &index, windows.clone(), flow as usize, area) {
+        Ok(finish) => {
+            shut(windows, 0, area);
+            FinishAnswer::accepted(finish)
+        }
         Err(refusal) => {
             area.fill(0);
             FinishAnswer::refused(refusal)
@@ -274,11 +300,11 @@ fn finish_by(runs: Runs, book: &[u8], flow: u32, work: &mut [u8]) -> FinishAnswe
 }
 
 /// The finish as it is called, with a look at every job at every change.
-pub fn finish(book: &[u8], flow: u32, work: &mut [u8]) -> FinishAnswer {
-    finish_by(by_looking, book, flow, work)
+pub fn finish(book: &[u8], calendar: &[u8], flow: u32, work: &mut [u8]) -> FinishAnswer {
+    finish_by(by_looking, book, calendar, flow, work)
 }
 
 /// The same with sorted changes.
-pub fn finish_sorted(book: &[u8], flow: u32, work: &mut [u8]) -> FinishAnswer {
-    finish_by(by_sorting, book, flow, work)
+pub fn finish_sorted(book: &[u8], calendar: &[u8], flow: u32, work: &mut [u8]) -> FinishAnswer {
+    finish_by(by_sorting, book, calendar, flow, work)
 }

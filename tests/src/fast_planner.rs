@@ -4,6 +4,7 @@
 //! the output stays untouched by a refusal.
 
 use crate::answer::{PlanAnswer, Refusal, NONE, SLOTS, WORK_BYTES};
+use crate::calendar::{limit_in, windows_in};
 use crate::reader::{predecessors, read_book, Book, Flow};
 use crate::second_check::{FINISH, ROW, TABLE_HEAD};
 
@@ -137,25 +138,30 @@ impl Rows for Write<'_> {
     }
 }
 
+/// A flow with the first slot that it may not use any more, and its chain.
+struct Placed {
+    number: usize,
+    limit: usize,
+    chain: Vec<PseudoJob>,
+}
+
 /// Places one flow from its release on; its finish, or nothing where it is
-/// infeasible.
+/// infeasible. Shut slots have no processors free.
 fn place<R: Rows>(
     book: &Book,
-    number: usize,
-    chain: &[PseudoJob],
+    placed: &Placed,
     used: &mut [u16; SLOTS],
     rows: &mut R,
 ) -> Option<u16> {
     let processors = book.processors;
-    let flow = &book.flows[number];
-    let limit = 2 * flow.deadline as usize;
-    let mut slot = flow.release as usize;
-    for pseudo_job in chain {
+    let (number, limit) = (placed.number, placed.limit);
+    let mut slot = book.flows[number].release as usize;
+    for pseudo_job in &placed.chain {
         let rate = pseudo_job.rate;
         let mut remaining = pseudo_job.work;
         let mut position = 0;
         while remaining > 0 {
-            if slot == limit {
+            if slot >= limit {
                 return None;
             }
             let free = processors - u32::from(used[slot]);
@@ -184,18 +190,22 @@ fn place<R: Rows>(
     Some(slot as u16)
 }
 
-/// Plans a book into the lent output.
-pub fn plan(book: &[u8], output: &mut [u8], work: &mut [u8]) -> PlanAnswer {
+/// Plans a book with its calendar into the lent output.
+pub fn plan(book: &[u8], calendar: &[u8], output: &mut [u8], work: &mut [u8]) -> PlanAnswer {
     let book = match read_book(book) {
         Ok(book) => book,
         Err(refusal) => return PlanAnswer::refused(refusal),
+    };
+    let Some(windows) = windows_in(calendar) else {
+        return PlanAnswer::refused(Refusal::of_all(24));
     };
     if work.len() < WORK_BYTES {
         return PlanAnswer::refused(Refusal::of_all(11));
     }
     let mut used = [0u16; SLOTS];
-    match plan_read(&book, output, &mut used) {
+    match plan_read(&book, windows.clone(), output, &mut used) {
         Ok(answer) => {
+            shut(windows, 0, &mut used);
             for (pair, &in_use) in work[..WORK_BYTES].chunks_exact_mut(2).zip(&used) {
                 pair.copy_from_slice(&in_use.to_be_bytes());
             }
@@ -208,8 +218,17 @@ pub fn plan(book: &[u8], output: &mut [u8], work: &mut [u8]) -> PlanAnswer {
     }
 }
 
+/// Gives each shut slot so many used processors.
+fn shut(windows: impl Iterator<Item = [usize; 2]>, with: u16, used: &mut [u16; SLOTS]) {
+    for [from, to] in windows {
+        used[from..to].fill(with);
+    }
+}
+
+/// Shut slots are left with all processors used.
 fn plan_read(
     book: &Book,
+    windows: impl Iterator<Item = [usize; 2]> + Clone,
     output: &mut [u8],
     used: &mut [u16; SLOTS],
 ) -> Result<PlanAnswer, Refusal> {
@@ -217,17 +236,22 @@ fn plan_read(
     let mut finishes = [0u16; 64];
     let mut late = 0;
     let mut count = Count(0);
-    let mut chains = Vec::with_capacity(order.len());
-    for &number in &order {
+    let mut all_placed = Vec::with_capacity(order.len());
+    shut(windows.clone(), book.processors as u16, used);
+    for number in order {
         let flow = &book.flows[number];
-        let chain = chain(flow, book.processors);
-        let finish = place(book, number, &chain, used, &mut count);
+        let placed = Placed {
+            number,
+            limit: limit_in(windows.clone(), flow.deadline as usize),
+            chain: chain(flow, book.processors),
+        };
+        let finish = place(book, &placed, used, &mut count);
         let finish = finish.ok_or(Refusal::new(12, number as u8, NONE))?;
         // By the deadline also the slot after the finish must be over, else the flow is
         // late (02, Req 06).
         late += u8::from(u32::from(finish) >= flow.deadline);
         finishes[number] = finish;
-        chains.push(chain);
+        all_placed.push(placed);
     }
     let rows_from = TABLE_HEAD + FINISH * book.flows.len();
     let length = rows_from + ROW * count.0;
@@ -244,12 +268,13 @@ fn plan_read(
         field.copy_from_slice(&finish.to_be_bytes());
     }
     used.fill(0);
+    shut(windows, book.processors as u16, used);
     let mut rows = Write {
         rest: output[rows_from..length].chunks_exact_mut(ROW),
     };
-    for (&number, chain) in order.iter().zip(&chains) {
-        let placed = place(book, number, chain, used, &mut rows);
-        debug_assert_eq!(placed, Some(finishes[number]));
+    for placed in &all_placed {
+        let finish = place(book, placed, used, &mut rows);
+        debug_assert_eq!(finish, Some(finishes[placed.number]));
     }
     Ok(PlanAnswer::accepted(late, length as u32))
 }

@@ -1,16 +1,19 @@
 //! A second planner, a second table check, a second dispatch list and a second
 //! finish of one flow, made apart from the proved ones and from the rules alone,
-//! with generators of books and tables, for differential tests and as a baseline of
-//! speed.
+//! with generators of books, calendars and tables, for differential tests and as a
+//! baseline of speed.
 
 pub mod answer;
 pub mod books;
+pub mod calendar;
+pub mod calendars;
 pub mod caps;
 pub mod cases;
 pub mod edges;
 pub mod fast_dispatch;
 pub mod fast_finish;
 pub mod fast_planner;
+pub mod former;
 pub mod heads;
 pub mod lent;
 pub mod linked;

@@ -7,6 +7,8 @@ extern "C" {
     fn flowplan_dispatch(
         book: *const u8,
         book_len: usize,
+        calendar: *const u8,
+        calendar_len: usize,
         table: *const u8,
         table_len: usize,
         output: *mut u8,
@@ -17,12 +19,20 @@ extern "C" {
 }
 
 /// Calls the proved dispatch list.
-pub fn dispatch(book: &[u8], table: &[u8], output: &mut [u8], work: &mut [u8]) -> ListAnswer {
-    // SAFETY: the four slices are whole and do not overlap.
+pub fn dispatch(
+    book: &[u8],
+    calendar: &[u8],
+    table: &[u8],
+    output: &mut [u8],
+    work: &mut [u8],
+) -> ListAnswer {
+    // SAFETY: the five slices are whole and do not overlap.
     unsafe {
         flowplan_dispatch(
             book.as_ptr(),
             book.len(),
+            calendar.as_ptr(),
+            calendar.len(),
             table.as_ptr(),
             table.len(),
             output.as_mut_ptr(),
@@ -34,18 +44,21 @@ pub fn dispatch(book: &[u8], table: &[u8], output: &mut [u8], work: &mut [u8]) -
 }
 
 /// Calls the proved dispatch list on lent buffers, so that afterwards it can be
-/// seen that even book and table are as they were.
+/// seen that even book, calendar and table are as they were.
 pub fn dispatch_lent(
     book: &mut Lent,
+    calendar: &mut Lent,
     table: &mut Lent,
     output: &mut Lent,
     work: &mut Lent,
 ) -> ListAnswer {
-    // SAFETY: four buffers of their own, each as long as said.
+    // SAFETY: five buffers of their own, each as long as said.
     unsafe {
         flowplan_dispatch(
             book.pointer(),
             book.len(),
+            calendar.pointer(),
+            calendar.len(),
             table.pointer(),
             table.len(),
             output.pointer(),

@@ -7,6 +7,8 @@ extern "C" {
     fn flowplan_finish(
         book: *const u8,
         book_len: usize,
+        calendar: *const u8,
+        calendar_len: usize,
         flow: u32,
         work: *mut u8,
         work_len: usize,
@@ -14,12 +16,14 @@ extern "C" {
 }
 
 /// Calls the proved finish.
-pub fn finish(book: &[u8], flow: u32, work: &mut [u8]) -> FinishAnswer {
-    // SAFETY: the two slices are whole and do not overlap.
+pub fn finish(book: &[u8], calendar: &[u8], flow: u32, work: &mut [u8]) -> FinishAnswer {
+    // SAFETY: the three slices are whole and do not overlap.
     unsafe {
         flowplan_finish(
             book.as_ptr(),
             book.len(),
+            calendar.as_ptr(),
+            calendar.len(),
             flow,
             work.as_mut_ptr(),
             work.len(),
@@ -28,8 +32,23 @@ pub fn finish(book: &[u8], flow: u32, work: &mut [u8]) -> FinishAnswer {
 }
 
 /// Calls the proved finish on lent buffers, so that afterwards it can be seen that
-/// even the book is as it was.
-pub fn finish_lent(book: &mut Lent, flow: u32, work: &mut Lent) -> FinishAnswer {
-    // SAFETY: two buffers of their own, each as long as said.
-    unsafe { flowplan_finish(book.pointer(), book.len(), flow, work.pointer(), work.len()) }
+/// even book and calendar are as they were.
+pub fn finish_lent(
+    book: &mut Lent,
+    calendar: &mut Lent,
+    flow: u32,
+    work: &mut Lent,
+) -> FinishAnswer {
+    // SAFETY: three buffers of their own, each as long as said.
+    unsafe {
+        flowplan_finish(
+            book.pointer(),
+            book.len(),
+            calendar.pointer(),
+            calendar.len(),
+            flow,
+            work.pointer(),
+            work.len(),
+        )
+    }
 }

@@ -4,6 +4,7 @@
 
 use crate::answer::{NUMBERS, WORK_BYTES};
 use crate::books::{self, encode_book};
+use crate::calendars;
 use crate::lent::{Junk, Lent};
 use crate::marked::{Check, Planner};
 use crate::reader::{be16, read_book, Version, BOOK_HEAD};
@@ -66,6 +67,8 @@ pub fn hold(plan: Planner, check: Check, version: Version, seed: u64, cases: usi
             _ => books::tiny_book,
         };
         let values = books::drawn(&mut rng, version, family);
+        let (values, calendar) = calendars::with_calendar(&mut rng, values);
+        let lent = calendars::lent(&mut rng, &calendar);
         let mut book = encode_book(&values);
         let damaged = rng.chance(1, 8);
         if damaged {
@@ -75,7 +78,7 @@ pub fn hold(plan: Planner, check: Check, version: Version, seed: u64, cases: usi
         hold_values(pair[0], pair[1]);
         let changed = usize::from(pair[0] != pair[1]);
 
-        let room = match second_planner::outcome(&book) {
+        let room = match second_planner::outcome(&book, &lent) {
             Outcome::Planned(plan) => plan.table.len(),
             _ => 100,
         };
@@ -87,7 +90,8 @@ pub fn hold(plan: Planner, check: Check, version: Version, seed: u64, cases: usi
             let work = Lent::junk(&mut rng, &junk, length);
             let ends = pair.map(|book| {
                 let (mut output, mut work) = (output.clone(), work.clone());
-                (plan(book, output.slice(), work.slice()), output, work)
+                let answer = plan(book, &lent, output.slice(), work.slice());
+                (answer, output, work)
             });
             let answers = (ends[0].0, ends[1].0);
             assert!(ends[0] == ends[1], "{answers:?} of book {book:02x?}");
@@ -95,9 +99,9 @@ pub fn hold(plan: Planner, check: Check, version: Version, seed: u64, cases: usi
         }
 
         let valid = if rng.chance(1, 2) {
-            tables::planned_table(&values)
+            tables::planned_table(&values, &calendar)
         } else {
-            tables::delayed_table(&mut rng, &values)
+            tables::delayed_table(&mut rng, &values, &calendar)
         };
         let Some(valid) = valid else {
             continue;
@@ -105,13 +109,13 @@ pub fn hold(plan: Planner, check: Check, version: Version, seed: u64, cases: usi
         for case in 0..4 {
             let table = match case {
                 0 => valid.encode(&values),
-                _ => tables::damaged(&mut rng, &values, &valid),
+                _ => tables::damaged(&mut rng, &values, &calendar, &valid),
             };
             let length = rng.pick(&works);
             let work = Lent::junk(&mut rng, &junk, length);
             let ends = pair.map(|book| {
                 let mut work = work.clone();
-                (check(book, &table, work.slice()), work)
+                (check(book, &lent, &table, work.slice()), work)
             });
             let answer = ends[0].0;
             let answers = (answer, ends[1].0);
@@ -129,12 +133,12 @@ pub fn hold(plan: Planner, check: Check, version: Version, seed: u64, cases: usi
     println!("by the planner: {by_plan:?}");
     println!("by the check: {by_check:?}");
     wide_rows.hold();
-    let faults = || version.faults().iter().copied().chain([0, 11]);
+    let faults = || version.faults().iter().copied().chain([0, 11, 24]);
     for number in faults().chain([12, 13]) {
         let met = by_plan.map(|met| met[number as usize]);
         assert!(met[0] > 0 && met[1] > 0, "{number} was never met");
     }
-    for number in faults().chain(14..=21) {
+    for number in faults().chain(14..=21).chain([25]) {
         let met = by_check.map(|met| met[number as usize]);
         assert!(met[0] > 0 && met[1] > 0, "{number} was never met");
     }

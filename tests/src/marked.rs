@@ -1,15 +1,17 @@
-//! The marked plans A to G, held against any planner, any check, any dispatch list
-//! and any finish of one flow.
+//! The marked plans A to G without windows, and J with some, held against any planner,
+//! any check, any dispatch list and any finish of one flow.
 
 use crate::answer::{CheckAnswer, FinishAnswer, ListAnswer, PlanAnswer, Refusal, WORK_BYTES};
 use crate::books::{encode_book, encode_list, encode_table, fit_length};
+use crate::calendar::NO_WINDOWS;
 use crate::reader::{Book, Flow, Job, Version, VERSIONS};
 use crate::second_check::Row;
 
-pub type Planner = fn(&[u8], &mut [u8], &mut [u8]) -> PlanAnswer;
-pub type Check = fn(&[u8], &[u8], &mut [u8]) -> CheckAnswer;
-pub type Dispatch = fn(&[u8], &[u8], &mut [u8], &mut [u8]) -> ListAnswer;
-pub type Finish = fn(&[u8], u32, &mut [u8]) -> FinishAnswer;
+/// Each takes a book, its calendar, and what else the call takes.
+pub type Planner = fn(&[u8], &[u8], &mut [u8], &mut [u8]) -> PlanAnswer;
+pub type Check = fn(&[u8], &[u8], &[u8], &mut [u8]) -> CheckAnswer;
+pub type Dispatch = fn(&[u8], &[u8], &[u8], &mut [u8], &mut [u8]) -> ListAnswer;
+pub type Finish = fn(&[u8], &[u8], u32, &mut [u8]) -> FinishAnswer;
 
 const JUNK: u8 = 0xa5;
 
@@ -187,6 +189,61 @@ slot 4 flow 0 job 0 take 1
 slot 5 flow 0 job 0 take 1
 ";
 
+/// Book J, of version 2.
+pub const BOOK_J: [u8; 46] = [
+    0x00, 0x00, 0x00, 0x2e, 0x02, 0x00, 0x02, 0x02, // 46 bytes, version 2, P 2, 2 flows
+    0x00, 0x09, 0x00, 0x00, 0x01, // flow 0: deadline 9, release 0, 1 job
+    0x00, 0x00, 0x00, 0x09, 0x00, 0x02, // size 9, cap 2
+    0x00, 0x00, 0x00, 0x00, 0x00, 0x00, 0x00, 0x00, // free
+    0x00, 0x04, 0x00, 0x00, 0x01, // flow 1: deadline 4, release 0, 1 job
+    0x00, 0x00, 0x00, 0x02, 0x00, 0x01, // size 2, cap 1
+    0x00, 0x00, 0x00, 0x00, 0x00, 0x00, 0x00, 0x00, // free
+];
+
+/// Calendar J: slots 0, 3, 4 and 8 to 10 are shut.
+pub const CALENDAR_J: [u8; 18] = [
+    0x00, 0x00, 0x00, 0x12, 0x01, 0x03, // 18 bytes, version 1, 3 windows
+    0x00, 0x00, 0x00, 0x01, // first slot shut, first slot open again
+    0x00, 0x03, 0x00, 0x05, //
+    0x00, 0x08, 0x00, 0x0b, //
+];
+
+/// A calendar whose second window begins in the slot in which the first reopened.
+pub const TOUCHING: [u8; 14] = [
+    0x00, 0x00, 0x00, 0x0e, 0x01, 0x02, // 14 bytes, version 1, 2 windows
+    0x00, 0x03, 0x00, 0x05, //
+    0x00, 0x05, 0x00, 0x08, //
+];
+
+/// Slot, flow, job and take of the rows of plan J. The open slots are 1, 2, 5, 6, 7 and
+/// those from 11 on. Flow 0 shares the first two with flow 1; its chain is four times 2
+/// and then 1, which waits for slot 11.
+const ROWS_J: [[u16; 4]; 8] = [
+    [1, 1, 0, 1],
+    [2, 1, 0, 1],
+    [1, 0, 0, 1],
+    [2, 0, 0, 1],
+    [5, 0, 0, 2],
+    [6, 0, 0, 2],
+    [7, 0, 0, 2],
+    [11, 0, 0, 1],
+];
+
+/// The rows of the dispatch list of plan J.
+const LISTED_J: [[u16; 4]; 8] = [
+    [1, 0, 0, 1],
+    [1, 1, 0, 1],
+    [2, 0, 0, 1],
+    [2, 1, 0, 1],
+    [5, 0, 0, 2],
+    [6, 0, 0, 2],
+    [7, 0, 0, 2],
+    [11, 0, 0, 1],
+];
+
+/// The use of each slot in plan J.
+const USED_J: [u16; 12] = [0, 2, 2, 0, 0, 2, 2, 2, 0, 0, 0, 1];
+
 fn rows(listed: &[[u16; 4]]) -> Vec<Row> {
     let row = |&[slot, flow, job, take]: &[u16; 4]| Row {
         slot,
@@ -334,78 +391,148 @@ fn with_g(finish: u16, of_flow_0: &[[u16; 4]]) -> Vec<u8> {
     encode_table(3, &[finish, 3], &rows(&listed))
 }
 
+/// Table J with the third row of flow 0 in a slot; in the plan it is 5.
+pub fn table_j(slot: u16) -> Vec<u8> {
+    let mut listed = ROWS_J;
+    listed[4][0] = slot;
+    encode_table(2, &[12, 3], &rows(&listed))
+}
+
+/// What is owed of calls without windows.
 pub fn planned(plan: Planner, book: &[u8], table: &[u8], late: u8, used: &[u16]) {
+    planned_in(plan, book, &NO_WINDOWS, table, late, used);
+}
+
+pub fn not_planned(plan: Planner, book: &[u8], room: usize, refusal: Refusal) {
+    not_planned_in(plan, book, &NO_WINDOWS, room, refusal);
+}
+
+pub fn checked(check: Check, book: &[u8], table: &[u8], late: u8, used: &[u16]) {
+    checked_in(check, book, &NO_WINDOWS, table, late, used);
+}
+
+pub fn not_checked(check: Check, book: &[u8], table: &[u8], refusal: Refusal) {
+    not_checked_in(check, book, &NO_WINDOWS, table, refusal);
+}
+
+pub fn listed(dispatch: Dispatch, book: &[u8], table: &[u8], list: &[u8], used: &[u16]) {
+    listed_in(dispatch, book, &NO_WINDOWS, table, list, used);
+}
+
+pub fn not_listed(dispatch: Dispatch, book: &[u8], table: &[u8], room: usize, refusal: Refusal) {
+    not_listed_in(dispatch, book, &NO_WINDOWS, table, room, refusal);
+}
+
+pub fn finished(finish: Finish, book: &[u8], flow: u32, at: u16, used: &[u16]) {
+    finished_in(finish, book, &NO_WINDOWS, flow, at, used);
+}
+
+pub fn not_finished(finish: Finish, book: &[u8], flow: u32, refusal: Refusal) {
+    not_finished_in(finish, book, &NO_WINDOWS, flow, refusal);
+}
+
+/// The same with a calendar.
+pub fn planned_in(
+    plan: Planner,
+    book: &[u8],
+    calendar: &[u8],
+    table: &[u8],
+    late: u8,
+    used: &[u16],
+) {
     for room in [table.len(), table.len() + 1, table.len() + 100] {
         let mut output = vec![JUNK; room];
         let mut work = vec![JUNK; WORK_BYTES + 3];
-        let answer = plan(book, &mut output, &mut work);
+        let answer = plan(book, calendar, &mut output, &mut work);
         assert_eq!(answer, PlanAnswer::accepted(late, table.len() as u32));
         assert_eq!(&output[..table.len()], table);
         assert!(output[table.len()..].iter().all(|&byte| byte == JUNK));
         holds_use(&work, used);
     }
-    not_planned(plan, book, table.len() - 1, Refusal::of_all(13));
-    not_planned(plan, book, 0, Refusal::of_all(13));
+    for room in [table.len() - 1, 0] {
+        not_planned_in(plan, book, calendar, room, Refusal::of_all(13));
+    }
 }
 
-pub fn not_planned(plan: Planner, book: &[u8], room: usize, refusal: Refusal) {
+pub fn not_planned_in(plan: Planner, book: &[u8], calendar: &[u8], room: usize, refusal: Refusal) {
     let mut output = vec![JUNK; room];
     let mut work = vec![JUNK; WORK_BYTES + 3];
-    let answer = plan(book, &mut output, &mut work);
+    let answer = plan(book, calendar, &mut output, &mut work);
     assert_eq!(answer, PlanAnswer::refused(refusal));
     assert!(output.iter().all(|&byte| byte == JUNK));
     left_by(refusal, &work);
 }
 
-pub fn checked(check: Check, book: &[u8], table: &[u8], late: u8, used: &[u16]) {
+pub fn checked_in(
+    check: Check,
+    book: &[u8],
+    calendar: &[u8],
+    table: &[u8],
+    late: u8,
+    used: &[u16],
+) {
     let mut work = vec![JUNK; WORK_BYTES + 3];
-    let answer = check(book, table, &mut work);
+    let answer = check(book, calendar, table, &mut work);
     assert_eq!(answer, CheckAnswer::accepted(late));
     holds_use(&work, used);
 }
 
-pub fn not_checked(check: Check, book: &[u8], table: &[u8], refusal: Refusal) {
+pub fn not_checked_in(check: Check, book: &[u8], calendar: &[u8], table: &[u8], refusal: Refusal) {
     let mut work = vec![JUNK; WORK_BYTES + 3];
-    let answer = check(book, table, &mut work);
+    let answer = check(book, calendar, table, &mut work);
     assert_eq!(answer, CheckAnswer::refused(refusal));
     left_by(refusal, &work);
 }
 
-pub fn listed(dispatch: Dispatch, book: &[u8], table: &[u8], list: &[u8], used: &[u16]) {
+pub fn listed_in(
+    dispatch: Dispatch,
+    book: &[u8],
+    calendar: &[u8],
+    table: &[u8],
+    list: &[u8],
+    used: &[u16],
+) {
     for room in [list.len(), list.len() + 1, list.len() + 100] {
         let mut output = vec![JUNK; room];
         let mut work = vec![JUNK; WORK_BYTES + 3];
-        let answer = dispatch(book, table, &mut output, &mut work);
+        let answer = dispatch(book, calendar, table, &mut output, &mut work);
         assert_eq!(answer, ListAnswer::accepted(list.len() as u32));
         assert_eq!(&output[..list.len()], list);
         assert!(output[list.len()..].iter().all(|&byte| byte == JUNK));
         holds_use(&work, used);
     }
     for room in [list.len() - 1, 0] {
-        not_listed(dispatch, book, table, room, Refusal::of_all(13));
+        not_listed_in(dispatch, book, calendar, table, room, Refusal::of_all(13));
     }
 }
 
-pub fn not_listed(dispatch: Dispatch, book: &[u8], table: &[u8], room: usize, refusal: Refusal) {
+pub fn not_listed_in(
+    dispatch: Dispatch,
+    book: &[u8],
+    calendar: &[u8],
+    table: &[u8],
+    room: usize,
+    refusal: Refusal,
+) {
     let mut output = vec![JUNK; room];
     let mut work = vec![JUNK; WORK_BYTES + 3];
-    let answer = dispatch(book, table, &mut output, &mut work);
+    let answer = dispatch(book, calendar, table, &mut output, &mut work);
     assert_eq!(answer, ListAnswer::refused(refusal));
     assert!(output.iter().all(|&byte| byte == JUNK));
     left_by(refusal, &work);
 }
 
-pub fn finished(finish: Finish, book: &[u8], flow: u32, at: u16, used: &[u16]) {
+pub fn finished_in(finish: Finish, book: &[u8], calendar: &[u8], flow: u32, at: u16, used: &[u16]) {
     let mut work = vec![JUNK; WORK_BYTES + 3];
-    let answer = finish(book, flow, &mut work);
+    let answer = finish(book, calendar, flow, &mut work);
     assert_eq!(answer, FinishAnswer::accepted(at));
     holds_use(&work, used);
-    in_short_area(finish, book, flow, Refusal::of_all(11));
+    in_short_area(finish, book, calendar, flow, Refusal::of_all(11));
 }
 
-pub fn not_finished(finish: Finish, book: &[u8], flow: u32, refusal: Refusal) {
+pub fn not_finished_in(finish: Finish, book: &[u8], calendar: &[u8], flow: u32, refusal: Refusal) {
     let mut work = vec![JUNK; WORK_BYTES + 3];
-    let answer = finish(book, flow, &mut work);
+    let answer = finish(book, calendar, flow, &mut work);
     assert_eq!(answer, FinishAnswer::refused(refusal));
     left_by(refusal, &work);
     // All but 12 come before 11.
@@ -413,14 +540,14 @@ pub fn not_finished(finish: Finish, book: &[u8], flow: u32, refusal: Refusal) {
         12 => Refusal::of_all(11),
         _ => refusal,
     };
-    in_short_area(finish, book, flow, first);
+    in_short_area(finish, book, calendar, flow, first);
 }
 
 /// In a work area of one byte less than it needs, and of none.
-fn in_short_area(finish: Finish, book: &[u8], flow: u32, refusal: Refusal) {
+fn in_short_area(finish: Finish, book: &[u8], calendar: &[u8], flow: u32, refusal: Refusal) {
     for length in [WORK_BYTES - 1, 0] {
         let mut work = vec![JUNK; length];
-        let answer = finish(book, flow, &mut work);
+        let answer = finish(book, calendar, flow, &mut work);
         assert_eq!(answer, FinishAnswer::refused(refusal));
         assert!(work.iter().all(|&byte| byte == JUNK));
     }
@@ -436,7 +563,7 @@ fn holds_use(work: &[u8], used: &[u16]) {
 
 fn left_by(refusal: Refusal, work: &[u8]) {
     let zeroed = match refusal.number {
-        ..=11 | 22 | 23 => 0,
+        ..=11 | 22 | 23 | 24 => 0,
         _ => WORK_BYTES,
     };
     assert!(work[..zeroed].iter().all(|&byte| byte == 0));
@@ -480,6 +607,16 @@ pub fn hold_planner(plan: Planner) {
         let book = book_g(Version::Two, release);
         not_planned(plan, &book, 100, Refusal::new(22, 0, 255));
     }
+    planned_in(plan, &BOOK_J, &CALENDAR_J, &table_j(5), 1, &USED_J);
+    for calendar in [&TOUCHING[..], &[]] {
+        not_planned_in(plan, &BOOK_J, calendar, 60, Refusal::of_all(24));
+    }
+    // One open slot before the deadline of C, so two before its limit.
+    let rows_c = rows(&[[1, 0, 0, 1], [2, 0, 0, 1]]);
+    let table = encode_table(2, &[3], &rows_c);
+    planned_in(plan, &book_c(2), &CALENDAR_J, &table, 1, &[0, 1, 1]);
+    let infeasible = Refusal::new(12, 0, 255);
+    not_planned_in(plan, &book_c(3), &CALENDAR_J, 40, infeasible);
 }
 
 /// Holds the marked plans and tables against a check.
@@ -539,6 +676,15 @@ pub fn hold_check(check: Check) {
         let book = book_g(Version::Two, release);
         not_checked(check, &book, &table_g(), Refusal::new(22, 0, 255));
     }
+    checked_in(check, &BOOK_J, &CALENDAR_J, &table_j(5), 1, &USED_J);
+    // In a shut slot, which without windows is one like the others.
+    let shut = table_j(4);
+    not_checked_in(check, &BOOK_J, &CALENDAR_J, &shut, Refusal::new(25, 0, 0));
+    let used = [0, 2, 2, 0, 2, 0, 2, 2, 0, 0, 0, 1];
+    checked(check, &BOOK_J, &shut, 1, &used);
+    for calendar in [&TOUCHING[..], &[]] {
+        not_checked_in(check, &BOOK_J, calendar, &table_j(5), Refusal::of_all(24));
+    }
 }
 
 /// Holds the marked plans and tables against a dispatch list.
@@ -590,6 +736,15 @@ pub fn hold_dispatch(dispatch: Dispatch) {
     refused(&BOOK_G, &moved_g(1, 1), Refusal::new(19, 0, 0));
     let book = book_g(Version::Two, 6);
     refused(&book, &table_g(), Refusal::new(22, 0, 255));
+    let (table, shut) = (table_j(5), table_j(4));
+    let list_j = encode_list(2, &rows(&LISTED_J));
+    listed_in(dispatch, &BOOK_J, &CALENDAR_J, &table, &list_j, &USED_J);
+    for room in [0, 100] {
+        let refusal = Refusal::new(25, 0, 0);
+        not_listed_in(dispatch, &BOOK_J, &CALENDAR_J, &shut, room, refusal);
+        let refusal = Refusal::of_all(24);
+        not_listed_in(dispatch, &BOOK_J, &TOUCHING, &table, room, refusal);
+    }
 }
 
 /// Holds the marked plans against a finish of one flow.
@@ -648,4 +803,14 @@ pub fn hold_finish(finish: Finish) {
     finished(&book, 1, 3, &[2, 2, 1]);
     finished(&book, 2, 8, &[3, 3, 2, 1, 1, 1, 1, 1]);
     finished(&book, 0, 9, &[3, 3, 3, 3, 2, 2, 3, 2, 1]);
+    finished_in(finish, &BOOK_J, &CALENDAR_J, 0, 12, &USED_J);
+    finished_in(finish, &BOOK_J, &CALENDAR_J, 1, 3, &[0, 1, 1]);
+    for flow in no_flows(2) {
+        for calendar in [&CALENDAR_J[..], &TOUCHING, &[]] {
+            not_finished_in(finish, &BOOK_J, calendar, flow, Refusal::of_all(23));
+        }
+    }
+    for calendar in [&TOUCHING[..], &[]] {
+        not_finished_in(finish, &BOOK_J, calendar, 1, Refusal::of_all(24));
+    }
 }

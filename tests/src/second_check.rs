@@ -4,6 +4,7 @@
 //! held against it in the tests.
 
 use crate::answer::{CheckAnswer, Refusal, NONE, SLOTS, WORK_BYTES};
+use crate::calendar::{read_calendar, windows_in, Calendar, LAST_REOPENING};
 use crate::reader::{
     be16, be32, be64, cap_in_use, read_book, Book, Version, BOOK_HEAD, JOB_RECORD, MOST_DEADLINE,
     MOST_FLOWS, MOST_JOBS, MOST_PROCESSORS, MOST_SIZE,
@@ -32,30 +33,30 @@ pub fn row_at(rows: &[u8]) -> Row {
     }
 }
 
-type Records<'a> = &'a [[u8; JOB_RECORD]];
-type Rows<'a> = &'a [[u8; ROW]];
-type Use = [[u8; 2]; SLOTS];
+pub(crate) type Records<'a> = &'a [[u8; JOB_RECORD]];
+pub(crate) type Rows<'a> = &'a [[u8; ROW]];
+pub(crate) type Use = [[u8; 2]; SLOTS];
 
 /// A book that passed 1 to 10 and 22, read where it lies.
-struct Index<'a> {
-    processors: u32,
-    flows: usize,
-    deadlines: [u16; MOST_FLOWS],
-    releases: [u16; MOST_FLOWS],
-    records: [Records<'a>; MOST_FLOWS],
+pub(crate) struct Index<'a> {
+    pub processors: u32,
+    pub flows: usize,
+    pub deadlines: [u16; MOST_FLOWS],
+    pub releases: [u16; MOST_FLOWS],
+    pub records: [Records<'a>; MOST_FLOWS],
 }
 
 /// One job of the flow whose rows are walked, its cap as used, with the sum of its
 /// rows so far.
 #[derive(Clone, Copy)]
-struct Ledger {
-    size: u32,
-    cap: u16,
-    precedence: u64,
-    total: u32,
+pub(crate) struct Ledger {
+    pub size: u32,
+    pub cap: u16,
+    pub precedence: u64,
+    pub total: u32,
 }
 
-const BLANK: Ledger = Ledger {
+pub(crate) const BLANK: Ledger = Ledger {
     size: 0,
     cap: 0,
     precedence: 0,
@@ -64,15 +65,15 @@ const BLANK: Ledger = Ledger {
 
 /// The complete jobs of that flow, as bits: those that were so before `slot`, and
 /// those that `slot` itself completed.
-struct Complete {
-    slot: u16,
-    earlier: u64,
-    here: u64,
+pub(crate) struct Complete {
+    pub slot: u16,
+    pub earlier: u64,
+    pub here: u64,
 }
 
 impl Complete {
     /// The jobs that are complete before a slot. Slots never fall.
-    fn before(&mut self, slot: u16) -> u64 {
+    pub fn before(&mut self, slot: u16) -> u64 {
         if slot != self.slot {
             self.earlier |= self.here;
             self.here = 0;
@@ -81,7 +82,7 @@ impl Complete {
         self.earlier
     }
 
-    fn add(&mut self, slot: u16, job: u8) {
+    pub fn add(&mut self, slot: u16, job: u8) {
         self.before(slot);
         self.here |= 1 << job;
     }
@@ -89,23 +90,33 @@ impl Complete {
 
 /// What is kept of each flow: its finish, and the first job whose total is off.
 /// A flow without rows is off at job 0.
-struct Tally {
-    finishes: [u16; MOST_FLOWS],
-    off: [Option<u8>; MOST_FLOWS],
+pub(crate) struct Tally {
+    pub finishes: [u16; MOST_FLOWS],
+    pub off: [Option<u8>; MOST_FLOWS],
 }
 
-/// Checks a table against a book. On acceptance the work area holds the use of
-/// each slot; a refusal after 11 zeroes it.
-pub fn check(book: &[u8], table: &[u8], work: &mut [u8]) -> CheckAnswer {
+/// Which slots are shut, up to the last that a window can shut.
+type Shut = [bool; LAST_REOPENING as usize];
+
+/// Checks a table against a book and its calendar. On acceptance the work area
+/// holds the use of each slot; a refusal after 11 zeroes it.
+pub fn check(book: &[u8], calendar: &[u8], table: &[u8], work: &mut [u8]) -> CheckAnswer {
     let book = match index(book) {
         Ok(book) => book,
         Err(refusal) => return CheckAnswer::refused(refusal),
     };
+    let Some(windows) = windows_in(calendar) else {
+        return CheckAnswer::refused(Refusal::of_all(24));
+    };
+    let mut shut: Shut = [false; LAST_REOPENING as usize];
+    for [from, to] in windows {
+        shut[from..to].fill(true);
+    }
     let Some(work) = work.first_chunk_mut::<WORK_BYTES>() else {
         return CheckAnswer::refused(Refusal::of_all(11));
     };
     work.fill(0);
-    match walk(&book, table, work) {
+    match walk(&book, &shut, table, work) {
         Ok(late) => CheckAnswer::accepted(late),
         Err(refusal) => {
             work.fill(0);
@@ -115,7 +126,7 @@ pub fn check(book: &[u8], table: &[u8], work: &mut [u8]) -> CheckAnswer {
 }
 
 /// 1 to 10 and 22, and the index of a book that passes.
-fn index(bytes: &[u8]) -> Result<Index<'_>, Refusal> {
+pub(crate) fn index(bytes: &[u8]) -> Result<Index<'_>, Refusal> {
     let Some((head, mut rest)) = bytes.split_first_chunk::<BOOK_HEAD>() else {
         return Err(Refusal::of_all(1));
     };
@@ -191,7 +202,7 @@ fn records_fit(flow: u8, records: Records) -> Result<(), Refusal> {
 }
 
 /// Refusal 14: the head, the finishes and the length of the rows.
-fn head_fits(processors: u32, flows: usize, table: &[u8]) -> bool {
+pub(crate) fn head_fits(processors: u32, flows: usize, table: &[u8]) -> bool {
     let rows_from = TABLE_HEAD + FINISH * flows;
     table.len() >= rows_from
         && be32(table, 0) as usize == table.len()
@@ -201,9 +212,14 @@ fn head_fits(processors: u32, flows: usize, table: &[u8]) -> bool {
         && (table.len() - rows_from).is_multiple_of(ROW)
 }
 
-/// 14 to 21, and the late flows of a table that passes. Rows of a flow stand
+/// 14 to 21 and 25, and the late flows of a table that passes. Rows of a flow stand
 /// together, so ledgers are kept of one flow at a time.
-fn walk(book: &Index, table: &[u8], work: &mut [u8; WORK_BYTES]) -> Result<u8, Refusal> {
+fn walk(
+    book: &Index,
+    shut: &Shut,
+    table: &[u8],
+    work: &mut [u8; WORK_BYTES],
+) -> Result<u8, Refusal> {
     if !head_fits(book.processors, book.flows, table) {
         return Err(Refusal::of_all(14));
     }
@@ -226,10 +242,15 @@ fn walk(book: &Index, table: &[u8], work: &mut [u8; WORK_BYTES]) -> Result<u8, R
         // A flow that is not after the one before it: 16 at its first row.
         let service = Some((book.deadlines[at], flow));
         let least = if service > before { 0 } else { u32::MAX };
-        let release = book.releases[at];
+        let place = Place {
+            flow,
+            release: book.releases[at],
+            processors: book.processors,
+            shut,
+        };
         let ledgers = open(book.processors, records, &mut ledgers);
         let finish;
-        (finish, rows) = walk_flow(flow, least, release, book.processors, ledgers, used, rows)?;
+        (finish, rows) = walk_flow(place, least, ledgers, used, rows)?;
         tally.finishes[at] = finish;
         tally.off[at] = first_off(ledgers);
         before = service;
@@ -238,7 +259,7 @@ fn walk(book: &Index, table: &[u8], work: &mut [u8; WORK_BYTES]) -> Result<u8, R
 }
 
 /// Fresh ledgers for the jobs of a flow.
-fn open<'a>(
+pub(crate) fn open<'a>(
     processors: u32,
     records: Records,
     ledgers: &'a mut [Ledger; MOST_JOBS],
@@ -255,23 +276,35 @@ fn open<'a>(
 }
 
 /// The first job whose total is off.
-fn first_off(ledgers: &[Ledger]) -> Option<u8> {
+pub(crate) fn first_off(ledgers: &[Ledger]) -> Option<u8> {
     let off = ledgers.iter().position(|job| job.total != job.size);
     off.map(|job| job as u8)
 }
 
-/// 15 to 19 for the rows of one flow, with which `rows` begins; the flow's finish
-/// and the rows behind it. The next row's place, by slot and job, is at least
-/// `least`.
-fn walk_flow<'a>(
+/// What the rows of one flow are held against besides its jobs.
+struct Place<'a> {
     flow: u8,
-    mut least: u32,
     release: u16,
     processors: u32,
+    shut: &'a Shut,
+}
+
+/// 15, 25 and 16 to 19 for the rows of one flow, with which `rows` begins; the flow's
+/// finish and the rows behind it. The next row's place, by slot and job, is at least
+/// `least`.
+fn walk_flow<'a>(
+    place: Place,
+    mut least: u32,
     ledgers: &mut [Ledger],
     used: &mut Use,
     rows: Rows<'a>,
 ) -> Result<(u16, Rows<'a>), Refusal> {
+    let Place {
+        flow,
+        release,
+        processors,
+        shut,
+    } = place;
     let mut complete = Complete {
         slot: 0,
         earlier: 0,
@@ -295,6 +328,9 @@ fn walk_flow<'a>(
         };
         if take == 0 {
             return refuse(15);
+        }
+        if shut.get(slot as usize) == Some(&true) {
+            return refuse(25);
         }
         let place = u32::from(slot) << 8 | u32::from(job);
         if place < least {
@@ -328,7 +364,7 @@ fn walk_flow<'a>(
 }
 
 /// 20, 21 and the late flows.
-fn close(book: &Index, tally: &Tally, stated: &[u8]) -> Result<u8, Refusal> {
+pub(crate) fn close(book: &Index, tally: &Tally, stated: &[u8]) -> Result<u8, Refusal> {
     for (flow, off) in tally.off[..book.flows].iter().enumerate() {
         if let Some(job) = *off {
             return Err(Refusal::new(20, flow as u8, job));
@@ -351,16 +387,25 @@ fn close(book: &Index, tally: &Tally, stated: &[u8]) -> Result<u8, Refusal> {
 
 /// The same check with no memory between rows: every sum is taken anew over
 /// the rows so far. Quadratic, for small tables.
-pub fn check_by_definition(book: &[u8], table: &[u8], work: &mut [u8]) -> CheckAnswer {
+pub fn check_by_definition(
+    book: &[u8],
+    calendar: &[u8],
+    table: &[u8],
+    work: &mut [u8],
+) -> CheckAnswer {
     let book = match read_book(book) {
         Ok(book) => book,
+        Err(refusal) => return CheckAnswer::refused(refusal),
+    };
+    let calendar = match read_calendar(calendar) {
+        Ok(calendar) => calendar,
         Err(refusal) => return CheckAnswer::refused(refusal),
     };
     if work.len() < WORK_BYTES {
         return CheckAnswer::refused(Refusal::of_all(11));
     }
     work[..WORK_BYTES].fill(0);
-    match judge(&book, table) {
+    match judge(&book, &calendar, table) {
         Err(refusal) => CheckAnswer::refused(refusal),
         Ok((late, rows)) => {
             for slot in 0..SLOTS {
@@ -385,7 +430,7 @@ fn done_before(rows: &[Row], flow: u8, job: u8, slot: u32) -> u32 {
     earlier.map(|row| u32::from(row.take)).sum()
 }
 
-fn judge(book: &Book, table: &[u8]) -> Result<(u8, Vec<Row>), Refusal> {
+fn judge(book: &Book, calendar: &Calendar, table: &[u8]) -> Result<(u8, Vec<Row>), Refusal> {
     if !head_fits(book.processors, book.flows.len(), table) {
         return Err(Refusal::of_all(14));
     }
@@ -405,6 +450,10 @@ fn judge(book: &Book, table: &[u8]) -> Result<(u8, Vec<Row>), Refusal> {
         };
         if row.slot > 8_191 || row.take == 0 {
             return refuse(15);
+        }
+        // "25 when a row uses a shut slot, between 15 and 16" (02, Req 07).
+        if !calendar.is_open(u32::from(row.slot)) {
+            return refuse(25);
         }
         if index > 0 {
             let last = &rows[index - 1];

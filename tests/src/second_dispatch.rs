@@ -25,8 +25,14 @@ pub fn list_of(table: &[u8]) -> Vec<u8> {
 }
 
 /// The dispatch list as it is called.
-pub fn dispatch(book: &[u8], table: &[u8], output: &mut [u8], work: &mut [u8]) -> ListAnswer {
-    let checked = second_check::check(book, table, work);
+pub fn dispatch(
+    book: &[u8],
+    calendar: &[u8],
+    table: &[u8],
+    output: &mut [u8],
+    work: &mut [u8],
+) -> ListAnswer {
+    let checked = second_check::check(book, calendar, table, work);
     if checked.number != 0 {
         let refusal = Refusal::new(checked.number, checked.flow, checked.job);
         return ListAnswer::refused(refusal);

@@ -4,6 +4,7 @@
 
 use crate::answer::{PlanAnswer, Refusal, NONE, SLOTS, WORK_BYTES};
 use crate::books::encode_table;
+use crate::calendar::{read_calendar, Calendar};
 use crate::reader::{predecessors, read_book, Book, Flow, Job};
 use crate::second_check::{Row, FINISH, ROW, TABLE_HEAD};
 
@@ -131,14 +132,22 @@ pub fn chain(flow: &Flow, processors: u32) -> Vec<PseudoJob> {
 
 /// Rule 5: hands out the units of a pseudo-job one by one. All slots of its run
 /// are alike, so after the last job's units come the first job's again.
-struct Units<'a> {
+pub(crate) struct Units<'a> {
     takes: &'a [u32],
     job: usize,
     given: u32,
 }
 
 impl Units<'_> {
-    fn next_job(&mut self) -> usize {
+    pub fn of(pseudo_job: &PseudoJob) -> Units<'_> {
+        Units {
+            takes: &pseudo_job.takes,
+            job: 0,
+            given: 0,
+        }
+    }
+
+    pub fn next_job(&mut self) -> usize {
         while self.given == self.takes[self.job] {
             self.job = (self.job + 1) % self.takes.len();
             self.given = 0;
@@ -160,13 +169,13 @@ pub struct Schedule {
     pub late: u8,
 }
 
-/// Rules 4 to 7 for a whole book, or the flow that is infeasible.
-pub fn schedule(book: &Book) -> Result<Schedule, u8> {
+/// Rules 4 to 7 for a whole book with its calendar, or the flow that is infeasible.
+pub fn schedule(book: &Book, calendar: &Calendar) -> Result<Schedule, u8> {
     let mut rows = Vec::new();
     let mut finishes = vec![0; book.flows.len()];
     let mut used = vec![0u32; SLOTS];
     for flow in book.service_order() {
-        let finish = place(book, flow, &mut used, &mut rows).ok_or(flow as u8)?;
+        let finish = place(book, calendar, flow, &mut used, &mut rows).ok_or(flow as u8)?;
         finishes[flow] = finish;
     }
     let stated = finishes.iter().zip(&book.flows);
@@ -181,24 +190,33 @@ pub fn schedule(book: &Book) -> Result<Schedule, u8> {
     })
 }
 
-/// Rules 4 to 6 for one flow: its finish, or nothing where it is not finished
-/// after slot 2 x deadline - 1. Slots before its release give it nothing.
-pub fn place(book: &Book, number: usize, used: &mut [u32], rows: &mut Vec<Row>) -> Option<u16> {
+/// Rules 4 to 6 for one flow: its finish, or nothing where it is "unfinished when that
+/// many open slots from slot 0 have passed": twice as many as stand before its deadline
+/// (02, Req 07). Shut slots are passed over; slots before its release give it nothing.
+pub fn place(
+    book: &Book,
+    calendar: &Calendar,
+    number: usize,
+    used: &mut [u32],
+    rows: &mut Vec<Row>,
+) -> Option<u16> {
     let flow = &book.flows[number];
     let chain = chain(flow, book.processors);
+    let twice = 2 * calendar.open_before(flow.deadline);
     let mut shares = vec![0u16; flow.jobs.len()];
     let mut slot = 0;
+    let mut passed = 0;
     for pseudo_job in &chain {
         let rate = pseudo_job.rate();
         let mut remaining = pseudo_job.work();
-        let mut units = Units {
-            takes: &pseudo_job.takes,
-            job: 0,
-            given: 0,
-        };
+        let mut units = Units::of(pseudo_job);
         while remaining > 0 {
-            if slot == 2 * flow.deadline as usize {
+            if passed == twice {
                 return None;
+            }
+            if !calendar.is_open(slot as u32) {
+                slot += 1;
+                continue;
             }
             let free = u64::from(book.processors - used[slot]);
             let gets = if slot < flow.release as usize {
@@ -222,6 +240,7 @@ pub fn place(book: &Book, number: usize, used: &mut [u32], rows: &mut Vec<Row>) 
             }
             used[slot] += gets as u32;
             remaining -= gets;
+            passed += 1;
             slot += 1;
         }
     }
@@ -230,7 +249,7 @@ pub fn place(book: &Book, number: usize, used: &mut [u32], rows: &mut Vec<Row>) 
 
 /// What the planner makes of a book before output and work area are looked at.
 pub enum Outcome {
-    /// Refused by 1 to 10 or 22.
+    /// Refused by 1 to 10, 22 or 24.
     Faulty(Refusal),
     /// Refused by 12 where the work area is long enough.
     Infeasible(u8),
@@ -243,13 +262,17 @@ pub struct Plan {
     pub table: Vec<u8>,
 }
 
-/// Reads and plans a book.
-pub fn outcome(book: &[u8]) -> Outcome {
+/// Reads a book and its calendar, and plans the book.
+pub fn outcome(book: &[u8], calendar: &[u8]) -> Outcome {
     let book = match read_book(book) {
         Ok(book) => book,
         Err(refusal) => return Outcome::Faulty(refusal),
     };
-    match schedule(&book) {
+    let calendar = match read_calendar(calendar) {
+        Ok(calendar) => calendar,
+        Err(refusal) => return Outcome::Faulty(refusal),
+    };
+    match schedule(&book, &calendar) {
         Err(flow) => Outcome::Infeasible(flow),
         Ok(schedule) => {
             let table = encode_table(book.processors as u16, &schedule.finishes, &schedule.rows);
@@ -292,6 +315,6 @@ pub fn deliver(outcome: &Outcome, output: &mut [u8], work: &mut [u8]) -> PlanAns
 }
 
 /// The planner as it is called.
-pub fn plan(book: &[u8], output: &mut [u8], work: &mut [u8]) -> PlanAnswer {
-    deliver(&outcome(book), output, work)
+pub fn plan(book: &[u8], calendar: &[u8], output: &mut [u8], work: &mut [u8]) -> PlanAnswer {
+    deliver(&outcome(book, calendar), output, work)
 }

@@ -1,10 +1,11 @@
 //! Valid tables that the planner would not make, tables near a valid one, and
 //! damage to tables such that every refusal of the check is met and several faults
-//! stand together, also before and about a release, and at jobs whose cap is above
-//! P.
+//! stand together, also before and about a release, in and about a window, and at
+//! jobs whose cap is above P.
 
 use crate::answer::{CheckAnswer, NUMBERS, SLOTS};
 use crate::books::{encode_table, fit_length};
+use crate::calendar::Calendar;
 use crate::reader::{predecessors, Book, Flow, Job};
 use crate::rng::Rng;
 use crate::second_check::{row_at, Row, FINISH, ROW, TABLE_HEAD};
@@ -24,8 +25,8 @@ impl Table {
 }
 
 /// The planner's own table.
-pub fn planned_table(book: &Book) -> Option<Table> {
-    let schedule = second_planner::schedule(book).ok()?;
+pub fn planned_table(book: &Book, calendar: &Calendar) -> Option<Table> {
+    let schedule = second_planner::schedule(book, calendar).ok()?;
     Some(Table {
         finishes: schedule.finishes,
         rows: schedule.rows,
@@ -52,9 +53,9 @@ pub fn finishes_of(book: &Book, rows: &[Row]) -> Vec<u16> {
     finishes
 }
 
-/// A valid schedule by a list scheduler that delays at random; it may end far
-/// beyond twice a deadline. Nothing where it passes slot 8,191.
-pub fn delayed_table(rng: &mut Rng, book: &Book) -> Option<Table> {
+/// A valid schedule by a list scheduler that delays at random and uses open slots
+/// only; it may end far beyond twice a deadline. Nothing where it passes slot 8,191.
+pub fn delayed_table(rng: &mut Rng, book: &Book, calendar: &Calendar) -> Option<Table> {
     let mut left: Vec<Vec<u32>> = Vec::new();
     let mut jobs: Vec<(usize, usize)> = Vec::new();
     for (flow, record) in book.flows.iter().enumerate() {
@@ -71,7 +72,7 @@ pub fn delayed_table(rng: &mut Rng, book: &Book) -> Option<Table> {
         if jobs.is_empty() {
             break;
         }
-        if rng.chance(idle, 8) {
+        if rng.chance(idle, 8) || !calendar.is_open(slot as u32) {
             continue;
         }
         if rng.chance(1, 3) {
@@ -110,10 +111,13 @@ pub fn delayed_table(rng: &mut Rng, book: &Book) -> Option<Table> {
         return None;
     }
     if rng.chance(1, 16) {
-        // The same schedule, moved so that it ends in the last slot.
+        // The same schedule, moved so that it ends in the last slot, where that moves
+        // no row into a window.
         let last = rows.iter().map(|row| row.slot).max().unwrap_or(0);
-        for row in &mut rows {
-            row.slot += SLOTS as u16 - 1 - last;
+        let later = SLOTS as u16 - 1 - last;
+        let mut moved = rows.iter().map(|row| u32::from(row.slot + later));
+        if moved.all(|slot| calendar.is_open(slot)) {
+            rows.iter_mut().for_each(|row| row.slot += later);
         }
     }
     sort_rows(book, &mut rows);
@@ -271,6 +275,27 @@ fn near_release(rng: &mut Rng, book: &Book, rows: &mut [Row], at: usize) {
     }
 }
 
+/// Moves a row into a window, to the last slot before it or to the one that is open
+/// again; at times with no processors, as of no flow, or in the place of another row.
+fn near_window(rng: &mut Rng, calendar: &Calendar, rows: &mut [Row], at: usize) {
+    if calendar.windows.is_empty() {
+        return;
+    }
+    let window = rng.pick(&calendar.windows);
+    let (first, last) = (window.shut as u16, window.again as u16 - 1);
+    let before = first.saturating_sub(1);
+    rows[at].slot = rng.pick(&[first, last, first, last, before, last + 1]);
+    match rng.below(8) {
+        0 => rows[at].take = 0,
+        1 => rows[at].flow = 255,
+        2 => {
+            let other = rng.index(rows.len());
+            rows.swap(at, other);
+        }
+        _ => {}
+    }
+}
+
 /// Gives a row of a job whose cap is above P all processors, one more, or as many
 /// as that cap says; the other rows of the slot stay or go.
 fn near_processors(rng: &mut Rng, book: &Book, rows: &mut Vec<Row>) {
@@ -363,7 +388,7 @@ impl WideRows {
 }
 
 /// Damages the rows or the finishes in one place.
-fn damage_once(rng: &mut Rng, book: &Book, table: &mut Table) {
+fn damage_once(rng: &mut Rng, book: &Book, calendar: &Calendar, table: &mut Table) {
     let flows = book.flows.len() as u64;
     let rows = &mut table.rows;
     if rows.is_empty() || rng.chance(1, 16) {
@@ -379,7 +404,7 @@ fn damage_once(rng: &mut Rng, book: &Book, table: &mut Table) {
     }
     let at = rng.index(rows.len());
     let other = rng.index(rows.len());
-    match rng.below(20) {
+    match rng.below(22) {
         0 => rows[at].slot = nudge(rng, rows[at].slot),
         1 => rows[at].slot = rows[other].slot,
         2 => {
@@ -464,6 +489,7 @@ fn damage_once(rng: &mut Rng, book: &Book, table: &mut Table) {
             rows[at].take = take;
         }
         17 | 18 => near_processors(rng, book, rows),
+        19 | 20 => near_window(rng, calendar, rows, at),
         _ => rows[at].take = rows[at].take.saturating_mul(2),
     }
 }
@@ -499,11 +525,11 @@ fn damage_bytes(rng: &mut Rng, bytes: &mut Vec<u8>) {
 
 /// A damaged copy of a table, encoded. Often the rows are sorted again, so that
 /// a fault of order does not hide the later ones, and the finishes made to fit.
-pub fn damaged(rng: &mut Rng, book: &Book, table: &Table) -> Vec<u8> {
+pub fn damaged(rng: &mut Rng, book: &Book, calendar: &Calendar, table: &Table) -> Vec<u8> {
     let mut table = table.clone();
     if !rng.chance(1, 8) {
         for _ in 0..rng.pick(&[1, 1, 1, 1, 2, 2, 3, 5]) {
-            damage_once(rng, book, &mut table);
+            damage_once(rng, book, calendar, &mut table);
         }
         if rng.chance(1, 2) {
             sort_rows(book, &mut table.rows);

@@ -4,6 +4,7 @@
 
 use crate::answer::{NUMBERS, WORK_BYTES};
 use crate::books::{self, encode_book, fit_length};
+use crate::calendars;
 use crate::marked::{Check, Planner};
 use crate::reader::{Book, Version, BOOK_HEAD, JOB_RECORD, VERSIONS};
 use crate::rng::Rng;
@@ -118,6 +119,8 @@ pub fn hold(plan: Planner, check: Check, seed: u64, cases: usize) {
             _ => books::tiny_book(&mut rng),
         };
         let book = books::with_caps(&mut rng, book);
+        let calendar = calendars::valid(&mut rng, &book);
+        let lent = calendars::lent(&mut rng, &calendar);
         let of_twins = twins(&mut rng, &book);
         let room = rng.skewed(0, 1 << 14) as usize;
         let work_length = WORK_BYTES + 3 - rng.pick(&[0, 0, 0, 4]);
@@ -125,15 +128,15 @@ pub fn hold(plan: Planner, check: Check, seed: u64, cases: usize) {
         let planned = of_twins.each_ref().map(|book| {
             let mut output = vec![0x3c; room];
             let mut work = vec![0x3c; work_length];
-            (plan(book, &mut output, &mut work), output, work)
+            (plan(book, &lent, &mut output, &mut work), output, work)
         });
         assert!(planned[0] == planned[1], "books {of_twins:02x?}");
         by_plan[planned[0].0.number as usize] += 1;
 
         let table = if rng.chance(1, 2) {
-            tables::planned_table(&book)
+            tables::planned_table(&book, &calendar)
         } else {
-            tables::delayed_table(&mut rng, &book)
+            tables::delayed_table(&mut rng, &book, &calendar)
         };
         let Some(table) = table else {
             continue;
@@ -141,11 +144,11 @@ pub fn hold(plan: Planner, check: Check, seed: u64, cases: usize) {
         let table = if rng.chance(1, 3) {
             table.encode(&book)
         } else {
-            tables::damaged(&mut rng, &book, &table)
+            tables::damaged(&mut rng, &book, &calendar, &table)
         };
         let checked = of_twins.each_ref().map(|book| {
             let mut work = vec![0x3c; work_length];
-            (check(book, &table, &mut work), work)
+            (check(book, &lent, &table, &mut work), work)
         });
         assert!(
             checked[0] == checked[1],
@@ -156,10 +159,15 @@ pub fn hold(plan: Planner, check: Check, seed: u64, cases: usize) {
     println!("numbers met by the planner on twins: {by_plan:?}");
     println!("numbers met by the check on twins: {by_check:?}");
     // Both versions are known, so there is no 2, and no release, so no 22.
-    for number in [0, 1].into_iter().chain(3..=13) {
+    for number in [0, 1].into_iter().chain(3..=13).chain([24]) {
         assert!(by_plan[number] > 0, "number {number} was never met");
     }
-    for number in [0, 1].into_iter().chain(3..=11).chain(14..=21) {
+    for number in [0, 1]
+        .into_iter()
+        .chain(3..=11)
+        .chain(14..=21)
+        .chain([24, 25])
+    {
         assert!(by_check[number] > 0, "number {number} was never met");
     }
 }

@@ -1,13 +1,15 @@
 //! Differential test of the proved table check against the second one: the
 //! answer and every byte of every buffer, over valid and damaged tables and
-//! books of both versions, with work areas of every length class and junk
-//! everywhere first.
+//! books of both versions with calendars of every kind, with work areas of every
+//! length class and junk everywhere first.
 
 use flowplan_tests::answer::{CheckAnswer, NUMBERS};
 use flowplan_tests::books::{self, encode_book, Family};
+use flowplan_tests::calendar::{read_calendar, Calendar, NO_WINDOWS};
+use flowplan_tests::calendars::{self, Kinds};
 use flowplan_tests::edges::Edges;
 use flowplan_tests::lent::{work_length, Junk, Lent};
-use flowplan_tests::reader::{Book, Version};
+use flowplan_tests::reader::{read_book, Book, Version};
 use flowplan_tests::rng::Rng;
 use flowplan_tests::tables::{self, Table, WideRows};
 use flowplan_tests::{caps, heads, linked, marked, second_check};
@@ -40,6 +42,8 @@ struct Trial {
     beyond_twice: u64,
     /// Of the flows of accepted tables.
     edges: Edges,
+    /// Of the calendars of accepted tables.
+    calendars: Kinds,
 }
 
 impl Trial {
@@ -53,58 +57,76 @@ impl Trial {
             wide_rows: WideRows::default(),
             beyond_twice: 0,
             edges: Edges::default(),
+            calendars: Kinds::default(),
         }
     }
 
-    /// A book of a family, in the version of the trial.
-    fn draw(&mut self, family: Family) -> Book {
-        books::drawn(&mut self.rng, self.version, family)
+    /// A book of a family, in the version of the trial, and a calendar.
+    fn draw(&mut self, family: Family) -> (Book, Calendar) {
+        let book = books::drawn(&mut self.rng, self.version, family);
+        calendars::with_calendar(&mut self.rng, book)
     }
 
     /// One call of each check on equal buffers; all must end equal.
-    fn compare(&mut self, book: &[u8], table: &[u8]) -> CheckAnswer {
+    fn compare(&mut self, book: &[u8], calendar: &[u8], table: &[u8]) -> CheckAnswer {
         let length = work_length(&mut self.rng);
         let rng = &mut self.rng;
         let mut book = Lent::holding(rng, &self.junk, book);
+        let mut calendar = Lent::holding(rng, &self.junk, calendar);
         let mut table = Lent::holding(rng, &self.junk, table);
         let mut work = Lent::junk(rng, &self.junk, length);
-        let (book_before, table_before) = (book.clone(), table.clone());
+        let before = [book.clone(), calendar.clone(), table.clone()];
 
         let mut expected_work = work.clone();
-        let expected = second_check::check(book.slice(), table.slice(), expected_work.slice());
-        let answer = linked::check_lent(&mut book, &mut table, &mut work);
+        let expected = second_check::check(
+            book.slice(),
+            calendar.slice(),
+            table.slice(),
+            expected_work.slice(),
+        );
+        let answer = linked::check_lent(&mut book, &mut calendar, &mut table, &mut work);
 
         if answer != expected || work != expected_work {
             let differs = work.differs_at(&mut expected_work);
             panic!(
                 "answer {answer:?}, expected {expected:?}; work area of {length} bytes differs \
-                 first at {differs:?}\nbook {:02x?}\ntable {:02x?}",
+                 first at {differs:?}\nbook {:02x?}\ncalendar {:02x?}\ntable {:02x?}",
                 book.slice(),
+                calendar.slice(),
                 table.slice()
             );
         }
-        assert!(book == book_before, "the book was changed");
-        assert!(table == table_before, "the table was changed");
+        let [of_book, of_calendar, of_table] = before;
+        assert!(book == of_book, "the book was changed");
+        assert!(calendar == of_calendar, "the calendar was changed");
+        assert!(table == of_table, "the table was changed");
         self.met[expected.number as usize] += 1;
         if expected.number == 0 {
             self.edges.count(book.slice(), table.slice());
+            let book = read_book(book.slice()).expect("an accepted book");
+            let calendar = read_calendar(calendar.slice()).expect("an accepted calendar");
+            self.calendars.count(&book, &calendar);
         }
         expected
     }
 
-    /// A table with several damaged copies, and with damaged books.
-    fn compare_around(&mut self, book: &Book, table: &Table, damaged: usize) {
+    /// A table with several damaged copies, and with damaged books and calendars.
+    fn compare_around(&mut self, of: &(Book, Calendar), table: &Table, damaged: usize) {
+        let (book, calendar) = of;
         let bytes = encode_book(book);
+        let lent = calendar.encode();
         let intact = table.encode(book);
         let mut finishes = table.finishes.iter().zip(&book.flows);
-        if finishes.any(|(&finish, flow)| u32::from(finish) > 2 * flow.deadline) {
+        let twice = |deadline| 2 * calendar.open_before(deadline);
+        let before = |finish: u16| calendar.open_before(u32::from(finish));
+        if finishes.any(|(&finish, flow)| before(finish) > twice(flow.deadline)) {
             self.beyond_twice += 1;
         }
-        let answer = self.compare(&bytes, &intact);
+        let answer = self.compare(&bytes, &lent, &intact);
         self.wide_rows.count(book, &intact, answer);
         for _ in 0..damaged {
-            let table = tables::damaged(&mut self.rng, book, table);
-            let answer = self.compare(&bytes, &table);
+            let table = tables::damaged(&mut self.rng, book, calendar, table);
+            let answer = self.compare(&bytes, &lent, &table);
             self.wide_rows.count(book, &table, answer);
             if tables::begins_early(book, &table, answer.flow) {
                 self.early[answer.number as usize] += 1;
@@ -113,17 +135,21 @@ impl Trial {
         for _ in 0..damaged.div_ceil(3) {
             let mut bytes = bytes.clone();
             books::damage_book(&mut self.rng, &mut bytes);
-            self.compare(&bytes, &intact);
+            let lent = calendars::lent(&mut self.rng, calendar);
+            self.compare(&bytes, &lent, &intact);
         }
+        let lent = calendars::damaged(&mut self.rng, calendar);
+        self.compare(&bytes, &lent, &intact);
     }
 
     /// The planner's table of a book and another valid one, where there are.
-    fn compare_book(&mut self, book: &Book, damaged: usize) {
-        if let Some(table) = tables::planned_table(book) {
-            self.compare_around(book, &table, damaged);
+    fn compare_book(&mut self, of: &(Book, Calendar), damaged: usize) {
+        let (book, calendar) = of;
+        if let Some(table) = tables::planned_table(book, calendar) {
+            self.compare_around(of, &table, damaged);
         }
-        if let Some(table) = tables::delayed_table(&mut self.rng, book) {
-            self.compare_around(book, &table, damaged);
+        if let Some(table) = tables::delayed_table(&mut self.rng, book, calendar) {
+            self.compare_around(of, &table, damaged);
         }
     }
 }
@@ -160,23 +186,24 @@ fn hold_trial(version: Version, seed: u64) {
     // Every slot of the work area in use from the release on, by every flow.
     for (flows, jobs, slots) in [(64, 1, 8_192), (1, 64, 8_192), (64, 64, 64)] {
         let book = books::layered_in(version, flows, jobs, slots);
-        let table = tables::planned_table(&book).expect("feasible");
-        trial.compare_around(&book, &table, 3);
+        let of = (book, Calendar::default());
+        let table = tables::planned_table(&of.0, &of.1).expect("feasible");
+        trial.compare_around(&of, &table, 3);
     }
     // Totals far above the size, which must not be cut to fewer bits.
     for bits in 8..=24 {
         for size in [1, 4_097, 1_000_000] {
             let (book, table) = tables::surplus_table(size, 1 << bits);
-            trial.compare(&encode_book(&book), &table.encode(&book));
+            trial.compare(&encode_book(&book), &NO_WINDOWS, &table.encode(&book));
         }
     }
 
     // The table of one book with another.
     let mut last = marked::table_a();
     for _ in 0..20_000 {
-        let book = trial.draw(books::tiny_book);
-        trial.compare(&encode_book(&book), &last);
-        if let Some(table) = tables::delayed_table(&mut trial.rng, &book) {
+        let (book, calendar) = trial.draw(books::tiny_book);
+        trial.compare(&encode_book(&book), &calendar.encode(), &last);
+        if let Some(table) = tables::delayed_table(&mut trial.rng, &book, &calendar) {
             last = table.encode(&book);
         }
     }
@@ -186,12 +213,14 @@ fn hold_trial(version: Version, seed: u64) {
         let book = if trial.rng.chance(1, 2) {
             books::random_bytes(&mut trial.rng, 80)
         } else {
-            let mut bytes = encode_book(&trial.draw(books::tiny_book));
+            let (book, _) = trial.draw(books::tiny_book);
+            let mut bytes = encode_book(&book);
             books::damage_book(&mut trial.rng, &mut bytes);
             bytes
         };
         let table = books::random_bytes(&mut trial.rng, 80);
-        trial.compare(&book, &table);
+        let calendar = calendars::lent(&mut trial.rng, &Calendar::default());
+        trial.compare(&book, &calendar, &table);
     }
 
     println!("{version:?}, cases: {}", trial.met.iter().sum::<u64>());
@@ -203,7 +232,7 @@ fn hold_trial(version: Version, seed: u64) {
         println!("number {number:2}: {met}, before a release: {early}");
     }
     let faults = version.faults().iter().copied();
-    for number in faults.chain([0, 11]).chain(14..=21) {
+    for number in faults.chain([0, 11]).chain(14..=21).chain([24, 25]) {
         let met = trial.met[number as usize];
         assert!(met > 0, "number {number} was never met");
     }
@@ -216,4 +245,5 @@ fn hold_trial(version: Version, seed: u64) {
     trial.wide_rows.hold();
     assert!(trial.beyond_twice > 0);
     trial.edges.hold(&format!("{version:?}, checked"));
+    trial.calendars.hold(version, "checked", &[]);
 }

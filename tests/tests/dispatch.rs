@@ -1,10 +1,12 @@
 //! Differential test of the proved dispatch list against the second one: the
 //! answer and every byte of every buffer, over valid and damaged tables and books
-//! of both versions, with outputs and work areas of every length class and junk
-//! everywhere first. Beside it what is owed of a list by itself.
+//! of both versions with calendars of every kind, with outputs and work areas of
+//! every length class and junk everywhere first. Beside it what is owed of a list by itself.
 
 use flowplan_tests::answer::{CheckAnswer, ListAnswer, Refusal, NUMBERS, WORK_BYTES};
 use flowplan_tests::books::{self, encode_book, Family};
+use flowplan_tests::calendar::{read_calendar, Calendar, NO_WINDOWS};
+use flowplan_tests::calendars::{self, Kinds};
 use flowplan_tests::lent::{work_length, Junk, Lent};
 use flowplan_tests::reader::{read_book, Book, Flow, Version, VERSIONS};
 use flowplan_tests::rng::Rng;
@@ -22,14 +24,14 @@ fn marked_lists() {
 
 /// The proved dispatch list as a check. It does not answer the late flows; they are
 /// those of the second check.
-fn as_check(book: &[u8], table: &[u8], work: &mut [u8]) -> CheckAnswer {
+fn as_check(book: &[u8], calendar: &[u8], table: &[u8], work: &mut [u8]) -> CheckAnswer {
     let mut output = vec![0x3c; table.len()];
-    let answer = linked_dispatch::dispatch(book, table, &mut output, work);
+    let answer = linked_dispatch::dispatch(book, calendar, table, &mut output, work);
     if answer.number == 0 {
         let list = second_dispatch::list_of(table);
         assert_eq!(answer, ListAnswer::accepted(list.len() as u32));
         assert_eq!(output[..list.len()], list);
-        return second_check::check(book, table, &mut [0; WORK_BYTES]);
+        return second_check::check(book, calendar, table, &mut [0; WORK_BYTES]);
     }
     let refusal = Refusal::new(answer.number, answer.flow, answer.job);
     assert_eq!(answer, ListAnswer::refused(refusal));
@@ -57,6 +59,8 @@ struct Trial {
     no_room: [u64; NUMBERS],
     wide_rows: WideRows,
     lists: Lists,
+    /// Of the calendars of accepted tables.
+    calendars: Kinds,
 }
 
 /// How many lists of a kind were met.
@@ -125,16 +129,17 @@ impl Trial {
             no_room: [0; NUMBERS],
             wide_rows: WideRows::default(),
             lists: Lists::default(),
+            calendars: Kinds::default(),
         }
     }
 
     /// A book of a family in the version of the trial, mostly one whose flows are not
-    /// served in the order of their numbers.
-    fn draw(&mut self, family: Family) -> Book {
+    /// served in the order of their numbers, and a calendar.
+    fn draw(&mut self, family: Family) -> (Book, Calendar) {
         loop {
             let book = books::drawn(&mut self.rng, self.version, family);
             if !book.service_order().is_sorted() || self.rng.chance(1, 4) {
-                return book;
+                return calendars::with_calendar(&mut self.rng, book);
             }
         }
     }
@@ -150,23 +155,31 @@ impl Trial {
     }
 
     /// One call of each dispatch list on equal buffers; all must end equal.
-    fn compare(&mut self, book: &[u8], table: &[u8], room: usize) -> ListAnswer {
+    fn compare(&mut self, book: &[u8], calendar: &[u8], table: &[u8], room: usize) -> ListAnswer {
         let work_length = work_length(&mut self.rng);
         let rng = &mut self.rng;
         let mut book = Lent::holding(rng, &self.junk, book);
+        let mut calendar = Lent::holding(rng, &self.junk, calendar);
         let mut table = Lent::holding(rng, &self.junk, table);
         let mut output = Lent::junk(rng, &self.junk, room);
         let mut work = Lent::junk(rng, &self.junk, work_length);
-        let (book_before, table_before) = (book.clone(), table.clone());
+        let before = [book.clone(), calendar.clone(), table.clone()];
 
         let (mut expected_output, mut expected_work) = (output.clone(), work.clone());
         let expected = second_dispatch::dispatch(
             book.slice(),
+            calendar.slice(),
             table.slice(),
             expected_output.slice(),
             expected_work.slice(),
         );
-        let answer = linked_dispatch::dispatch_lent(&mut book, &mut table, &mut output, &mut work);
+        let answer = linked_dispatch::dispatch_lent(
+            &mut book,
+            &mut calendar,
+            &mut table,
+            &mut output,
+            &mut work,
+        );
 
         if answer != expected || output != expected_output || work != expected_work {
             let out_at = output.differs_at(&mut expected_output);
@@ -174,13 +187,16 @@ impl Trial {
             panic!(
                 "answer {answer:?}, expected {expected:?}; output of {room} bytes differs first \
                  at {out_at:?}, work area of {work_length} bytes at {work_at:?}\nbook {:02x?}\n\
-                 table {:02x?}",
+                 calendar {:02x?}\ntable {:02x?}",
                 book.slice(),
+                calendar.slice(),
                 table.slice()
             );
         }
-        assert!(book == book_before, "the book was changed");
-        assert!(table == table_before, "the table was changed");
+        let [of_book, of_calendar, of_table] = before;
+        assert!(book == of_book, "the book was changed");
+        assert!(calendar == of_calendar, "the calendar was changed");
+        assert!(table == of_table, "the table was changed");
         let number = expected.number as usize;
         self.met[number] += 1;
         self.short[number] += u64::from(room < lists::length_for(table.slice()));
@@ -190,30 +206,34 @@ impl Trial {
             let list = &output.slice()[..answer.length as usize];
             lists::hold(&values, table.slice(), list, work.slice());
             self.lists.count(&values, list, room);
+            let calendar = read_calendar(calendar.slice()).expect("a list has a calendar");
+            self.calendars.count(&values, &calendar);
         }
         expected
     }
 
     /// With an output of one of the lengths.
-    fn compare_in_one(&mut self, book: &[u8], table: &[u8]) -> ListAnswer {
+    fn compare_in_one(&mut self, book: &[u8], calendar: &[u8], table: &[u8]) -> ListAnswer {
         let rooms = self.rooms(table);
         let room = self.rng.pick(&rooms);
-        self.compare(book, table, room)
+        self.compare(book, calendar, table, room)
     }
 
     /// A table in outputs of each length, with several damaged copies, and with
-    /// damaged books.
-    fn compare_around(&mut self, book: &Book, table: &Table, damaged: usize) {
+    /// damaged books and calendars.
+    fn compare_around(&mut self, of: &(Book, Calendar), table: &Table, damaged: usize) {
+        let (book, calendar) = of;
         let bytes = encode_book(book);
+        let lent = calendar.encode();
         let intact = table.encode(book);
         for room in self.rooms(&intact) {
-            self.compare(&bytes, &intact, room);
+            self.compare(&bytes, &lent, &intact, room);
         }
         for _ in 0..damaged {
-            let table = tables::damaged(&mut self.rng, book, table);
+            let table = tables::damaged(&mut self.rng, book, calendar, table);
             let ListAnswer {
                 number, flow, job, ..
-            } = self.compare_in_one(&bytes, &table);
+            } = self.compare_in_one(&bytes, &lent, &table);
             // 13 says that the check accepts.
             let checked = match number {
                 0 | 13 => CheckAnswer::accepted(0),
@@ -224,17 +244,21 @@ impl Trial {
         for _ in 0..damaged.div_ceil(3) {
             let mut bytes = bytes.clone();
             books::damage_book(&mut self.rng, &mut bytes);
-            self.compare_in_one(&bytes, &intact);
+            let lent = calendars::lent(&mut self.rng, calendar);
+            self.compare_in_one(&bytes, &lent, &intact);
         }
+        let lent = calendars::damaged(&mut self.rng, calendar);
+        self.compare_in_one(&bytes, &lent, &intact);
     }
 
     /// The planner's table of a book and another valid one, where there are.
-    fn compare_book(&mut self, book: &Book, damaged: usize) {
-        if let Some(table) = tables::planned_table(book) {
-            self.compare_around(book, &table, damaged);
+    fn compare_book(&mut self, of: &(Book, Calendar), damaged: usize) {
+        let (book, calendar) = of;
+        if let Some(table) = tables::planned_table(book, calendar) {
+            self.compare_around(of, &table, damaged);
         }
-        if let Some(table) = tables::delayed_table(&mut self.rng, book) {
-            self.compare_around(book, &table, damaged);
+        if let Some(table) = tables::delayed_table(&mut self.rng, book, calendar) {
+            self.compare_around(of, &table, damaged);
         }
     }
 }
@@ -271,16 +295,17 @@ fn hold_trial(version: Version, seed: u64) {
     // Every slot of the work area in use from the release on, by every flow.
     for (flows, jobs, slots) in [(64, 1, 8_192), (1, 64, 8_192), (64, 64, 64)] {
         let book = books::layered_in(version, flows, jobs, slots);
-        let table = tables::planned_table(&book).expect("feasible");
-        trial.compare_around(&book, &table, 1);
+        let of = (book, Calendar::default());
+        let table = tables::planned_table(&of.0, &of.1).expect("feasible");
+        trial.compare_around(&of, &table, 1);
     }
 
     // The table of one book with another.
     let mut last = marked::table_a();
     for _ in 0..10_000 {
-        let book = trial.draw(books::tiny_book);
-        trial.compare_in_one(&encode_book(&book), &last);
-        if let Some(table) = tables::delayed_table(&mut trial.rng, &book) {
+        let (book, calendar) = trial.draw(books::tiny_book);
+        trial.compare_in_one(&encode_book(&book), &calendar.encode(), &last);
+        if let Some(table) = tables::delayed_table(&mut trial.rng, &book, &calendar) {
             last = table.encode(&book);
         }
     }
@@ -290,12 +315,14 @@ fn hold_trial(version: Version, seed: u64) {
         let book = if trial.rng.chance(1, 2) {
             books::random_bytes(&mut trial.rng, 80)
         } else {
-            let mut bytes = encode_book(&trial.draw(books::tiny_book));
+            let (book, _) = trial.draw(books::tiny_book);
+            let mut bytes = encode_book(&book);
             books::damage_book(&mut trial.rng, &mut bytes);
             bytes
         };
         let table = books::random_bytes(&mut trial.rng, 80);
-        trial.compare_in_one(&book, &table);
+        let calendar = calendars::lent(&mut trial.rng, &Calendar::default());
+        trial.compare_in_one(&book, &calendar, &table);
     }
 
     println!("{version:?}, calls: {}", trial.met.iter().sum::<u64>());
@@ -307,7 +334,7 @@ fn hold_trial(version: Version, seed: u64) {
     }
     trial.lists.print();
     let faults = version.faults().iter().copied();
-    for number in faults.chain([11]).chain(14..=21) {
+    for number in faults.chain([11]).chain(14..=21).chain([24, 25]) {
         let (met, short) = (trial.met[number as usize], trial.short[number as usize]);
         assert!(short > 0 && met > short, "number {number} was never met");
     }
@@ -315,6 +342,7 @@ fn hold_trial(version: Version, seed: u64) {
     assert_eq!(trial.short[13], trial.met[13]);
     assert_eq!(trial.short[0], 0);
     trial.wide_rows.hold();
+    trial.calendars.hold(version, "listed", &[]);
     let lists = &trial.lists;
     assert_eq!(lists.all, trial.met[0]);
     assert!(lists.orders_apart > lists.all / 4);
@@ -342,7 +370,7 @@ fn outputs_of_every_length() {
     for (book, table) in cases {
         for room in 0..table.len() + 9 {
             for _ in 0..8 {
-                trial.compare(&book, &table, room);
+                trial.compare(&book, &NO_WINDOWS, &table, room);
             }
         }
     }
@@ -360,17 +388,18 @@ fn lists_of_plans() {
     let mut listed = 0;
     for case in 0..6_000 {
         let book = books::drawn(&mut rng, VERSIONS[case % 2], books::any_book);
-        let bytes = encode_book(&book);
+        let (book, calendar) = calendars::with_calendar(&mut rng, book);
+        let (bytes, lent) = (encode_book(&book), calendar.encode());
         let mut table = vec![0; 1 << 16];
         let mut planned = vec![0x3c; WORK_BYTES];
-        let answer = linked_plan::plan(&bytes, &mut table, &mut planned);
+        let answer = linked_plan::plan(&bytes, &lent, &mut table, &mut planned);
         if answer.number != 0 {
             continue;
         }
         table.truncate(answer.length as usize);
         let mut list = vec![0x3c; table.len()];
         let mut work = vec![0xc3; WORK_BYTES];
-        let answer = linked_dispatch::dispatch(&bytes, &table, &mut list, &mut work);
+        let answer = linked_dispatch::dispatch(&bytes, &lent, &table, &mut list, &mut work);
         let length = table.len() - 1 - 2 * book.flows.len();
         assert_eq!(answer, ListAnswer::accepted(length as u32));
         lists::hold(&book, &table, &list[..length], &work);
@@ -430,10 +459,10 @@ fn book_with_alike(rng: &mut Rng, version: Version) -> Book {
 }
 
 /// The list of a table, where it is accepted.
-fn accepted_list(book: &[u8], table: &[u8]) -> Option<Vec<u8>> {
+fn accepted_list(book: &[u8], calendar: &[u8], table: &[u8]) -> Option<Vec<u8>> {
     let mut list = vec![0; table.len()];
     let mut work = vec![0; WORK_BYTES];
-    let answer = linked_dispatch::dispatch(book, table, &mut list, &mut work);
+    let answer = linked_dispatch::dispatch(book, calendar, table, &mut list, &mut work);
     list.truncate(answer.length as usize);
     (answer.number == 0).then_some(list)
 }
@@ -451,18 +480,19 @@ fn hold_nothing_lost(version: Version, seed: u64) {
     let (mut pairs, mut apart) = (0, Apart::default());
     for _ in 0..4_000 {
         let book = book_with_alike(&mut rng, version);
-        let bytes = encode_book(&book);
+        let (book, calendar) = calendars::with_calendar(&mut rng, book);
+        let (bytes, lent) = (encode_book(&book), calendar.encode());
         let mut valid = Vec::new();
-        valid.extend(tables::planned_table(&book));
-        valid.extend((0..2).filter_map(|_| tables::delayed_table(&mut rng, &book)));
+        valid.extend(tables::planned_table(&book, &calendar));
+        valid.extend((0..2).filter_map(|_| tables::delayed_table(&mut rng, &book, &calendar)));
         // The table of each list.
         let mut known: HashMap<Vec<u8>, Vec<u8>> = HashMap::new();
         for table in &valid {
             let intact = table.encode(&book);
-            let list = accepted_list(&bytes, &intact).expect("a valid table");
+            let list = accepted_list(&bytes, &lent, &intact).expect("a valid table");
             for _ in 0..8 {
                 let near = tables::varied(&mut rng, &book, table).encode(&book);
-                let Some(near_list) = accepted_list(&bytes, &near) else {
+                let Some(near_list) = accepted_list(&bytes, &lent, &near) else {
                     continue;
                 };
                 if near != intact {
@@ -496,18 +526,18 @@ fn longest_list() {
     let book = encode_book(&books::largest_book());
     let mut table = vec![0; 201_326_728];
     let mut planned = vec![0; WORK_BYTES];
-    let answer = linked_plan::plan(&book, &mut table, &mut planned);
+    let answer = linked_plan::plan(&book, &NO_WINDOWS, &mut table, &mut planned);
     assert_eq!(answer.length as usize, table.len());
     let mut output = vec![0x3c; LONGEST + 1];
     let mut work = vec![0x3c; WORK_BYTES];
 
     let short = &mut output[..LONGEST - 1];
-    let answer = linked_dispatch::dispatch(&book, &table, short, &mut work);
+    let answer = linked_dispatch::dispatch(&book, &NO_WINDOWS, &table, short, &mut work);
     assert_eq!(answer, ListAnswer::refused(Refusal::of_all(13)));
     assert!(output.iter().all(|&byte| byte == 0x3c));
     assert!(work.iter().all(|&byte| byte == 0));
 
-    let answer = linked_dispatch::dispatch(&book, &table, &mut output, &mut work);
+    let answer = linked_dispatch::dispatch(&book, &NO_WINDOWS, &table, &mut output, &mut work);
     assert_eq!(answer, ListAnswer::accepted(LONGEST as u32));
     assert_eq!(output[LONGEST], 0x3c);
     assert!(work == planned);
@@ -523,6 +553,6 @@ fn longest_list() {
     }
     assert!(rows.next().is_none());
 
-    let verdict = linked::check(&book, &table, &mut planned);
+    let verdict = linked::check(&book, &NO_WINDOWS, &table, &mut planned);
     assert_eq!(verdict, CheckAnswer::accepted(64));
 }

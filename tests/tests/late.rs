@@ -5,6 +5,7 @@
 
 use flowplan_tests::answer::{Refusal, NONE, SLOTS, WORK_BYTES};
 use flowplan_tests::books::{self, encode_book};
+use flowplan_tests::calendars;
 use flowplan_tests::edges::Edges;
 use flowplan_tests::lent::{Junk, Lent};
 use flowplan_tests::marked::{checked, not_planned, planned, Check, Planner};
@@ -269,7 +270,8 @@ fn every_count_of_late_flows() {
 }
 
 /// Drawn books, as the proved planner plans them and in tables of others: late are the
-/// flows that end beyond their deadline, those that end at it, and no other.
+/// flows that end beyond their deadline, those that end at it, and no other. Deadlines
+/// are slots, shut or open.
 #[test]
 fn late_is_beyond_the_deadline_or_at_it() {
     for version in VERSIONS {
@@ -290,20 +292,21 @@ fn late_is_beyond_the_deadline_or_at_it() {
         for case in 0..6_000 {
             let family = [books::tiny_book, books::usual_book][case % 2];
             let book = books::drawn(&mut rng, version, family);
-            let bytes = encode_book(&book);
+            let (book, calendar) = calendars::with_calendar(&mut rng, book);
+            let (bytes, lent) = (encode_book(&book), calendar.encode());
             let mut output = Lent::junk(&mut rng, &junk, 1 << 15);
             let mut work = Lent::junk(&mut rng, &junk, WORK_BYTES);
-            let answer = linked_plan::plan(&bytes, output.slice(), work.slice());
+            let answer = linked_plan::plan(&bytes, &lent, output.slice(), work.slice());
             if answer.number == 0 {
                 let table = &output.slice()[..answer.length as usize];
                 hold(&book, table, answer.late);
             }
-            let Some(table) = tables::delayed_table(&mut rng, &book) else {
+            let Some(table) = tables::delayed_table(&mut rng, &book, &calendar) else {
                 continue;
             };
             let table = table.encode(&book);
             let mut work = Lent::junk(&mut rng, &junk, WORK_BYTES);
-            let answer = linked::check(&bytes, &table, work.slice());
+            let answer = linked::check(&bytes, &lent, &table, work.slice());
             assert_eq!(answer.number, 0);
             hold(&book, &table, answer.late);
         }

@@ -1,11 +1,13 @@
 //! Differential test of the proved planner against the literal one: the answer
 //! and every byte of output and work area, over books of every family in both
-//! versions and damaged ones, with outputs and work areas of every length class
-//! and junk everywhere first. The planner's own tables go through the proved
+//! versions and damaged ones with calendars of every kind, with outputs and work
+//! areas of every length class and junk everywhere first. The planner's own tables go through the proved
 //! check.
 
 use flowplan_tests::answer::{CheckAnswer, PlanAnswer, Refusal, NUMBERS, WORK_BYTES};
 use flowplan_tests::books::{self, encode_book, Family};
+use flowplan_tests::calendar::{read_calendar, Calendar, NO_WINDOWS};
+use flowplan_tests::calendars::{self, Kinds, NONE_OPEN};
 use flowplan_tests::edges::Edges;
 use flowplan_tests::lent::{work_length, Junk, Lent};
 use flowplan_tests::reader::{read_book, Book, Flow, Job, Version, VERSIONS};
@@ -54,6 +56,9 @@ struct Trial {
     late: u64,
     /// Of the flows of accepted calls.
     edges: Edges,
+    /// Of the calendars of accepted calls, and of those that were refused by 12.
+    calendars: Kinds,
+    infeasible: Kinds,
 }
 
 impl Trial {
@@ -66,42 +71,63 @@ impl Trial {
             books: 0,
             late: 0,
             edges: Edges::default(),
+            calendars: Kinds::default(),
+            infeasible: Kinds::default(),
         }
     }
 
     /// One call of each planner on equal buffers; all must end equal.
-    fn compare(&mut self, book: &[u8], outcome: &Outcome, room: usize, work_length: usize) {
+    fn compare(
+        &mut self,
+        book: &[u8],
+        calendar: &[u8],
+        outcome: &Outcome,
+        room: usize,
+        work_length: usize,
+    ) {
         let above = read_book(book).is_ok_and(|book| books::has_cap_above(&book));
         let rng = &mut self.rng;
         let mut book = Lent::holding(rng, &self.junk, book);
+        let mut calendar = Lent::holding(rng, &self.junk, calendar);
         let mut output = Lent::junk(rng, &self.junk, room);
         let mut work = Lent::junk(rng, &self.junk, work_length);
-        let book_before = book.clone();
+        let (book_before, calendar_before) = (book.clone(), calendar.clone());
 
         let (mut expected_output, mut expected_work) = (output.clone(), work.clone());
         let expected =
             second_planner::deliver(outcome, expected_output.slice(), expected_work.slice());
-        let answer = linked_plan::plan_lent(&mut book, &mut output, &mut work);
+        let answer = linked_plan::plan_lent(&mut book, &mut calendar, &mut output, &mut work);
 
         if answer != expected || output != expected_output || work != expected_work {
             let out_at = output.differs_at(&mut expected_output);
             let work_at = work.differs_at(&mut expected_work);
             panic!(
                 "answer {answer:?}, expected {expected:?}; output of {room} bytes differs first \
-                 at {out_at:?}, work area of {work_length} bytes at {work_at:?}\nbook {:02x?}",
-                book.slice()
+                 at {out_at:?}, work area of {work_length} bytes at {work_at:?}\nbook {:02x?}\n\
+                 calendar {:02x?}",
+                book.slice(),
+                calendar.slice()
             );
         }
         assert!(book == book_before, "the book was changed");
+        assert!(calendar == calendar_before, "the calendar was changed");
         self.met[expected.number as usize] += 1;
         self.above[expected.number as usize] += u64::from(above);
 
+        if [0, 12].contains(&answer.number) {
+            let book = read_book(book.slice()).expect("a book that passes its checks");
+            let calendar = read_calendar(calendar.slice()).expect("and its calendar");
+            match answer.number {
+                0 => self.calendars.count(&book, &calendar),
+                _ => self.infeasible.count(&book, &calendar),
+            }
+        }
         if answer.number == 0 {
             self.late += u64::from(answer.late > 0);
             let table = &output.slice()[..answer.length as usize];
             self.edges.count(book.slice(), table);
             let mut checked = Lent::junk(&mut self.rng, &self.junk, work_length);
-            let verdict = linked::check(book.slice(), table, checked.slice());
+            let verdict = linked::check(book.slice(), calendar.slice(), table, checked.slice());
             assert_eq!(verdict, CheckAnswer::accepted(answer.late));
             let planned = &work.slice()[..WORK_BYTES];
             assert!(&checked.slice()[..WORK_BYTES] == planned);
@@ -109,8 +135,8 @@ impl Trial {
     }
 
     /// A book with outputs of every length class.
-    fn compare_bytes(&mut self, book: &[u8]) {
-        let outcome = second_planner::outcome(book);
+    fn compare_bytes(&mut self, book: &[u8], calendar: &[u8]) {
+        let outcome = second_planner::outcome(book, calendar);
         self.books += 1;
         let rooms = match &outcome {
             Outcome::Planned(plan) => {
@@ -123,17 +149,25 @@ impl Trial {
         };
         for room in rooms {
             let work_length = work_length(&mut self.rng);
-            self.compare(book, &outcome, room, work_length);
+            self.compare(book, calendar, &outcome, room, work_length);
         }
     }
 
+    /// Without windows.
     fn compare_book(&mut self, book: &Book) {
-        self.compare_bytes(&encode_book(book));
+        self.compare_bytes(&encode_book(book), &NO_WINDOWS);
+    }
+
+    /// A book of a family and a calendar.
+    fn draw(&mut self, version: Version, family: Family) -> (Book, Calendar) {
+        let book = books::drawn(&mut self.rng, version, family);
+        calendars::with_calendar(&mut self.rng, book)
     }
 
     fn compare_drawn(&mut self, version: Version, family: Family) {
-        let book = books::drawn(&mut self.rng, version, family);
-        self.compare_book(&book);
+        let (book, calendar) = self.draw(version, family);
+        let lent = calendars::lent(&mut self.rng, &calendar);
+        self.compare_bytes(&encode_book(&book), &lent);
     }
 
     fn print(&self) {
@@ -185,24 +219,27 @@ fn hold_trial(version: Version, seed: u64) {
         trial.compare_book(&books::layered_in(version, flows, jobs, slots));
     }
 
-    // Books cut at any point of the service order.
+    // Books cut at any point of the service order, which keep their calendar.
     for _ in 0..1_500 {
-        let book = books::drawn(&mut trial.rng, version, books::any_book);
+        let (book, calendar) = trial.draw(version, books::any_book);
         let kept = trial.rng.index(book.flows.len() + 1);
-        trial.compare_book(&books::cut(&book, kept));
+        let cut = encode_book(&books::cut(&book, kept));
+        trial.compare_bytes(&cut, &calendar.encode());
     }
 
     // Damaged books of every family.
     for _ in 0..20_000 {
-        let mut bytes = encode_book(&books::drawn(&mut trial.rng, version, books::any_book));
+        let (book, calendar) = trial.draw(version, books::any_book);
+        let mut bytes = encode_book(&book);
         books::damage_book(&mut trial.rng, &mut bytes);
-        trial.compare_bytes(&bytes);
+        let lent = calendars::lent(&mut trial.rng, &calendar);
+        trial.compare_bytes(&bytes, &lent);
     }
 
     println!("version {version:?}");
     trial.print();
     let faults = version.faults().iter().copied();
-    for number in faults.chain([0, 11, 12, 13]) {
+    for number in faults.chain([0, 11, 12, 13, 24]) {
         let met = trial.met[number as usize];
         assert!(met > 0, "number {number} was never met");
     }
@@ -212,6 +249,9 @@ fn hold_trial(version: Version, seed: u64) {
     }
     assert!(trial.late > 0);
     trial.edges.hold(&format!("{version:?}, planned"));
+    // With no open slot before a deadline a flow is infeasible.
+    trial.calendars.hold(version, "planned", &[NONE_OPEN]);
+    trial.infeasible.hold(version, "infeasible", &[]);
 }
 
 /// Jobs without a rest, with a rest of one and with the largest rest, up to the
@@ -248,9 +288,10 @@ fn longest_books() {
         for _ in 0..10 {
             let book = encode_book(&family(&mut trial.rng));
             assert_eq!(book.len(), length);
-            let outcome = second_planner::outcome(&book);
+            let outcome = second_planner::outcome(&book, &NO_WINDOWS);
             if let Outcome::Planned(plan) = &outcome {
-                trial.compare(&book, &outcome, plan.table.len(), WORK_BYTES);
+                let room = plan.table.len();
+                trial.compare(&book, &NO_WINDOWS, &outcome, room, WORK_BYTES);
             }
         }
         println!("planned and checked with {length} bytes: {}", trial.met[0]);
@@ -262,7 +303,7 @@ fn longest_books() {
 #[test]
 fn largest_table() {
     let book = encode_book(&books::largest_book());
-    let Outcome::Planned(plan) = second_planner::outcome(&book) else {
+    let Outcome::Planned(plan) = second_planner::outcome(&book, &NO_WINDOWS) else {
         panic!("the book is feasible");
     };
     let length = plan.table.len();
@@ -270,24 +311,24 @@ fn largest_table() {
     let mut output = vec![0x3c; length];
     let mut work = vec![0x3c; WORK_BYTES];
 
-    let answer = linked_plan::plan(&book, &mut output[1..], &mut work);
+    let answer = linked_plan::plan(&book, &NO_WINDOWS, &mut output[1..], &mut work);
     assert_eq!(answer, PlanAnswer::refused(Refusal::of_all(13)));
     assert!(output.iter().all(|&byte| byte == 0x3c));
     assert!(work.iter().all(|&byte| byte == 0));
 
-    let answer = linked_plan::plan(&book, &mut output, &mut work);
+    let answer = linked_plan::plan(&book, &NO_WINDOWS, &mut output, &mut work);
     assert_eq!(answer, PlanAnswer::accepted(64, length as u32));
     assert!(output == plan.table);
     assert!(work.chunks_exact(2).all(|pair| pair == [0x10, 0x00]));
 
     let mut checked = vec![0x3c; WORK_BYTES];
-    let verdict = linked::check(&book, &output, &mut checked);
+    let verdict = linked::check(&book, &NO_WINDOWS, &output, &mut checked);
     assert_eq!(verdict, CheckAnswer::accepted(64));
     assert!(checked == work);
 }
 
 /// Two million short inputs: damaged small books of both versions and bytes that
-/// are hardly one.
+/// are hardly one, with calendars of no window or one.
 #[test]
 fn short_and_damaged_inputs() {
     let mut trial = Trial::new(0x5eed_0003);
@@ -303,6 +344,10 @@ fn short_and_damaged_inputs() {
     pool.push(marked::BOOK_G.to_vec());
     pool.push(marked::book_e());
     for case in 0..2_000_000 {
+        let calendar = match trial.rng.below(4) {
+            0 => Calendar::of(&[[1, 2 + trial.rng.below(4) as u32]]),
+            _ => Calendar::default(),
+        };
         let bytes = if case % 2 == 0 {
             books::random_bytes(&mut trial.rng, 60)
         } else {
@@ -311,7 +356,8 @@ fn short_and_damaged_inputs() {
             books::damage_book(&mut trial.rng, &mut bytes);
             bytes
         };
-        let outcome = second_planner::outcome(&bytes);
+        let calendar = calendars::lent(&mut trial.rng, &calendar);
+        let outcome = second_planner::outcome(&bytes, &calendar);
         trial.books += 1;
         let room = match &outcome {
             Outcome::Planned(plan) => plan.table.len() + trial.rng.index(3) - 1,
@@ -322,7 +368,7 @@ fn short_and_damaged_inputs() {
             1 => WORK_BYTES,
             _ => trial.rng.index(100),
         };
-        trial.compare(&bytes, &outcome, room, work_length);
+        trial.compare(&bytes, &calendar, &outcome, room, work_length);
     }
     trial.print();
 }

@@ -5,6 +5,8 @@ use flowplan_tests::answer::{
     CheckAnswer, FinishAnswer, ListAnswer, PlanAnswer, Refusal, NUMBERS, WORK_BYTES,
 };
 use flowplan_tests::books::{self, encode_book};
+use flowplan_tests::calendar::{read_calendar, Calendar};
+use flowplan_tests::calendars::{self, Kinds, NONE_OPEN};
 use flowplan_tests::edges::Edges;
 use flowplan_tests::reader::{read_book, Book, Version, MOST_CAP, MOST_DEADLINE, VERSIONS};
 use flowplan_tests::rng::Rng;
@@ -229,7 +231,8 @@ fn units_are_used_in_their_order() {
     let mut planned = 0;
     for case in 0..40_000 {
         let book = books::drawn(&mut rng, VERSIONS[case % 2], books::tiny_book);
-        let Ok(schedule) = schedule(&book) else {
+        let (book, calendar) = calendars::with_calendar(&mut rng, book);
+        let Ok(schedule) = schedule(&book, &calendar) else {
             continue;
         };
         planned += 1;
@@ -274,13 +277,14 @@ fn a_lone_flow_is_moved_by_its_release() {
         for flow in &mut book.flows {
             flow.deadline = MOST_DEADLINE;
         }
-        let Ok(at_once) = schedule(&book) else {
+        let none = Calendar::default();
+        let Ok(at_once) = schedule(&book, &none) else {
             continue;
         };
         let mut later = books::with_releases(&mut rng, book);
         later.flows.iter_mut().for_each(|flow| flow.release /= 2);
         let release = later.flows.first().map_or(0, |flow| flow.release as u16);
-        let moved = schedule(&later).expect("it has half its slots left");
+        let moved = schedule(&later, &none).expect("it has half its slots left");
         let rows = at_once.rows.iter().map(|&row| Row {
             slot: row.slot + release,
             ..row
@@ -294,14 +298,15 @@ fn fast_planner_is_the_literal_one() {
     let mut rng = Rng::new(4);
     let mut met = [0u32; NUMBERS];
     let mut edges = Edges::default();
+    let mut kinds = Kinds::default();
     let mut output = vec![0; 1 << 20];
-    let mut one = |book: &[u8], room: usize, work: usize| {
+    let mut one = |book: &[u8], calendar: &[u8], room: usize, work: usize| {
         let mut work = [vec![7; work], vec![7; work]];
         output[..room].fill(9);
-        let literal = second_planner::plan(book, &mut output[..room], &mut work[0]);
+        let literal = second_planner::plan(book, calendar, &mut output[..room], &mut work[0]);
         let written = output[..room].to_vec();
         output[..room].fill(9);
-        let fast = fast_planner::plan(book, &mut output[..room], &mut work[1]);
+        let fast = fast_planner::plan(book, calendar, &mut output[..room], &mut work[1]);
         assert_eq!(literal, fast);
         assert!(written == output[..room]);
         assert!(work[0] == work[1]);
@@ -318,29 +323,35 @@ fn fast_planner_is_the_literal_one() {
             _ => books::any_book,
         };
         let book = books::drawn(&mut rng, VERSIONS[case % 2], family);
+        let (book, calendar) = calendars::with_calendar(&mut rng, book);
+        let lent = calendars::lent(&mut rng, &calendar);
         let mut bytes = encode_book(&book);
         if rng.chance(1, 8) {
             books::damage_book(&mut rng, &mut bytes);
         }
         let work = WORK_BYTES + rng.index(3) - 1;
         let room = rng.skewed(0, 1 << 14) as usize;
-        one(&bytes, room, work);
+        let answer = one(&bytes, &lent, room, work);
+        if answer.number == 0 {
+            kinds.count(&book, &calendar);
+        }
         if case % 2_000 <= 3 {
-            one(&bytes, 1 << 20, work);
+            one(&bytes, &lent, 1 << 20, work);
         }
     }
     println!("numbers met by the planners: {met:?}");
     for number in [0, 12, 13] {
         assert!(met[number] > 2_000, "number {number} was rarely met");
     }
-    for number in (1..=11).chain([22]) {
+    for number in (1..=11).chain([22, 24]) {
         assert!(met[number] > 0, "number {number} was never met");
     }
     edges.hold("both planners");
+    kinds.hold(Version::Two, "both planners", &[NONE_OPEN]);
 }
 
-/// Every accepted plan is a valid schedule and ends within twice the deadline;
-/// cut before a flow that is refused, the book can be planned.
+/// Every accepted plan is a valid schedule and ends within twice the deadline, both in
+/// open slots; cut before a flow that is refused, the book can be planned.
 #[test]
 fn plans_are_valid_and_cuts_agree() {
     let mut rng = Rng::new(5);
@@ -349,25 +360,30 @@ fn plans_are_valid_and_cuts_agree() {
     let (mut planned, mut refused) = ([0; 2], [0; 2]);
     for case in 0..16_000 {
         let book = books::drawn(&mut rng, VERSIONS[case % 2], books::any_book);
+        let (book, calendar) = calendars::with_calendar(&mut rng, book);
         let order = book.service_order();
         let above = usize::from(books::has_cap_above(&book));
-        match schedule(&book) {
+        match schedule(&book, &calendar) {
             Ok(schedule) => {
                 planned[above] += 1;
-                let bytes = encode_book(&book);
-                let table = tables::planned_table(&book).unwrap().encode(&book);
-                let answer = second_check::check(&bytes, &table, &mut work);
+                let (bytes, lent) = (encode_book(&book), calendar.encode());
+                let table = tables::planned_table(&book, &calendar).unwrap();
+                let table = table.encode(&book);
+                let answer = second_check::check(&bytes, &lent, &table, &mut work);
                 assert_eq!(answer, CheckAnswer::accepted(schedule.late));
+                let shut = calendar.shut_slots().count() as u32;
                 for (flow, &finish) in book.flows.iter().zip(&schedule.finishes) {
-                    assert!(u32::from(finish) <= 2 * flow.deadline);
+                    let open = [finish.into(), flow.deadline].map(|at| calendar.open_before(at));
+                    assert!(open[0] <= 2 * open[1]);
+                    assert!(u32::from(finish) <= 8_192 - shut);
                 }
             }
             Err(flow) => {
                 refused[above] += 1;
                 let before = order.iter().position(|&k| k == flow as usize).unwrap();
-                assert!(schedule(&books::cut(&book, before)).is_ok());
+                assert!(schedule(&books::cut(&book, before), &calendar).is_ok());
                 let upto = books::cut(&book, before + 1);
-                let named = schedule(&upto).unwrap_err() as usize;
+                let named = schedule(&upto, &calendar).unwrap_err() as usize;
                 assert_eq!(Some(&named), upto.service_order().last());
                 assert_eq!(upto.flows[named], book.flows[flow as usize]);
             }
@@ -384,12 +400,14 @@ fn one_pass_check_is_the_one_by_definition() {
     let mut early = [0u32; NUMBERS];
     let mut wide_rows = WideRows::default();
     let mut edges = Edges::default();
+    let mut kinds = Kinds::default();
     for case in 0..8_000 {
         let book = books::drawn(&mut rng, VERSIONS[case % 2], books::tiny_book);
+        let (book, calendar) = calendars::with_calendar(&mut rng, book);
         let table = if rng.chance(1, 2) {
-            tables::planned_table(&book)
+            tables::planned_table(&book, &calendar)
         } else {
-            tables::delayed_table(&mut rng, &book)
+            tables::delayed_table(&mut rng, &book, &calendar)
         };
         let Some(table) = table else {
             continue;
@@ -406,13 +424,15 @@ fn one_pass_check_is_the_one_by_definition() {
         for case in 0..6 {
             let table = match case {
                 0 => intact.clone(),
-                _ => tables::damaged(&mut rng, &book, &table),
+                _ => tables::damaged(&mut rng, &book, &calendar, &table),
             };
+            let lent = calendars::lent(&mut rng, &calendar);
             let room = WORK_BYTES + rng.index(9) - usize::from(rng.chance(1, 32));
-            let answer = answer_of_both(&bytes, &table, room);
+            let answer = answer_of_both(&bytes, &lent, &table, room);
             met[answer.number as usize] += 1;
             if answer.number == 0 {
                 edges.count(&bytes, &table);
+                kinds.count(&book, &calendar);
             }
             if tables::begins_early(&book, &table, answer.flow) {
                 early[answer.number as usize] += 1;
@@ -424,7 +444,7 @@ fn one_pass_check_is_the_one_by_definition() {
     }
     println!("numbers met by the checks: {met:?}");
     println!("of them at a flow that begins before its release: {early:?}");
-    for number in (0..=11).chain(14..=22) {
+    for number in (0..=11).chain(14..=22).chain([24, 25]) {
         assert!(met[number] > 0, "number {number} was never met");
     }
     for number in [17, 18, 19] {
@@ -432,6 +452,7 @@ fn one_pass_check_is_the_one_by_definition() {
     }
     wide_rows.hold();
     edges.hold("both checks");
+    kinds.hold(Version::Two, "both checks", &[]);
 }
 
 /// Every row of a table moved to every place, taken out together with every
@@ -444,18 +465,23 @@ fn one_pass_check_of_rows_out_of_place() {
     let mut tables = 0;
     while tables < 80 {
         let book = books::drawn(&mut rng, VERSIONS[tables % 2], books::tiny_book);
-        let Some(table) = tables::delayed_table(&mut rng, &book) else {
+        let calendar = match tables % 4 {
+            0 | 1 => Calendar::default(),
+            _ => calendars::valid(&mut rng, &book),
+        };
+        let Some(table) = tables::delayed_table(&mut rng, &book, &calendar) else {
             continue;
         };
         if book.flows.len() < 2 || table.rows.len() > 24 {
             continue;
         }
         tables += 1;
-        let bytes = encode_book(&book);
+        let (bytes, lent) = (encode_book(&book), calendar.encode());
+        let shut = calendar.windows.first().map_or(8_192, |first| first.shut);
         let mut hold = |rows: Vec<Row>| {
             let finishes = table.finishes.clone();
             let table = Table { finishes, rows }.encode(&book);
-            met[answer_of_both(&bytes, &table, WORK_BYTES).number as usize] += 1;
+            met[answer_of_both(&bytes, &lent, &table, WORK_BYTES).number as usize] += 1;
         };
         for (from, &row) in table.rows.iter().enumerate() {
             let mut others = table.rows.clone();
@@ -469,10 +495,11 @@ fn one_pass_check_of_rows_out_of_place() {
                 hold(fewer);
             }
             let jobs = &book.flows[row.flow as usize].jobs;
-            for fault in 0..6 {
+            for fault in 0..7 {
                 let mut again = row;
                 match fault {
                     0 => again.slot = 8_192,
+                    5 => again.slot = shut as u16,
                     1 => again.flow = book.flows.len() as u8,
                     2 => again.job = jobs.len() as u8,
                     3 => again.take = 0,
@@ -491,16 +518,16 @@ fn one_pass_check_of_rows_out_of_place() {
         }
     }
     println!("numbers met by rows out of place: {met:?}");
-    for number in [0, 15, 16, 17, 19, 20] {
+    for number in [0, 15, 16, 17, 19, 20, 25] {
         assert!(met[number] > 0, "number {number} was never met");
     }
 }
 
 /// What both checks answer; the work areas must be equal too.
-fn answer_of_both(book: &[u8], table: &[u8], room: usize) -> CheckAnswer {
+fn answer_of_both(book: &[u8], calendar: &[u8], table: &[u8], room: usize) -> CheckAnswer {
     let mut work = [vec![5; room], vec![5; room]];
-    let one_pass = second_check::check(book, table, &mut work[0]);
-    let literal = second_check::check_by_definition(book, table, &mut work[1]);
+    let one_pass = second_check::check(book, calendar, table, &mut work[0]);
+    let literal = second_check::check_by_definition(book, calendar, table, &mut work[1]);
     assert_eq!(one_pass, literal);
     assert!(work[0] == work[1]);
     one_pass
@@ -508,11 +535,13 @@ fn answer_of_both(book: &[u8], table: &[u8], room: usize) -> CheckAnswer {
 
 /// What both dispatch lists answer, with output and work area, which must be equal
 /// too.
-fn list_of_both(book: &[u8], table: &[u8], room: usize, area: usize) -> Listed {
+fn list_of_both(book: &[u8], calendar: &[u8], table: &[u8], room: usize, area: usize) -> Listed {
     let mut outputs = [vec![9; room], vec![9; room]];
     let mut works = [vec![5; area], vec![5; area]];
-    let sorted = second_dispatch::dispatch(book, table, &mut outputs[0], &mut works[0]);
-    let merged = fast_dispatch::dispatch(book, table, &mut outputs[1], &mut works[1]);
+    let [to, work] = [&mut outputs[0], &mut works[0]];
+    let sorted = second_dispatch::dispatch(book, calendar, table, to, work);
+    let [to, work] = [&mut outputs[1], &mut works[1]];
+    let merged = fast_dispatch::dispatch(book, calendar, table, to, work);
     assert_eq!(sorted, merged);
     assert!(outputs[0] == outputs[1]);
     assert!(works[0] == works[1]);
@@ -529,16 +558,18 @@ fn merged_list_is_the_sorted_one() {
     let mut rng = Rng::new(16);
     let mut met = [0u32; NUMBERS];
     let (mut orders_apart, mut blocks) = (0, 0);
-    for case in 0..12_000 {
+    for case in 0..18_000 {
         let family = match case % 2_000 {
             0..=2 => books::full_book,
             3 => books::heavy_book,
             _ => books::any_book,
         };
         let book = books::drawn(&mut rng, VERSIONS[case % 2], family);
+        let (book, calendar) = calendars::with_calendar(&mut rng, book);
+        let lent = calendars::lent(&mut rng, &calendar);
         let table = match case % 4 {
-            0 => tables::delayed_table(&mut rng, &book),
-            _ => tables::planned_table(&book),
+            0 => tables::delayed_table(&mut rng, &book, &calendar),
+            _ => tables::planned_table(&book, &calendar),
         };
         let Some(table) = table else {
             continue;
@@ -548,13 +579,13 @@ fn merged_list_is_the_sorted_one() {
             books::damage_book(&mut rng, &mut bytes);
         }
         let table = match rng.below(4) {
-            0 => tables::damaged(&mut rng, &book, &table),
+            0 => tables::damaged(&mut rng, &book, &calendar, &table),
             _ => table.encode(&book),
         };
         let exact = lists::length_for(&table);
         let room = rng.pick(&[0, exact - 1, exact, exact, exact, exact + 50]);
         let area = WORK_BYTES + rng.index(9) - usize::from(rng.chance(1, 16));
-        let (answer, output, work) = list_of_both(&bytes, &table, room, area);
+        let (answer, output, work) = list_of_both(&bytes, &lent, &table, room, area);
         met[answer.number as usize] += 1;
         if answer.number != 0 {
             continue;
@@ -580,19 +611,19 @@ fn merged_list_is_the_sorted_one() {
         "lists that tell service order from flow number: {orders_apart}; with eight rows of a \
          flow in a slot: {blocks}"
     );
-    for number in (1..=11).chain(13..=22) {
+    for number in (1..=11).chain(13..=22).chain([24, 25]) {
         assert!(met[number] > 0, "number {number} was never met");
     }
     assert!(met[0] > 2_000 && orders_apart > 500 && blocks > 100);
 }
 
 /// What all finishes answer; the work areas must be equal too.
-fn finish_of_all(book: &[u8], flow: u32, area: usize) -> (FinishAnswer, Vec<u8>) {
+fn finish_of_all(book: &[u8], calendar: &[u8], flow: u32, area: usize) -> (FinishAnswer, Vec<u8>) {
     let mut work = vec![5; area];
-    let literal = second_finish::finish(book, flow, &mut work);
+    let literal = second_finish::finish(book, calendar, flow, &mut work);
     for fast in [fast_finish::finish, fast_finish::finish_sorted] {
         let mut other = vec![5; area];
-        let answer = fast(book, flow, &mut other);
+        let answer = fast(book, calendar, flow, &mut other);
         assert_eq!(literal, answer, "flow {flow} of book {book:02x?}");
         assert!(work == other);
     }
@@ -614,28 +645,38 @@ fn fast_finishes_are_the_literal_one() {
             _ => books::any_book,
         };
         let book = books::drawn(&mut rng, VERSIONS[case % 2], family);
+        let (book, calendar) = calendars::with_calendar(&mut rng, book);
+        let lent = calendars::lent(&mut rng, &calendar);
         let mut bytes = encode_book(&book);
         if rng.chance(1, 4) {
             books::damage_book(&mut rng, &mut bytes);
         }
         let area = WORK_BYTES + rng.index(9) - usize::from(rng.chance(1, 16));
         for flow in marked::no_flows(book.flows.len() as u32) {
-            let (answer, _) = finish_of_all(&bytes, flow, area);
+            let (answer, _) = finish_of_all(&bytes, &lent, flow, area);
             met[answer.number as usize] += 1;
         }
         let Ok(book) = read_book(&bytes) else {
             continue;
         };
-        let whole = schedule(&book);
-        let owed = second_finish::outcomes(&book);
+        let Ok(calendar) = read_calendar(&lent) else {
+            for flow in 0..book.flows.len() as u32 {
+                let (answer, _) = finish_of_all(&bytes, &lent, flow, area);
+                met[answer.number as usize] += 1;
+            }
+            continue;
+        };
+        let whole = schedule(&book, &calendar);
+        let owed = second_finish::outcomes(&book, &calendar);
         let order = book.service_order();
         for (place, &flow) in order.iter().enumerate() {
             if order.len() > 12 && place % 8 != case % 8 {
                 continue;
             }
-            let (answer, work) = finish_of_all(&bytes, flow as u32, area);
+            let (answer, work) = finish_of_all(&bytes, &lent, flow as u32, area);
             met[answer.number as usize] += 1;
-            assert_eq!(owed[flow], second_finish::outcome(&bytes, flow as u32));
+            let again = second_finish::outcome(&bytes, &lent, flow as u32);
+            assert_eq!(owed[flow], again);
             if answer.number == 11 {
                 continue;
             }
@@ -648,7 +689,8 @@ fn fast_finishes_are_the_literal_one() {
             }
             let kept = books::kept_by_cut(&book, place + 1);
             let mut planned = vec![5; area];
-            let cut = second_planner::outcome(&encode_book(&books::cut(&book, place + 1)));
+            let cut = encode_book(&books::cut(&book, place + 1));
+            let cut = second_planner::outcome(&cut, &lent);
             let plan = second_planner::deliver(&cut, &mut output, &mut planned);
             assert!(planned == work);
             assert_eq!(plan.number, answer.number);
@@ -664,23 +706,24 @@ fn fast_finishes_are_the_literal_one() {
     }
     println!("numbers met by the finishes: {met:?}");
     println!("finishes as in the table: {in_table}; before an infeasible flow: {behind}");
-    for number in (0..=12).chain([22, 23]) {
+    for number in (0..=12).chain([22, 23, 24]) {
         assert!(met[number] > 0, "number {number} was never met");
     }
     assert!(in_table > 1_000 && behind > 500 && met[12] > 500);
 }
 
 /// On tiny books every valid schedule that ends each flow by its deadline is
-/// searched for; where the planner refuses there must be none up to the flow
-/// that it names.
+/// searched for, in open slots only; where the planner refuses there must be none up to
+/// the flow that it names.
 #[test]
 fn a_refused_book_has_no_schedule_in_time() {
     for version in VERSIONS {
-        hold_refusals(version);
+        hold_refusals(version, false);
+        hold_refusals(version, true);
     }
 }
 
-fn hold_refusals(version: Version) {
+fn hold_refusals(version: Version, windows: bool) {
     let mut rng = Rng::new(7);
     // Of each also those with caps above P.
     let (mut none, mut some) = ([0; 2], [0; 2]);
@@ -708,24 +751,32 @@ fn hold_refusals(version: Version) {
             continue;
         }
         let above = usize::from(books::has_cap_above(&book));
-        if let Err(flow) = schedule(&book) {
+        let calendar = if windows {
+            let shut = rng.below(6) as u32;
+            let again = shut + 1 + rng.below(3) as u32;
+            let second = again + 1 + rng.below(4) as u32;
+            Calendar::of(&[[shut, again], [second, second + 1]])
+        } else {
+            Calendar::default()
+        };
+        if let Err(flow) = schedule(&book, &calendar) {
             let order = book.service_order();
             let place = order.iter().position(|&k| k == flow as usize).unwrap();
-            assert!(!in_time(&books::cut(&book, place + 1)));
+            assert!(!in_time(&books::cut(&book, place + 1), &calendar));
             none[above] += 1;
-        } else if in_time(&book) {
+        } else if in_time(&book, &calendar) {
             some[above] += 1;
         }
     }
     println!(
-        "{version:?}, without caps above P and with: refused without a schedule in time \
-         {none:?}, planned with one {some:?}"
+        "{version:?}, windows {windows}, without caps above P and with: refused without a \
+         schedule in time {none:?}, planned with one {some:?}"
     );
     assert!(none.into_iter().chain(some).all(|met| met > 500));
 }
 
 /// Whether some valid schedule ends every flow by its own deadline.
-fn in_time(book: &Book) -> bool {
+fn in_time(book: &Book, calendar: &Calendar) -> bool {
     let left: Vec<(usize, usize, u32)> = book
         .flows
         .iter()
@@ -737,10 +788,10 @@ fn in_time(book: &Book) -> bool {
                 .map(move |(j, job)| (f, j, job.size))
         })
         .collect();
-    search(book, 0, &left)
+    search(book, calendar, 0, &left)
 }
 
-fn search(book: &Book, slot: u32, left: &[(usize, usize, u32)]) -> bool {
+fn search(book: &Book, calendar: &Calendar, slot: u32, left: &[(usize, usize, u32)]) -> bool {
     if left.iter().all(|&(_, _, size)| size == 0) {
         return true;
     }
@@ -761,7 +812,7 @@ fn search(book: &Book, slot: u32, left: &[(usize, usize, u32)]) -> bool {
             let open = left
                 .iter()
                 .any(|&(f, j, size)| f == flow && record.precedence >> j & 1 == 1 && size > 0);
-            if open || slot < book.flows[flow].release {
+            if open || slot < book.flows[flow].release || !calendar.is_open(slot) {
                 0
             } else {
                 size.min(record.cap_in_use(book.processors))
@@ -769,11 +820,12 @@ fn search(book: &Book, slot: u32, left: &[(usize, usize, u32)]) -> bool {
         })
         .collect();
     let mut next = left.to_vec();
-    give(book, slot, &most, 0, book.processors, &mut next)
+    give(book, calendar, slot, &most, 0, book.processors, &mut next)
 }
 
 fn give(
     book: &Book,
+    calendar: &Calendar,
     slot: u32,
     most: &[u32],
     at: usize,
@@ -781,12 +833,12 @@ fn give(
     next: &mut Vec<(usize, usize, u32)>,
 ) -> bool {
     if at == most.len() {
-        return search(book, slot + 1, &next.clone());
+        return search(book, calendar, slot + 1, &next.clone());
     }
     let size = next[at].2;
     for take in (0..=most[at].min(free)).rev() {
         next[at].2 = size - take;
-        if give(book, slot, most, at + 1, free - take, next) {
+        if give(book, calendar, slot, most, at + 1, free - take, next) {
             return true;
         }
     }

@@ -1,8 +1,11 @@
-//! How much stack one call takes: on full books of both versions, on books A, E and
-//! G, and on each of them damaged so that each of the numbers refuses it.
+//! How much stack one call takes: on full books of both versions, without windows and
+//! with the most, on books A, E and G, and on each of them damaged so that each of the
+//! numbers refuses it.
 
 use flowplan_tests::answer::WORK_BYTES;
 use flowplan_tests::books::{self, encode_book};
+use flowplan_tests::calendar::{read_calendar, Calendar, Window, MOST_WINDOWS};
+use flowplan_tests::calendars::{self, stretched};
 use flowplan_tests::painted::stack_of;
 use flowplan_tests::reader::{read_book, Book};
 use flowplan_tests::rng::Rng;
@@ -19,27 +22,60 @@ const PLAN_STACK: usize = 20 * 1024;
 const DISPATCH_STACK: usize = 20 * 1024;
 const FINISH_STACK: usize = 20 * 1024;
 
-/// A book that can be planned, with its table.
+/// A book that can be planned with its calendar, and its table.
 struct Case {
     name: &'static str,
     book: Book,
+    calendar: Calendar,
     table: Table,
 }
 
-/// A full book of each version, with jobs that wait for each other, and books A, E
-/// and G.
-fn cases(rng: &mut Rng) -> [Case; 5] {
-    let case = |name, book| {
-        let table = tables::planned_table(&book)?;
-        Some(Case { name, book, table })
+impl Case {
+    fn of(name: &'static str, book: Book, calendar: Calendar) -> Option<Case> {
+        let table = tables::planned_table(&book, &calendar)?;
+        Some(Case {
+            name,
+            book,
+            calendar,
+            table,
+        })
+    }
+
+    /// A book without windows, and in the open slots of 32 windows.
+    fn both(names: [&'static str; 2], book: Book) -> Option<[Case; 2]> {
+        let shut = |k: u32| Window::new(20 * k + 4, 20 * k + 9);
+        let calendar = Calendar {
+            windows: (0..MOST_WINDOWS as u32).map(shut).collect(),
+        };
+        let in_windows = Case::of(names[1], stretched(&book, &calendar)?, calendar)?;
+        let without = Case::of(names[0], book, Calendar::default())?;
+        Some([without, in_windows])
+    }
+}
+
+/// A full book of each version, with jobs that wait for each other, without windows and
+/// with the most, and books A, E and G, the last also with a window.
+fn cases(rng: &mut Rng) -> Vec<Case> {
+    let names = ["full book", "full book with windows"];
+    let full = (0..100).find_map(|_| Case::both(names, books::full_book(rng)));
+    let names = [
+        "full book with releases",
+        "full book with releases and windows",
+    ];
+    let late = (0..100).find_map(|_| Case::both(names, books::late_full_book(rng)));
+    let marked = |name, book: &[u8], windows: &[[u32; 2]]| {
+        let book = read_book(book).expect("a marked book");
+        Case::of(name, book, Calendar::of(windows)).expect("feasible")
     };
-    let full = (0..100).find_map(|_| case("full book", books::full_book(rng)));
-    let late = |_| case("full book with releases", books::late_full_book(rng));
-    let late = (0..100).find_map(late);
-    let book_a = case("book A", read_book(&marked::BOOK_A).expect("book A"));
-    let book_e = case("book E", read_book(&marked::book_e()).expect("book E"));
-    let book_g = case("book G", read_book(&marked::BOOK_G).expect("book G"));
-    [full, book_a, book_e, late, book_g].map(|case| case.expect("feasible"))
+    let mut cases: Vec<Case> = [full, late].into_iter().flatten().flatten().collect();
+    assert_eq!(cases.len(), 4, "full books are feasible");
+    cases.extend([
+        marked("book A", &marked::BOOK_A, &[]),
+        marked("book E", &marked::book_e(), &[]),
+        marked("book G", &marked::BOOK_G, &[]),
+        marked("book G with a window", &marked::BOOK_G, &[[3, 4]]),
+    ]);
+    cases
 }
 
 /// One drawn input for each of the numbers that it may be refused by.
@@ -76,13 +112,27 @@ fn damaged_books(rng: &mut Rng, case: &Case) -> Vec<Vec<u8>> {
     one_of_each(case.book.version.faults(), draw, number_of)
 }
 
-/// Damaged copies of the table, refused by 14 to 21.
+/// A damaged copy of the calendar, refused by 24.
+fn damaged_calendar(rng: &mut Rng, case: &Case) -> Vec<u8> {
+    let draw = || calendars::damaged(rng, &case.calendar);
+    let number_of =
+        |bytes: &[u8]| read_calendar(bytes).map_or_else(|refusal| refusal.number, |_| 0);
+    one_of_each(&[24], draw, number_of).remove(0)
+}
+
+/// The numbers that a table may be refused by: 14 to 21, and with windows 25.
+fn table_faults(case: &Case) -> Vec<u8> {
+    let shut = case.calendar.windows.first().map(|_| 25);
+    (14..=21).chain(shut).collect()
+}
+
+/// Damaged copies of the table, refused by each of these.
 fn damaged_tables(rng: &mut Rng, case: &Case) -> Vec<Vec<u8>> {
-    let book = encode_book(&case.book);
+    let (book, calendar) = (encode_book(&case.book), case.calendar.encode());
     let mut work = vec![0; WORK_BYTES];
-    let draw = || tables::damaged(rng, &case.book, &case.table);
-    let number_of = |table: &[u8]| second_check::check(&book, table, &mut work).number;
-    one_of_each(&[14, 15, 16, 17, 18, 19, 20, 21], draw, number_of)
+    let draw = || tables::damaged(rng, &case.book, &case.calendar, &case.table);
+    let number_of = |table: &[u8]| second_check::check(&book, &calendar, table, &mut work).number;
+    one_of_each(&table_faults(case), draw, number_of)
 }
 
 /// The book with a flow that is infeasible, the last in service order.
@@ -99,35 +149,38 @@ fn infeasible(case: &Case) -> Vec<u8> {
 type Seen = (u8, usize);
 
 /// One proved check, whose answer must be the second one's.
-fn check(book: &[u8], table: &[u8], work: usize) -> Seen {
+fn check(book: &[u8], calendar: &[u8], table: &[u8], work: usize) -> Seen {
     let mut work = vec![0x5a; work];
-    let expected = second_check::check(book, table, &mut work);
+    let expected = second_check::check(book, calendar, table, &mut work);
     let mut answer = None;
-    let stack = stack_of(&mut || answer = Some(linked::check(book, table, &mut work)));
+    let stack = stack_of(&mut || answer = Some(linked::check(book, calendar, table, &mut work)));
     assert_eq!(answer, Some(expected));
     (expected.number, stack)
 }
 
 /// One proved plan, whose answer must be the fast planner's.
-fn plan(book: &[u8], output: usize, work: usize) -> Seen {
+fn plan(book: &[u8], calendar: &[u8], output: usize, work: usize) -> Seen {
     let mut output = vec![0x5a; output];
     let mut work = vec![0x5a; work];
-    let expected = fast_planner::plan(book, &mut output, &mut work);
+    let expected = fast_planner::plan(book, calendar, &mut output, &mut work);
     let mut answer = None;
-    let stack = stack_of(&mut || answer = Some(linked_plan::plan(book, &mut output, &mut work)));
+    let stack = stack_of(&mut || {
+        answer = Some(linked_plan::plan(book, calendar, &mut output, &mut work));
+    });
     assert_eq!(answer, Some(expected));
     (expected.number, stack)
 }
 
 /// One proved dispatch list, whose answer must be that of the merge.
-fn dispatch(book: &[u8], table: &[u8], output: usize, work: usize) -> Seen {
+fn dispatch(book: &[u8], calendar: &[u8], table: &[u8], output: usize, work: usize) -> Seen {
     let mut output = vec![0x5a; output];
     let mut work = vec![0x5a; work];
-    let expected = fast_dispatch::dispatch(book, table, &mut output, &mut work);
+    let expected = fast_dispatch::dispatch(book, calendar, table, &mut output, &mut work);
     let mut answer = None;
     let stack = stack_of(&mut || {
         answer = Some(linked_dispatch::dispatch(
             book,
+            calendar,
             table,
             &mut output,
             &mut work,
@@ -138,18 +191,20 @@ fn dispatch(book: &[u8], table: &[u8], output: usize, work: usize) -> Seen {
 }
 
 /// One proved finish, whose answer must be the fast one's.
-fn finish(book: &[u8], flow: u32, work: usize) -> Seen {
+fn finish(book: &[u8], calendar: &[u8], flow: u32, work: usize) -> Seen {
     let mut work = vec![0x5a; work];
-    let expected = fast_finish::finish(book, flow, &mut work);
+    let expected = fast_finish::finish(book, calendar, flow, &mut work);
     let mut answer = None;
-    let stack = stack_of(&mut || answer = Some(linked_finish::finish(book, flow, &mut work)));
+    let stack = stack_of(&mut || {
+        answer = Some(linked_finish::finish(book, calendar, flow, &mut work));
+    });
     assert_eq!(answer, Some(expected));
     (expected.number, stack)
 }
 
 /// Prints what the calls on one book took and gives the most. Each number by
-/// which the book can be refused must have been answered once, and so each of
-/// the others.
+/// which the book or its calendar can be refused must have been answered once, and
+/// so each of the others.
 fn most_of(
     call: &str,
     case: &Case,
@@ -158,6 +213,7 @@ fn most_of(
 ) -> usize {
     let mut numbers: Vec<u8> = others.collect();
     numbers.extend(case.book.version.faults());
+    numbers.push(24);
     numbers.sort_unstable();
     seen.sort_unstable();
     assert!(seen.iter().map(|&(number, _)| number).eq(numbers));
@@ -180,17 +236,20 @@ fn check_in_little_stack() {
     for case in cases(&mut rng) {
         let book = encode_book(&case.book);
         let table = case.table.encode(&case.book);
+        let calendar = case.calendar.encode();
+        let faulty = damaged_calendar(&mut rng, &case);
         let mut seen = vec![
-            check(&book, &table, WORK_BYTES),
-            check(&book, &table, WORK_BYTES - 1),
+            check(&book, &calendar, &table, WORK_BYTES),
+            check(&book, &calendar, &table, WORK_BYTES - 1),
+            check(&book, &faulty, &table, WORK_BYTES),
         ];
         for damaged in damaged_books(&mut rng, &case) {
-            seen.push(check(&damaged, &table, WORK_BYTES));
+            seen.push(check(&damaged, &calendar, &table, WORK_BYTES));
         }
         for damaged in damaged_tables(&mut rng, &case) {
-            seen.push(check(&book, &damaged, WORK_BYTES));
+            seen.push(check(&book, &calendar, &damaged, WORK_BYTES));
         }
-        let others = [0, 11].into_iter().chain(14..=21);
+        let others = [0, 11].into_iter().chain(table_faults(&case));
         most = most.max(most_of("check", &case, seen, others));
     }
     println!("check: at most {most} bytes of stack");
@@ -204,14 +263,17 @@ fn planner_in_little_stack() {
     for case in cases(&mut rng) {
         let book = encode_book(&case.book);
         let length = case.table.encode(&case.book).len();
+        let calendar = case.calendar.encode();
+        let faulty = damaged_calendar(&mut rng, &case);
         let mut seen = vec![
-            plan(&book, length, WORK_BYTES),
-            plan(&book, length, WORK_BYTES - 1),
-            plan(&book, length - 1, WORK_BYTES),
-            plan(&infeasible(&case), length, WORK_BYTES),
+            plan(&book, &calendar, length, WORK_BYTES),
+            plan(&book, &calendar, length, WORK_BYTES - 1),
+            plan(&book, &calendar, length - 1, WORK_BYTES),
+            plan(&book, &faulty, length, WORK_BYTES),
+            plan(&infeasible(&case), &calendar, length, WORK_BYTES),
         ];
         for damaged in damaged_books(&mut rng, &case) {
-            seen.push(plan(&damaged, length, WORK_BYTES));
+            seen.push(plan(&damaged, &calendar, length, WORK_BYTES));
         }
         let others = [0, 11, 12, 13].into_iter();
         most = most.max(most_of("plan", &case, seen, others));
@@ -228,18 +290,21 @@ fn dispatch_list_in_little_stack() {
         let book = encode_book(&case.book);
         let table = case.table.encode(&case.book);
         let length = lists::length_for(&table);
+        let calendar = case.calendar.encode();
+        let faulty = damaged_calendar(&mut rng, &case);
         let mut seen = vec![
-            dispatch(&book, &table, length, WORK_BYTES),
-            dispatch(&book, &table, length, WORK_BYTES - 1),
-            dispatch(&book, &table, length - 1, WORK_BYTES),
+            dispatch(&book, &calendar, &table, length, WORK_BYTES),
+            dispatch(&book, &calendar, &table, length, WORK_BYTES - 1),
+            dispatch(&book, &calendar, &table, length - 1, WORK_BYTES),
+            dispatch(&book, &faulty, &table, length, WORK_BYTES),
         ];
         for damaged in damaged_books(&mut rng, &case) {
-            seen.push(dispatch(&damaged, &table, length, WORK_BYTES));
+            seen.push(dispatch(&damaged, &calendar, &table, length, WORK_BYTES));
         }
         for damaged in damaged_tables(&mut rng, &case) {
-            seen.push(dispatch(&book, &damaged, length, WORK_BYTES));
+            seen.push(dispatch(&book, &calendar, &damaged, length, WORK_BYTES));
         }
-        let others = [0, 11, 13].into_iter().chain(14..=21);
+        let others = [0, 11, 13].into_iter().chain(table_faults(&case));
         most = most.max(most_of("dispatch list", &case, seen, others));
     }
     println!("dispatch list: at most {most} bytes of stack");
@@ -256,17 +321,20 @@ fn finish_in_little_stack() {
         let order = case.book.service_order();
         let (last, others) = order.split_last().expect("a flow");
         let last = *last as u32;
+        let calendar = case.calendar.encode();
+        let faulty = damaged_calendar(&mut rng, &case);
         let mut seen = vec![
-            finish(&book, last, WORK_BYTES),
-            finish(&book, last, WORK_BYTES - 1),
-            finish(&infeasible(&case), last, WORK_BYTES),
-            finish(&book, 256, WORK_BYTES),
+            finish(&book, &calendar, last, WORK_BYTES),
+            finish(&book, &calendar, last, WORK_BYTES - 1),
+            finish(&infeasible(&case), &calendar, last, WORK_BYTES),
+            finish(&book, &calendar, 256, WORK_BYTES),
+            finish(&book, &faulty, last, WORK_BYTES),
         ];
         for damaged in damaged_books(&mut rng, &case) {
-            seen.push(finish(&damaged, last, WORK_BYTES));
+            seen.push(finish(&damaged, &calendar, last, WORK_BYTES));
         }
         for &flow in others {
-            let (number, stack) = finish(&book, flow as u32, WORK_BYTES);
+            let (number, stack) = finish(&book, &calendar, flow as u32, WORK_BYTES);
             assert_eq!(number, 0);
             most = most.max(stack);
         }

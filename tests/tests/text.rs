@@ -9,6 +9,7 @@ use std::process::{Command, Stdio};
 
 use flowplan_tests::answer::WORK_BYTES;
 use flowplan_tests::books::{self, encode_book};
+use flowplan_tests::calendar::NO_WINDOWS;
 use flowplan_tests::marked;
 use flowplan_tests::reader::{Version, VERSIONS};
 use flowplan_tests::rng::Rng;
@@ -19,14 +20,14 @@ const LENT: usize = 65_536;
 /// What the program prints of plan A.
 const TEXT_A: &str = include_str!("../../crates/plan/stdout");
 
-/// What document 01 has the program print for an input.
+/// What document 01 has the program print for an input; it plans without windows.
 fn expected(input: &[u8]) -> String {
     if input.len() > LENT {
         return "refused 1 flow 255 job 255\n".to_string();
     }
     let mut table = vec![0; LENT];
     let mut work = vec![0; WORK_BYTES];
-    let answer = second_planner::plan(input, &mut table, &mut work);
+    let answer = second_planner::plan(input, &NO_WINDOWS, &mut table, &mut work);
     let mut text = String::new();
     if answer.number != 0 {
         let (number, flow, job) = (answer.number, answer.flow, answer.job);

@@ -11,18 +11,22 @@ use lib.ListN.{length, set, drop, length-append}
 use lib.Seq.{sets, sets-eq}
 use lib.Dec.{ltb}
 use borrow.Author.Tests.{ltb-false, eq-eqb}
+use Rattle.rules.specs.declared.Verdict.the-variants.{Pass}
 use Rattle.rules.specs.Walks.{if_then_else_, joinFrom}
 use Rattle.rules.specs.Fields.{bytesOf}
 use Rattle.rules.specs.Answers.{none, checkRefused, listAccepted, listRefused}
 use Rattle.rules.specs.Limits.{slots, workBytes}
 use Rattle.rules.specs.Book.{Book, flowCount}
-use Rattle.rules.specs.Reading.{Reading, read, readBook, bookOf}
+use Rattle.rules.specs.Calendar.{calendarOf}
+use Rattle.rules.specs.Reading.{Reading, read, readBook, bookOf, bookWith}
 use Rattle.rules.specs.Rows.{Row, usedIn, workUsed, workZero}
 use Rattle.rules.specs.Table.{rowsBytes}
 use Rattle.rules.specs.Check.{tableFault, CheckOutcome, checkOutcome, checkReading, checkCall}
 use Rattle.rules.specs.Dispatch.{listRows, listLength, listBytes, listOutcome, dispatchChecked, dispatchCall}
 use Rattle.rules.proofs.Fields.{bytes-length, sets-append}
-use Rattle.rules.proofs.Passing.{read-passes}
+use Rattle.rules.proofs.Passing.{calendar-of-book, read-passes}
+use Rattle.rules.proofs.SameUse.{with-same, rows-same}
+use Rattle.rules.proofs.TablePasses.{accepted-without}
 use Rattle.rules.proofs.WorkArea.{used-length, used-rest, used-cleared}
 use Rattle.rules.proofs.TableBytes.{rows-bytes-length}
 use Rattle.rules.proofs.ListOrder.{list-length}
@@ -33,29 +37,39 @@ use Rattle.dispatch.specs.Call.{headBytes}
 use Rattle.dispatch.proofs.Tables.{rows-fill}
 
 -- ---- the check's number 0
-module _ (book table area : List ℕ) (zero : checkCall book table area .answer .number ≡ 0) where
-  reads : readBook book ≡ read (bookOf book)
-  reads = check-reads book table area zero
+module _ (book calendar table area : List ℕ) (zero : checkCall book calendar table area .answer .number ≡ 0) where
+  reads : readBook book calendar ≡ read (bookWith book calendar)
+  reads = check-reads book calendar table area zero
 
+  accepts : (tableFault (bookWith book calendar) table ≡ Pass) × (checkCall book calendar table area ≡ checkOutcome (bookWith book calendar) table area Pass)
+  accepts = call-accepts book calendar table area (bookWith book calendar) reads zero
+
+  -- what is accepted with the calendar is accepted without it
   pub number-accepts : Accepted book table
-  number-accepts =
-      record { book-passes = read-passes book (bookOf book) reads .0; table-passes = call-accepts book table area (bookOf book) reads zero .0 }
+  number-accepts = record {
+    book-passes = read-passes book calendar (bookWith book calendar) reads .book-passes;
+    table-passes = accepted-without (calendarOf calendar) (bookOf book) table (accepts .0) (calendar-of-book book);
+  }
 
-  pub area-used : checkCall book table area .area ≡ workUsed slots (rowsOf book table) area
+  pub area-used : checkCall book calendar table area .area ≡ workUsed slots (rowsOf book table) area
   unfolding checkOutcome
-  area-used = ap (λ (o : CheckOutcome). o .area) (call-accepts book table area (bookOf book) reads zero .1)
+  area-used =
+      ap (λ (o : CheckOutcome). o .area) (accepts .1)
+      ∙ ap (λ (rows : List Row). workUsed slots rows area)
+      (rows-same (bookWith book calendar) (bookOf book) (with-same (calendarOf calendar) (bookOf book)) table)
 
   area-long : workBytes ≤ length area
   unfolding checkCall checkReading
   area-long = go (ltb (length area) workBytes) refl (sym (ap (λ (r : Reading). checkReading table area r .answer .number) reads) ∙ zero)
     where
       go : (t : Bool) → ltb (length area) workBytes ≡ t →
-          (if t then record { answer = checkRefused 11 none none; area = area } else checkOutcome (bookOf book) table area (tableFault (bookOf book) table)) .answer .number ≡ 0 →
+          (if t then record { answer = checkRefused 11 none none; area = area }
+          else checkOutcome (bookWith book calendar) table area (tableFault (bookWith book calendar) table)) .answer .number ≡ 0 →
           workBytes ≤ length area
       go true e z = absurd (omega arith)
       go false e z = ltb-false (length area) workBytes e
 
-  pub left-in-use : {work : List ℕ} → work ≡ checkCall book table area .area → InUse book table work
+  pub left-in-use : {work : List ℕ} → work ≡ checkCall book calendar table area .area → InUse book table work
   unfolding workUsed
   left-in-use {work} e =
       let is : work ≡ workUsed slots (rowsOf book table) area = e ∙ area-used in
@@ -116,17 +130,19 @@ pub positive : (n : ℕ) → (n ≡ 0 → ⊥) → 0 < n
 positive zero ne = absurd (ne refl)
 positive (suc n) ne = omega arith
 
-pub call-refused : (book table out area : List ℕ) → 0 < checkCall book table area .answer .number →
-    dispatchCall book table out area ≡ record {
-      answer = listRefused (checkCall book table area .answer .number) (checkCall book table area .answer .flow) (checkCall book table area .answer .job);
+pub call-refused : (book calendar table out area : List ℕ) → 0 < checkCall book calendar table area .answer .number →
+    dispatchCall book calendar table out area ≡ record {
+      answer = listRefused (checkCall book calendar table area .answer .number) (checkCall book calendar table area .answer .flow)
+          (checkCall book calendar table area .answer .job);
       output = out;
-      area = checkCall book table area .area;
+      area = checkCall book calendar table area .area;
     }
 call-refused = dispatches .check-first
 
-pub call-listed : (book table out area : List ℕ) → checkCall book table area .answer .number ≡ 0 →
-    dispatchCall book table out area ≡ listOutcome (bookOf book) (rowsOf book table) out (checkCall book table area .area) (checkCall book table area .area)
+pub call-listed : (book calendar table out area : List ℕ) → checkCall book calendar table area .answer .number ≡ 0 →
+    dispatchCall book calendar table out area
+    ≡ listOutcome (bookOf book) (rowsOf book table) out (checkCall book calendar table area .area) (checkCall book calendar table area .area)
 unfolding dispatchCall dispatchChecked
-call-listed book table out area z =
-    rw (eq-eqb (checkCall book table area .answer .number) 0 z)
-    (outcome-same (bookOf book) (rowsOf book table) out area (checkCall book table area .area) (area-used book table area z))
+call-listed book calendar table out area z =
+    rw (eq-eqb (checkCall book calendar table area .answer .number) 0 z)
+    (outcome-same (bookOf book) (rowsOf book table) out area (checkCall book calendar table area .area) (area-used book calendar table area z))

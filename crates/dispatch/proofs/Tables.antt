@@ -8,6 +8,7 @@ use lib.ListN.{length, getD, take, drop, length-drop}
 use lib.Seq.{ext-getD, getD-take, getD-drop, length-take-le}
 use Rattle.rules.specs.Walks.{listFrom}
 use Rattle.rules.specs.Fields.{byte, field, AllBytes}
+use Rattle.rules.specs.Calendar.{isOpen}
 use Rattle.rules.specs.Book.{Book, InRange}
 use Rattle.rules.specs.Reading.{bookOf}
 use Rattle.rules.specs.Rows.{Row, usedIn}
@@ -40,7 +41,7 @@ module _ (book table : List ℕ) (accepted : Accepted book table) where
   passes : TablePasses b table
   passes = table-passes b table (accepted .table-passes)
 
-  pub row-passes : (k : ℕ) → k < length rows → RowPasses b rows k
+  pub row-passes : (k : ℕ) → k < length rows → RowPasses b (isOpen (b .calendar)) rows k
   row-passes = passes .rows-pass .each-row
 
   -- at most P in a slot

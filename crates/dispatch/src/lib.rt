@@ -90,11 +90,17 @@ pub fn list_accepted(book: &[u8], table: &[u8], output: &mut [u8], work: &mut [u
     }
 }
 
-// The whole outcome of a call, for every book, table, output and work area: the check's refusals first.
-pub fn dispatch_table(book: &[u8], table: &[u8], output: &mut [u8], work: &mut [u8]) -> ListAnswer
-    ensures { λ a. ⌜ Leaves (dispatchCall (now (book .entry)) (now (table .entry)) (now (output .entry)) (now (work .entry))) a (now (output .exit)) (now (work .exit)) ⌝ }
+// The whole outcome of a call, for every book, calendar, table, output and work area: the check's refusals first.
+pub fn dispatch_table(
+    book: &[u8],
+    calendar: &[u8],
+    table: &[u8],
+    output: &mut [u8],
+    work: &mut [u8],
+) -> ListAnswer
+    ensures { λ a. ⌜ Leaves (dispatchCall (now (book .entry)) (now (calendar .entry)) (now (table .entry)) (now (output .entry)) (now (work .entry))) a (now (output .exit)) (now (work .exit)) ⌝ }
 {
-    let checked = table_check::check_table(book, table, work);
+    let checked = table_check::check_table(book, calendar, table, work);
     if checked.number != 0 {
         return refusal(checked.number, checked.flow, checked.job);
     }

@@ -10,30 +10,35 @@ use Rattle.rules.specs.declared.Verdict.the-variants.{Pass, Refused}
 use Rattle.rules.specs.declared.FinishAnswer.{FinishAnswer}
 use Rattle.rules.specs.Answers.{none, finishAccepted, finishRefused}
 use Rattle.rules.specs.Limits.{slots, workBytes}
-use Rattle.rules.specs.Book.{Book, flowCount}
-use Rattle.rules.specs.Reading.{bookOf, bookFault, readBook}
+use Rattle.rules.specs.Calendar.{Calendar, calendarOf, calendarFault, CalendarInRange}
+use Rattle.rules.specs.Book.{Book, withCalendar, flowCount}
+use Rattle.rules.specs.Reading.{bookOf, bookFault, bookWith}
 use Rattle.rules.specs.Service.{position}
 use Rattle.rules.specs.Rows.{finishOf, workUsed, workZero}
 use Rattle.rules.specs.Placing.{infeasible, placeFirst}
-use Rattle.rules.specs.Finish.{upToNamed, FinishOutcome, finishOutcome, finishReading, finishCall}
+use Rattle.rules.specs.Finish.{upToNamed, FinishOutcome, finishOutcome, finishReading, unknownFlow, inputFault, finishCall}
 use Rattle.rules.proofs.Position.{served-position}
-use Rattle.rules.proofs.WorkArea.{cleared-twice, used-over-cleared}
+use Rattle.rules.proofs.WorkArea.{used-cleared, used-over-cleared}
+use Rattle.place.specs.Whole.{shutRows}
 use Rattle.place.proofs.FirstFlows.{infeasible-stays}
+use Rattle.place.proofs.Maintenance.{used-again, ShutTo, opened-area, opened-cleared}
 use Rattle.finish.specs.declared.Placement.{Placement}
 use Rattle.finish.specs.Flows.{servedAt, PlacedUpTo}
-use Rattle.finish.specs.Call.{Leaves}
+use Rattle.finish.specs.Call.{finishIn, Leaves}
 
--- ---- what is left of a book that passes: the area was cleared before placing
-module _ (b : Book) (f k : ℕ) (area area₁ area₂ : List ℕ) (p : Placement) (named : f < flowCount b) (count : k ≡ upToNamed b f)
-    (zeros : area₁ ≡ workZero slots area) (placed : PlacedUpTo b k area₁ area₂ p) where
-  abbrev outcome : FinishOutcome
-  outcome = finishOutcome f area (placeFirst b (upToNamed b f))
+-- ---- what is left of a book and a calendar that pass: the area was cleared before placing, and then held the maintenance until the flows were placed
+pub maintenance-over : (b : Book) (area area₀ area₁ : List ℕ) → area₀ ≡ workZero slots area → area₁ ≡ workUsed slots (shutRows b) area₀ →
+    area₁ ≡ workUsed slots (shutRows b) area
+maintenance-over b area area₀ area₁ zeros e = e ∙ ap (workUsed slots (shutRows b)) zeros ∙ used-over-cleared slots (shutRows b) area
 
-  pub leaves-finish : k ≤ p .position → Leaves outcome (finishAccepted (p .finish)) area₂
+module _ (b : Book) (f k : ℕ) (area area₁ area₂ area₃ : List ℕ) (p : Placement) (range : CalendarInRange (b .calendar)) (named : f < flowCount b)
+    (count : k ≡ upToNamed b f) (held : area₁ ≡ workUsed slots (shutRows b) area) (placed : PlacedUpTo b k area₁ area₂ p)
+    (set : ShutTo (b .calendar) 0 area₂ area₃) where
+  pub leaves-finish : k ≤ p .position → Leaves (finishIn b f area) (finishAccepted (p .finish)) area₃
   unfolding finishOutcome
   leaves-finish l = go placed
     where
-      go : PlacedUpTo b k area₁ area₂ p → Leaves outcome (finishAccepted (p .finish)) area₂
+      go : PlacedUpTo b k area₁ area₂ p → Leaves (finishIn b f area) (finishAccepted (p .finish)) area₃
       go (inr s) = absurd (omega (arith, s .some))
       go (inl a) =
           let all : p .position ≡ upToNamed b f = a .all ∙ count in
@@ -41,15 +46,17 @@ module _ (b : Book) (f k : ℕ) (area area₁ area₂ : List ℕ) (p : Placement
           let last : p .finish ≡ finishOf (so-far .rows) f = so-far .finish (position b f) all ∙ ap (finishOf (so-far .rows)) (served-position b f named) in
           rw (← all, so-far .placed) (record {
             answers = ap finishAccepted last;
-            area-left = so-far .area-used ∙ ap (workUsed slots (so-far .rows)) zeros ∙ used-over-cleared slots (so-far .rows) area;
+            area-left =
+                opened-area b range (so-far .rows) area₁ area₂ area₃ (so-far .within) (so-far .area-used) set
+                ∙ ap (workUsed slots (so-far .rows)) held ∙ used-again slots (so-far .rows) (shutRows b) area;
           })
 
-  pub leaves-infeasible : p .position < k → (answer : FinishAnswer) (g : ℕ) (area₃ : List ℕ) → answer ≡ finishRefused 12 g none → g ≡ servedAt b (p .position) →
-      area₃ ≡ workZero slots area₂ → Leaves outcome answer area₃
+  pub leaves-infeasible : p .position < k → (answer : FinishAnswer) (g : ℕ) (area₄ : List ℕ) → answer ≡ finishRefused 12 g none → g ≡ servedAt b (p .position) →
+      area₄ ≡ workZero slots area₃ → Leaves (finishIn b f area) answer area₄
   unfolding finishOutcome
-  leaves-infeasible l answer g area₃ said e zeros-again = go placed
+  leaves-infeasible l answer g area₄ said e zeros = go placed
     where
-      go : PlacedUpTo b k area₁ area₂ p → Leaves outcome answer area₃
+      go : PlacedUpTo b k area₁ area₂ p → Leaves (finishIn b f area) answer area₄
       go (inl a) = absurd (omega (arith, a .all))
       go (inr s) =
           let rest : suc (p .position) + (k - suc (p .position)) ≡ upToNamed b f = omega (arith, count) in
@@ -57,28 +64,39 @@ module _ (b : Book) (f k : ℕ) (area area₁ area₂ : List ℕ) (p : Placement
           let all : placeFirst b (upToNamed b f) ≡ infeasible (servedAt b (p .position)) = rw rest at stays in
           rw all (record {
             answers = said ∙ ap (λ (h : ℕ). finishRefused 12 h none) e;
-            area-left = zeros-again ∙ s .stopped .cleared ∙ ap (workZero slots) zeros ∙ cleared-twice slots area;
+            area-left =
+                zeros ∙ opened-cleared b range (s .stopped .others) area₁ area₂ area₃ (s .stopped .area-used) set
+                ∙ ap (workZero slots) held ∙ used-cleared slots (shutRows b) area;
           })
 
 -- ---- the outcome of a call
-module _ (s area : List ℕ) (f : ℕ) where
-  pub call-refused : (n g j : ℕ) → bookFault s ≡ Refused n g j → finishCall s f area ≡ record { answer = finishRefused n g j; area = area }
-  unfolding finishCall readBook finishReading
+module _ (s calendar area : List ℕ) (f : ℕ) where
+  pub call-refused : (n g j : ℕ) → bookFault s ≡ Refused n g j → finishCall s calendar f area ≡ record { answer = finishRefused n g j; area = area }
+  unfolding finishCall inputFault finishReading
   call-refused n g j e = rw e refl
 
-  pub call-unknown : bookFault s ≡ Pass → flowCount (bookOf s) ≤ f → finishCall s f area ≡ record { answer = finishRefused 23 none none; area = area }
-  unfolding finishCall readBook finishReading
+  pub call-unknown : bookFault s ≡ Pass → flowCount (bookOf s) ≤ f → finishCall s calendar f area ≡ record { answer = finishRefused 23 none none; area = area }
+  unfolding finishCall inputFault unknownFlow finishReading
   call-unknown e l = rw (e, le-leb (flowCount (bookOf s)) f l) refl
 
   module _ (e : bookFault s ≡ Pass) (named : f < flowCount (bookOf s)) where
-    pub call-short : length area < workBytes → finishCall s f area ≡ record { answer = finishRefused 11 none none; area = area }
-    unfolding finishCall readBook finishReading
-    call-short l = rw (e, lt-leb (flowCount (bookOf s)) f named, lt-ltb (length area) workBytes l) refl
+    pub call-refused-calendar : (n g j : ℕ) → calendarFault calendar ≡ Refused n g j →
+        finishCall s calendar f area ≡ record { answer = finishRefused n g j; area = area }
+    unfolding finishCall inputFault unknownFlow finishReading
+    call-refused-calendar n g j d = rw (e, lt-leb (flowCount (bookOf s)) f named, d) refl
 
-    pub call-placed : workBytes ≤ length area →
-        finishCall s f area ≡ finishOutcome f area (placeFirst (bookOf s) (upToNamed (bookOf s) f))
-    unfolding finishCall readBook finishReading
-    call-placed l = rw (e, lt-leb (flowCount (bookOf s)) f named, le-ltb (length area) workBytes l) refl
+    module _ (d : calendarFault calendar ≡ Pass) where
+      pub call-short : length area < workBytes → finishCall s calendar f area ≡ record { answer = finishRefused 11 none none; area = area }
+      unfolding finishCall inputFault unknownFlow finishReading
+      call-short l = rw (e, lt-leb (flowCount (bookOf s)) f named, d, lt-ltb (length area) workBytes l) refl
+
+      call-passing : workBytes ≤ length area → finishCall s calendar f area ≡ finishIn (bookWith s calendar) f area
+      unfolding finishCall inputFault unknownFlow finishReading
+      call-passing l = rw (e, lt-leb (flowCount (bookOf s)) f named, d, le-ltb (length area) workBytes l) refl
+
+      pub call-placed : (c : Calendar) → c ≡ calendarOf calendar → workBytes ≤ length area →
+          finishCall s calendar f area ≡ finishIn (withCalendar c (bookOf s)) f area
+      call-placed c q l = call-passing l ∙ ap (λ (k : Calendar). finishIn (withCalendar k (bookOf s)) f area) (sym q)
 
 -- ---- what a refused call leaves
 pub leaves : (o : FinishOutcome) (answer : FinishAnswer) (area : List ℕ) → o ≡ record { answer = answer; area = area } →

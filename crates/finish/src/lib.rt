@@ -5,15 +5,17 @@ ghost use lib.ListN.{length};
 ghost use Rattle.rules.specs.declared.Verdict.the-variants.{Pass};
 ghost use Rattle.rules.specs.Answers.{finishRefused};
 ghost use Rattle.rules.specs.Limits.{workBytes};
-ghost use Rattle.rules.specs.Book.{flowCount};
+ghost use Rattle.rules.specs.Calendar.{CalendarInRange};
+ghost use Rattle.rules.specs.Book.{withCalendar, flowCount};
 ghost use Rattle.rules.specs.Reading.{bookOf, bookFault};
-ghost use Rattle.rules.specs.Placing.{placeFirst};
-ghost use Rattle.rules.specs.Finish.{upToNamed, finishOutcome, finishCall};
-ghost use Rattle.place.specs.Whole.{Asked};
+ghost use Rattle.rules.specs.Finish.{finishCall};
+ghost use Rattle.calendar.specs.Held.{heldWindows};
+ghost use Rattle.place.specs.Whole.{shutRows, Asked};
 ghost use Rattle.finish.specs.Flows.{NextAsked, NextPlaced, PlacedUpTo};
-ghost use Rattle.finish.specs.Call.{Leaves};
+ghost use Rattle.finish.specs.Call.{finishIn, Leaves};
 use book::Index;
 use book::bytes;
+use calendar::Calendar;
 use place::Placed;
 use rules::FinishAnswer;
 use rules::Verdict;
@@ -24,7 +26,7 @@ pub struct Placement {
     pub finish: u16,
 }
 
-// Flow f, the next one, placed beside those before it: the state after it, or, where it is infeasible, the state as it was.
+// Flow f, the next one, placed beside those before it in the slots below `limit`: the state after it, or, where it is infeasible, the state as it was.
 pub fn place_next(
     book: &[u8],
     work: &mut [u8],
@@ -32,9 +34,10 @@ pub fn place_next(
     records: usize,
     f: usize,
     processors: u16,
+    limit: usize,
 ) -> Placement
-    requires { ⌜ NextAsked (now book) (now work) placement records f processors ⌝ }
-    ensures { λ r. ⌜ NextPlaced (bookOf (now (book .entry))) placement (now (work .entry)) (now (work .exit)) r ⌝ }
+    requires { ⌜ NextAsked (now book) (now work) placement records f processors limit ⌝ }
+    ensures { λ r. ⌜ NextPlaced (now (book .entry)) f limit placement (now (work .entry)) (now (work .exit)) r ⌝ }
 {
     let mut none = [0u8; 0];
     let Placed::To(end, _) = place::place_flow(
@@ -46,6 +49,7 @@ pub fn place_next(
         records,
         f,
         processors,
+        limit as u16,
     ) else {
         return placement;
     };
@@ -63,12 +67,13 @@ pub fn step(
     records: usize,
     f: usize,
     processors: u16,
+    limit: usize,
 )
-    requires { ⌜ NextAsked (now book) (now work) (now placement) records f processors ⌝ }
-    ensures { λ _. ⌜ NextPlaced (bookOf (now (book .entry))) (now (placement .entry)) (now (work .entry)) (now (work .exit)) (now (placement .exit)) ⌝ }
+    requires { ⌜ NextAsked (now book) (now work) (now placement) records f processors limit ⌝ }
+    ensures { λ _. ⌜ NextPlaced (now (book .entry)) f limit (now (placement .entry)) (now (work .entry)) (now (work .exit)) (now (placement .exit)) ⌝ }
 {
     let was = *placement;
-    *placement = place_next(book, work, was, records, f, processors);
+    *placement = place_next(book, work, was, records, f, processors, limit);
 }
 
 // The step with the state by value: it is lent in a local of its own, so that a loop can call this.
@@ -79,25 +84,28 @@ pub fn advance(
     records: usize,
     f: usize,
     processors: u16,
+    limit: usize,
 ) -> Placement
-    requires { ⌜ NextAsked (now book) (now work) placement records f processors ⌝ }
-    ensures { λ r. ⌜ NextPlaced (bookOf (now (book .entry))) placement (now (work .entry)) (now (work .exit)) r ⌝ }
+    requires { ⌜ NextAsked (now book) (now work) placement records f processors limit ⌝ }
+    ensures { λ r. ⌜ NextPlaced (now (book .entry)) f limit placement (now (work .entry)) (now (work .exit)) r ⌝ }
 {
     let mut mine = placement;
-    step(&mut mine, book, work, records, f, processors);
+    step(&mut mine, book, work, records, f, processors, limit);
     mine
 }
 
-// The first `count` flows in service order, each beside those before it, until one is infeasible: the state stays at that one.
+// The first `count` flows in service order, each beside those before it and the maintenance, which the work area holds, until one is infeasible: the state
+// stays at that one.
 pub fn place_up_to(
     book: &[u8],
     work: &mut [u8],
     x: Index,
+    calendar: Calendar,
     order: [u8; 64],
     count: usize,
 ) -> Placement
-    requires { ⌜ Asked (now book) x order count (now work) ⌝ }
-    ensures { λ r. ⌜ PlacedUpTo (bookOf (now (book .entry))) count (now (work .entry)) (now (work .exit)) r ⌝ }
+    requires { ⌜ Asked (now book) (heldWindows calendar) x order count (shutRows (withCalendar (heldWindows calendar) (bookOf (now book)))) (now work) ⌝ }
+    ensures { λ r. ⌜ PlacedUpTo (withCalendar (heldWindows calendar) (bookOf (now (book .entry)))) count (now (work .entry)) (now (work .exit)) r ⌝ }
 {
     let processors = x.processors;
     let mut placement = Placement {
@@ -108,7 +116,8 @@ pub fn place_up_to(
         let k = placement.position;
         let f = bytes::wide(order[k]);
         let records = x.records[f];
-        let next = advance(book, work, placement, records, f, processors);
+        let limit = calendar::limit_of(calendar, x.deadlines[f]);
+        let next = advance(book, work, placement, records, f, processors, limit);
         if next.position == k {
             return placement;
         }
@@ -129,17 +138,20 @@ pub fn refusal(number: u8, flow: u8, job: u8) -> FinishAnswer
     }
 }
 
-// The finish of a flow of a book that passes, with a work area that is long enough: the state says whether all flows up to it were placed.
-pub fn finish_passing(book: &[u8], flow: usize, work: &mut [u8]) -> FinishAnswer
-    requires { ⌜ (bookFault (now book) ≡ Pass) × (flow < flowCount (bookOf (now book))) × (workBytes ≤ length (now work)) ⌝ }
-    ensures { λ r. ⌜ Leaves (finishOutcome flow (now (work .entry)) (placeFirst (bookOf (now (book .entry))) (upToNamed (bookOf (now (book .entry))) flow))) r (now (work .exit)) ⌝ }
+// The finish of a flow of a book and a calendar that pass, with a work area that is long enough: all processors of the shut slots are in use until the flows
+// are placed, and the state says whether all flows up to the one named were.
+pub fn finish_passing(book: &[u8], calendar: Calendar, flow: usize, work: &mut [u8]) -> FinishAnswer
+    requires { ⌜ (bookFault (now book) ≡ Pass) × CalendarInRange (heldWindows calendar) × (flow < flowCount (bookOf (now book))) × (workBytes ≤ length (now work)) ⌝ }
+    ensures { λ r. ⌜ Leaves (finishIn (withCalendar (heldWindows calendar) (bookOf (now (book .entry)))) flow (now (work .entry))) r (now (work .exit)) ⌝ }
 {
     let x = book::index_of(book);
     let order = book::service_order(book, x);
     let deadlines = x.deadlines;
     let count = book::position(book, &deadlines, x.flows, flow) + 1;
     bytes::clear(work);
-    let placement = place_up_to(book, work, x, order, count);
+    calendar::set_shut(work, calendar, x.processors);
+    let placement = place_up_to(book, work, x, calendar, order, count);
+    calendar::set_shut(work, calendar, 0);
     let k = placement.position;
     if k < count {
         bytes::clear(work);
@@ -153,9 +165,9 @@ pub fn finish_passing(book: &[u8], flow: usize, work: &mut [u8]) -> FinishAnswer
     }
 }
 
-// The finish of one flow: the whole outcome of a call, for every book, flow number and work area.
-pub fn finish_flow(book: &[u8], flow: u32, work: &mut [u8]) -> FinishAnswer
-    ensures { λ r. ⌜ Leaves (finishCall (now (book .entry)) flow (now (work .entry))) r (now (work .exit)) ⌝ }
+// The finish of one flow: the whole outcome of a call, for every book, calendar, flow number and work area.
+pub fn finish_flow(book: &[u8], calendar: &[u8], flow: u32, work: &mut [u8]) -> FinishAnswer
+    ensures { λ r. ⌜ Leaves (finishCall (now (book .entry)) (now (calendar .entry)) flow (now (work .entry))) r (now (work .exit)) ⌝ }
 {
     let v = book::verdict_of(book);
     if let Verdict::Refused { number, flow, job } = v {
@@ -166,8 +178,12 @@ pub fn finish_flow(book: &[u8], flow: u32, work: &mut [u8]) -> FinishAnswer
     if flows <= f {
         return refusal(23, 255, 255);
     }
+    let w = calendar::verdict_of(calendar);
+    if let Verdict::Refused { number, flow, job } = w {
+        return refusal(number, flow, job);
+    }
     if work.len() < 16384 {
         return refusal(11, 255, 255);
     }
-    finish_passing(book, f, work)
+    finish_passing(book, calendar::calendar_of(calendar), f, work)
 }

@@ -10,45 +10,61 @@ use rules::FinishAnswer;
 use rules::ListAnswer;
 use rules::PlanAnswer;
 
-// The check of a table against a book.
+// The check of a table against a book and its calendar.
 #[no_mangle]
-pub extern "C" fn flowplan_check(book: &[u8], table: &[u8], work: &mut [u8]) -> CheckAnswer
-    ensures answer { λ r. ⌜ r ≡ checkCall (now (book .entry)) (now (table .entry)) (now (work .entry)) .answer ⌝ }
-    ensures area { λ r. ⌜ now (work .exit) ≡ checkCall (now (book .entry)) (now (table .entry)) (now (work .entry)) .area ⌝ }
+pub extern "C" fn flowplan_check(
+    book: &[u8],
+    calendar: &[u8],
+    table: &[u8],
+    work: &mut [u8],
+) -> CheckAnswer
+    ensures answer { λ r. ⌜ r ≡ checkCall (now (book .entry)) (now (calendar .entry)) (now (table .entry)) (now (work .entry)) .answer ⌝ }
+    ensures area { λ r. ⌜ now (work .exit) ≡ checkCall (now (book .entry)) (now (calendar .entry)) (now (table .entry)) (now (work .entry)) .area ⌝ }
 {
-    table_check::check_table(book, table, work)
+    table_check::check_table(book, calendar, table, work)
 }
 
-// The plan of a book.
+// The plan of a book by its calendar.
 #[no_mangle]
-pub extern "C" fn flowplan_plan(book: &[u8], output: &mut [u8], work: &mut [u8]) -> PlanAnswer
-    ensures answer { λ r. ⌜ r ≡ planCall (now (book .entry)) (now (output .entry)) (now (work .entry)) .answer ⌝ }
-    ensures output { λ r. ⌜ now (output .exit) ≡ planCall (now (book .entry)) (now (output .entry)) (now (work .entry)) .output ⌝ }
-    ensures area { λ r. ⌜ now (work .exit) ≡ planCall (now (book .entry)) (now (output .entry)) (now (work .entry)) .area ⌝ }
+pub extern "C" fn flowplan_plan(
+    book: &[u8],
+    calendar: &[u8],
+    output: &mut [u8],
+    work: &mut [u8],
+) -> PlanAnswer
+    ensures answer { λ r. ⌜ r ≡ planCall (now (book .entry)) (now (calendar .entry)) (now (output .entry)) (now (work .entry)) .answer ⌝ }
+    ensures output { λ r. ⌜ now (output .exit) ≡ planCall (now (book .entry)) (now (calendar .entry)) (now (output .entry)) (now (work .entry)) .output ⌝ }
+    ensures area { λ r. ⌜ now (work .exit) ≡ planCall (now (book .entry)) (now (calendar .entry)) (now (output .entry)) (now (work .entry)) .area ⌝ }
 {
-    place::planner::plan_book(book, output, work)
+    place::planner::plan_book(book, calendar, output, work)
 }
 
 // The dispatch list of a table that the check accepts.
 #[no_mangle]
 pub extern "C" fn flowplan_dispatch(
     book: &[u8],
+    calendar: &[u8],
     table: &[u8],
     output: &mut [u8],
     work: &mut [u8],
 ) -> ListAnswer
-    ensures answer { λ r. ⌜ r ≡ dispatchCall (now (book .entry)) (now (table .entry)) (now (output .entry)) (now (work .entry)) .answer ⌝ }
-    ensures output { λ r. ⌜ now (output .exit) ≡ dispatchCall (now (book .entry)) (now (table .entry)) (now (output .entry)) (now (work .entry)) .output ⌝ }
-    ensures area { λ r. ⌜ now (work .exit) ≡ dispatchCall (now (book .entry)) (now (table .entry)) (now (output .entry)) (now (work .entry)) .area ⌝ }
+    ensures answer { λ r. ⌜ r ≡ dispatchCall (now (book .entry)) (now (calendar .entry)) (now (table .entry)) (now (output .entry)) (now (work .entry)) .answer ⌝ }
+    ensures output { λ r. ⌜ now (output .exit) ≡ dispatchCall (now (book .entry)) (now (calendar .entry)) (now (table .entry)) (now (output .entry)) (now (work .entry)) .output ⌝ }
+    ensures area { λ r. ⌜ now (work .exit) ≡ dispatchCall (now (book .entry)) (now (calendar .entry)) (now (table .entry)) (now (output .entry)) (now (work .entry)) .area ⌝ }
 {
-    dispatch::dispatch_table(book, table, output, work)
+    dispatch::dispatch_table(book, calendar, table, output, work)
 }
 
-// The finish of one flow of a book.
+// The finish of one flow of a book by its calendar.
 #[no_mangle]
-pub extern "C" fn flowplan_finish(book: &[u8], flow: u32, work: &mut [u8]) -> FinishAnswer
-    ensures answer { λ r. ⌜ r ≡ finishCall (now (book .entry)) flow (now (work .entry)) .answer ⌝ }
-    ensures area { λ r. ⌜ now (work .exit) ≡ finishCall (now (book .entry)) flow (now (work .entry)) .area ⌝ }
+pub extern "C" fn flowplan_finish(
+    book: &[u8],
+    calendar: &[u8],
+    flow: u32,
+    work: &mut [u8],
+) -> FinishAnswer
+    ensures answer { λ r. ⌜ r ≡ finishCall (now (book .entry)) (now (calendar .entry)) flow (now (work .entry)) .answer ⌝ }
+    ensures area { λ r. ⌜ now (work .exit) ≡ finishCall (now (book .entry)) (now (calendar .entry)) flow (now (work .entry)) .area ⌝ }
 {
-    finish::finish_flow(book, flow, work)
+    finish::finish_flow(book, calendar, flow, work)
 }

@@ -14,11 +14,11 @@ use Rattle.rules.specs.Reading.{bookOf, bookFault}
 use Rattle.rules.specs.Ideal.{path}
 use Rattle.rules.specs.PseudoJobs.{PseudoJob, runs, chain, rate}
 use Rattle.rules.specs.Rows.{Row, usedIn, finishOf, workUsed}
-use Rattle.rules.specs.Placing.{Progress, progress, flowRows, freeProcessors, slotsFor, placeFlow}
+use Rattle.rules.specs.Placing.{Progress, progress, flowRows, freeProcessors}
 use Rattle.rules.proofs.Caps.{used-in-range}
 use Rattle.rules.proofs.Passing.{pass-in-range}
 use Rattle.rules.proofs.Ideal.{Sized, in-range-sized, end-is-start-plus-duration, end-within-path, duration-positive}
-use Rattle.rules.proofs.PseudoJobs.{slot-rate-positive, chain-live}
+use Rattle.rules.proofs.PseudoJobs.{sumOver, slot-rate-positive, chain-widths, chain-live}
 use Rattle.rules.proofs.Usable.{none-free-before, free-within}
 use Rattle.rules.proofs.Greedy.{not-begun}
 use Rattle.rules.proofs.PlannedRows.{no-rows-yet}
@@ -77,17 +77,17 @@ module _ (b : Book) (f : ℕ) where
           ∙ (unfold chain in ap (λ (n : ℕ). standing (runs w n 0) 0) (sym (sub-zero (path w))))
 
   -- all runs are placed
-  pub flow-done : (rows : List Row) (bytes out₀ out area : List ℕ) (at t slot next : ℕ) → Sized w → jobCount w ≤ 64 → 0 < path w → path w ≤ t →
-      slot ≤ slotsFor w → slotsFor w ≤ 8192 →
+  pub flow-done : (rows : List Row) (bytes out₀ out area : List ℕ) (at limit t slot next : ℕ) → Sized w → jobCount w ≤ 64 → 0 < path w → path w ≤ t →
+      slot ≤ limit → limit ≤ 8192 →
       next ≤ at + 384 * slot → FlowSoFar b f (beside rows bytes out₀ at) t slot out area next →
-      FlowDone b f rows bytes out₀ at out area slot next
-  flow-done rows bytes out₀ out area at t slot next sized few some over l most room so-far =
+      FlowDone b f limit rows bytes out₀ at out area slot next
+  flow-done rows bytes out₀ out area at limit t slot next sized few some over l most room so-far =
       record {
-        placed = unfold placeFlow in rw (ap (λ (g : Progress). g .left) at-limit) refl;
+        finished = ap (λ (g : Progress). g .left) at-limit;
         put = rw same (so-far .under .put);
         area-used = so-far .under .area-used ∙ ap (λ more. workUsed slots (rows ++ more) bytes) (sym same);
         ends = sym (ap (λ more. finishOf more f) same ∙ so-far .finish (omega arith));
-        within = λ u. omega (arith, used-append rows (newRows b f rows) u, so-far .under .within u, own u);
+        within = λ u. omega (arith, used-append rows (newRows b f limit rows) u, so-far .under .within u, own u);
         next-within = omega arith;
         finish-within = l;
       }
@@ -97,26 +97,28 @@ module _ (b : Book) (f : ℕ) where
           let z : path w - t ≡ 0 = omega arith in
           so-far .under .stands ∙ ap (λ (n : ℕ). standing (runs w n t) 0) z ∙ (unfold runs in refl)
 
-      rest : slot + (slotsFor w - slot) ≡ slotsFor w
+      rest : slot + (limit - slot) ≡ limit
       rest = omega arith
 
-      at-limit : progress w (freeProcessors b f rows) (slotsFor w) ≡ standing [] 0
-      at-limit = ap (progress w (freeProcessors b f rows)) (sym rest) ∙ stays-finished w f (freeProcessors b f rows) slot (slotsFor w - slot) 0
+      at-limit : progress w (freeProcessors b f rows) limit ≡ standing [] 0
+      at-limit = ap (progress w (freeProcessors b f rows)) (sym rest) ∙ stays-finished w f (freeProcessors b f rows) slot (limit - slot) 0
           nothing-left
 
-      same : newRows b f rows ≡ flowRows w f (freeProcessors b f rows) slot
-      same = ap (flowRows w f (freeProcessors b f rows)) (sym rest) ∙ no-more-rows w f (freeProcessors b f rows) slot (slotsFor w - slot) 0
+      same : newRows b f limit rows ≡ flowRows w f (freeProcessors b f rows) slot
+      same = ap (flowRows w f (freeProcessors b f rows)) (sym rest) ∙ no-more-rows w f (freeProcessors b f rows) slot (limit - slot) 0
           nothing-left
 
-      own : (u : ℕ) → usedIn (newRows b f rows) u ≤ b .processors - usedIn rows u
-      own u = le-trans (own-rows-within-free w f (freeProcessors b f rows) sized (slotsFor w) u) (free-within b f rows u)
+      own : (u : ℕ) → usedIn (newRows b f limit rows) u ≤ b .processors - usedIn rows u
+      own u = le-trans (own-rows-within-free w f (freeProcessors b f rows) sized limit u) (free-within b f rows u)
 
   -- the limit is reached and work is left
-  pub flow-stops : (rows : List Row) (bytes out₀ out area : List ℕ) (at limit : ℕ) → limit ≡ slotsFor w →
-      WorkLeft b f (beside rows bytes out₀ at) limit out area → FlowInfeasible b f rows bytes out₀ out area
-  flow-stops rows bytes out₀ out area at limit e left = record {
-    refused = unfold placeFlow in rw
-        (ap (λ (g : Progress). g .left) (ap (progress w (freeProcessors b f rows)) (sym e) ∙ left .under .stands)) refl;
+  pub flow-stops : (rows : List Row) (bytes out₀ out area : List ℕ) (at limit : ℕ) →
+      WorkLeft b f (beside rows bytes out₀ at) limit out area → FlowInfeasible b f limit rows bytes out₀ out area
+  flow-stops rows bytes out₀ out area at limit left = record {
+    unfinished = λ e.
+        let none : left .current ∷ left .later ≡ [] = sym (ap (λ (g : Progress). g .left) (left .under .stands)) ∙ e in
+        let z : _≡_ {A = ℕ} (length (left .current ∷ left .later)) 0 = ap length none in
+        omega arith;
     others = rows ++ flowRows w f (freeProcessors b f rows) limit;
     area-used = left .under .area-used;
     length-kept = put-same-length out₀ out at (left .next) _ (left .under .put);
@@ -138,6 +140,39 @@ pub record FlowKept (listed : Bool) (b : Book) (f at limit : ℕ) (out₀ area�
 flow-in-range : (s : List ℕ) (f : ℕ) → bookFault s ≡ Pass → f < flowCount (bookOf s) → FlowInRange (bookOf s .processors) (flowOf (bookOf s) f)
 flow-in-range s f passes flow-in = used-in-range (pass-in-range s passes) f flow-in
 
+path-positive : (s : List ℕ) (f : ℕ) → bookFault s ≡ Pass → f < flowCount (bookOf s) → 0 < path (flowOf (bookOf s) f)
+path-positive s f passes flow-in =
+    let w = flowOf (bookOf s) f in
+    let range = flow-in-range s f passes flow-in in
+    let j = range .each-job 0 (range .jobs-least) in
+    omega (
+      arith,
+      end-within-path w 0 (range .jobs-least),
+      end-is-start-plus-duration w 0,
+      duration-positive (jobOf w 0) (j .cap-least) (j .size-least),
+    )
+
+-- where the limit comes before the release, the flow has not begun
+pub flow-not-begun : (s : List ℕ) (f limit : ℕ) → bookFault s ≡ Pass → f < flowCount (bookOf s) → limit < flowOf (bookOf s) f .release →
+    (rows : List Row) (bytes out area : List ℕ) → area ≡ workUsed slots rows bytes → FlowInfeasible (bookOf s) f limit rows bytes out out area
+flow-not-begun s f limit passes flow-in l rows bytes out area used = record {
+  unfinished = λ e.
+      let none : chain w ≡ [] = sym (ap (λ (g : Progress). g .left) begun) ∙ e in
+      let no-path : path w ≡ 0 = sym (chain-widths w) ∙ ap (sumOver (λ p. p .width)) none ∙ (unfold sumOver in refl) in
+      omega (arith, path-positive s f passes flow-in);
+  others = rows;
+  area-used = used;
+  length-kept = refl;
+}
+  where
+    w : Flow
+    w = flowOf (bookOf s) f
+
+    begun : progress w (freeProcessors (bookOf s) f rows) limit ≡ standing (chain w) 0
+    begun =
+        not-begun w (freeProcessors (bookOf s) f rows) (chain-live w (in-range-sized (flow-in-range s f passes flow-in))) limit
+        (λ t h. none-free-before (bookOf s) f rows t (omega arith))
+
 module _ (s : List ℕ) (f records : ℕ) (x : FlowJobs) (stands : FlowStands s f records) (loaded : Loaded s f x) where
   pub chain-asked : ChainInput x
   chain-asked =
@@ -146,9 +181,6 @@ module _ (s : List ℕ) (f records : ℕ) (x : FlowJobs) (stands : FlowStands s 
 
   pub release-held : (d : ℕ) → d ≡ x .release → d ≡ flowOf (bookOf s) f .release
   release-held d e = e ∙ (unfold flowFrom in ap (λ (v : Flow). v .release) (loaded .values))
-
-  pub limit-held : (d : ℕ) → d ≡ x .deadline → 2 * d ≡ slotsFor (flowOf (bookOf s) f)
-  limit-held d e = ap (λ (n : ℕ). 2 * n) (e ∙ (unfold flowFrom in ap (λ (v : Flow). v .deadline) (loaded .values)))
 
   pub flow-held : (y : Ideal) → IdealOf (flowFrom x) y → length (x .cap) ≡ 64 → length (y .starts) ≡ 64 → length (y .ends) ≡ 64 → length (y .lasts) ≡ 64 →
       length (y .firsts) ≡ 64 → FlowHeld s f (x .cap) (y .starts) (y .ends) (y .lasts) (y .firsts) (x .count) (y .path)
@@ -186,35 +218,21 @@ module _ {s : List ℕ} {f : ℕ} {caps starts ends lasts firsts : List ℕ} {co
   counted : count ≡ jobCount (flowOf (bookOf s) f)
   counted = h .held .count-is ∙ sym (count-of (h .jobs)) ∙ ap jobCount (h .loaded .values)
 
-  pub deadline-within : slotsFor (flowOf (bookOf s) f) ≤ 8192
-  deadline-within = omega (arith, in-range .deadline-most)
-
   pub path-fits : most ≤ 64000000
   path-fits = omega (arith, h .held .path-is, h .held .ideal .path, path-most (h .jobs) (h .held .input))
 
   pub path-held : most ≡ path (flowOf (bookOf s) f)
   path-held = h .held .path-is ∙ h .held .ideal .path ∙ ap path (h .loaded .values)
 
-  path-positive : 0 < path (flowOf (bookOf s) f)
-  path-positive =
-      let w = flowOf (bookOf s) f in
-      let j = in-range .each-job 0 (in-range .jobs-least) in
-      omega (
-        arith,
-        end-within-path w 0 (in-range .jobs-least),
-        end-is-start-plus-duration w 0,
-        duration-positive (jobOf w 0) (j .cap-least) (j .size-least),
-      )
-
   -- the loop begins at the release, with no run placed
-  pub flow-kept-first : {limit slot : ℕ} (listed : Bool) (at : ℕ) (out area : List ℕ) → limit ≡ slotsFor (flowOf (bookOf s) f) →
+  pub flow-kept-first : {limit slot : ℕ} (listed : Bool) (at : ℕ) (out area : List ℕ) → flowOf (bookOf s) f .release ≤ limit →
       slot ≡ flowOf (bookOf s) f .release → FlowKept listed (bookOf s) f at limit out area out area 0 slot at
-  flow-kept-first listed at out area e q = record {
+  flow-kept-first listed at out area l q = record {
     place = at;
     place-if = λ _. refl;
     place-to = omega arith;
     cut-to = omega arith;
-    slot-to = omega (arith, in-range .release-below);
+    slot-to = omega arith;
     out-length = refl;
     area-length = refl;
     so-far = λ rows bytes used within. rw q (flow-begins (bookOf s) f flow-sized rows bytes out area at used within);
@@ -298,25 +316,25 @@ module _ {s : List ℕ} {f : ℕ} {caps starts ends lasts firsts : List ℕ} {co
         }
 
     pub flow-kept-stops : {listed : Bool} {at limit : ℕ} {out₀ area₀ out area out′ area′ : List ℕ} {slot next : ℕ} {q : Placed} (P : ℕ) →
-        limit ≡ slotsFor (flowOf (bookOf s) f) → FlowKept listed (bookOf s) f at limit out₀ area₀ out area t slot next →
+        FlowKept listed (bookOf s) f at limit out₀ area₀ out area t slot next →
         RunGoes listed s (currentAt t P r) slot next limit out area out′ area′ q → q ≡ Infeasible →
         (rows : List Row) (bytes : List ℕ) → area₀ ≡ workUsed slots rows bytes → ((u : ℕ) → usedIn rows u ≤ bookOf s .processors) →
-        FlowInfeasible (bookOf s) f rows bytes out₀ out′ area′
-    flow-kept-stops {listed} {at} {limit} {out₀} {area₀} {out} {area} {out′} {area′} {slot} {next} P e k answer told rows bytes used within =
+        FlowInfeasible (bookOf s) f limit rows bytes out₀ out′ area′
+    flow-kept-stops {listed} {at} {limit} {out₀} {area₀} {out} {area} {out′} {area′} {slot} {next} P k answer told rows bytes used within =
         let left : RunGoes listed s (currentAt t P r) slot next limit out area out′ area′ Infeasible =
         subst (λ (z : Placed). RunGoes listed s (currentAt t P r) slot next limit out area out′ area′ z) told answer in
-        flow-stops (bookOf s) f rows bytes out₀ out′ area′ at limit e
+        flow-stops (bookOf s) f rows bytes out₀ out′ area′ at limit
         (left (k .place) (k .place-if) (beside rows bytes out₀ at) _
         (at-cut-under P (beside rows bytes out₀ at) slot out area (k .place) (k .so-far rows bytes used within)))
 
-  pub flow-kept-done : {listed : Bool} {at limit : ℕ} {out₀ area₀ out area : List ℕ} {t slot next : ℕ} → limit ≡ slotsFor (flowOf (bookOf s) f) →
+  pub flow-kept-done : {listed : Bool} {at limit : ℕ} {out₀ area₀ out area : List ℕ} {t slot next : ℕ} → limit ≤ 8192 →
       path (flowOf (bookOf s) f) ≤ t →
       FlowKept listed (bookOf s) f at limit out₀ area₀ out area t slot next →
       (rows : List Row) (bytes : List ℕ) → area₀ ≡ workUsed slots rows bytes → ((u : ℕ) → usedIn rows u ≤ bookOf s .processors) →
-      FlowPlaced listed (bookOf s) f rows bytes out₀ at out area (To slot next)
-  flow-kept-done {listed} {at} {limit} {out₀} {area₀} {out} {area} {t} {slot} {next} e over k rows bytes q within = (
+      FlowPlaced listed (bookOf s) f limit rows bytes out₀ at out area (To slot next)
+  flow-kept-done {listed} {at} {limit} {out₀} {area₀} {out} {area} {t} {slot} {next} most over k rows bytes q within = (
     k .place,
     k .place-if,
-    flow-done (bookOf s) f rows bytes out₀ out area at t slot (k .place) flow-sized jobs-few path-positive over (omega (arith, k .slot-to))
-        deadline-within (k .place-to) (k .so-far rows bytes q within),
+    flow-done (bookOf s) f rows bytes out₀ out area at limit t slot (k .place) flow-sized jobs-few
+        (path-positive s f (h .passes) (h .flow-in)) over (omega (arith, k .slot-to)) most (k .place-to) (k .so-far rows bytes q within),
   )

@@ -12,6 +12,7 @@ use Rattle.rules.specs.Reading.{bookOf}
 use Rattle.rules.specs.PseudoJobs.{PseudoJob, rate, work}
 use Rattle.rules.specs.Rows.{usedIn}
 use Rattle.rules.specs.Placing.{share, given, freeProcessors}
+use Rattle.rules.proofs.Passing.{calendar-of-book}
 use Rattle.rules.proofs.Usable.{free-from-release}
 use Rattle.place.specs.declared.Current.{Current}
 use Rattle.place.specs.Output.{Put}
@@ -52,7 +53,7 @@ module _ {s : List ℕ} {c : Current} (v : InService s c) where
 
       give-is : give ≡ given (currentFlow s c) (pseudoJob c) done (freeProcessors (bookOf s) (c .flow) (x .rows) slot)
       unfolding given
-      give-is = rw (all, ← work-held, v .rate, v .processors, used-is, free-from-release (bookOf s) (c .flow) (x .rows) slot (u .released)) refl
+      give-is = rw (all, ← work-held, v .rate, v .processors, used-is, free-from-release (bookOf s) (c .flow) (x .rows) slot (calendar-of-book s) (u .released)) refl
 
     -- a slot that gives nothing
     pub served-nothing : {at : ℕ} {out : List ℕ} → give ≡ 0 → SlotServed s c at done slot out area out area (record { next = at; give = 0 })

@@ -13,6 +13,7 @@ pub mod Underway
 -- the table, put together
 pub mod Assembly
 pub mod Finishes
--- the flows in service order, and the planner's outcome
+-- the flows in service order beside the cluster's maintenance, and the planner's outcome
+pub mod Maintenance
 pub mod FirstFlows
 pub mod Outcome

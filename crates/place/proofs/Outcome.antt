@@ -3,7 +3,7 @@
 use mathlib.Core.Path.{_≡_, refl, sym, ap, ap₂, subst, _∙_}
 use Prim.Native.Nat.{ℕ, _+_, _*_, _≤_, _<_}
 use native.Mathlib.Omega.{arith}
-use mathlib.Core.List.{List, _++_}
+use mathlib.Core.List.{List, [], _++_}
 use lib.ListN.{length, drop, replicate, length-replicate}
 use lib.Seq.{sets, drop-at}
 use borrow.Author.Tests.{lt-ltb, le-ltb}
@@ -11,19 +11,21 @@ use Rattle.rules.specs.declared.Verdict.the-variants.{Pass, Refused}
 use Rattle.rules.specs.declared.PlanAnswer.{PlanAnswer}
 use Rattle.rules.specs.Answers.{none, planAccepted, planRefused}
 use Rattle.rules.specs.Limits.{slots, workBytes}
-use Rattle.rules.specs.Book.{Book, flowCount}
+use Rattle.rules.specs.Calendar.{Calendar, calendarOf, calendarFault, CalendarInRange}
+use Rattle.rules.specs.Book.{Book, withCalendar, flowCount}
 use Rattle.rules.specs.Reading.{bookOf, bookFault, readBook}
 use Rattle.rules.specs.Rows.{Row, lateFlows, workUsed, workZero}
 use Rattle.rules.specs.Placing.{Plan, planned, infeasible, placeFirst, plan}
 use Rattle.rules.specs.Planner.{PlanOutcome, planOutcome, planReading, planCall}
 use Rattle.rules.specs.Table.{tableHead, tableLength, tableBytes}
-use Rattle.rules.proofs.WorkArea.{cleared-twice}
+use Rattle.rules.proofs.WorkArea.{used-none, cleared-twice}
+use Rattle.rules.proofs.SameUse.{with-same, late-same}
 use Rattle.book.specs.declared.Index.{Index}
 use Rattle.book.specs.Promise.{Indexed}
 use Rattle.place.specs.declared.planner.Whole.{Whole}
 use Rattle.place.specs.declared.planner.Ended.{Ended}
 use Rattle.place.specs.declared.planner.Ended.the-variants.{Planned, Infeasible}
-use Rattle.place.specs.Call.{Leaves, Counted, Sized}
+use Rattle.place.specs.Call.{Leaves, planOf, Counted, Sized}
 use Rattle.place.specs.Head.{headBytes, finishBytes}
 use Rattle.book.specs.Late.{lateCount}
 use Rattle.place.specs.Output.{putRows}
@@ -74,18 +76,25 @@ module _ (b : Book) (out area : List ℕ) where
   outcome-written rows p l = rw (p, le-ltb (length out) (tableLength b rows) l) refl
 
 -- ---- the outcome of a call
-module _ (s out area : List ℕ) where
-  pub call-refused : (n f j : ℕ) → bookFault s ≡ Refused n f j → planCall s out area ≡ record { answer = planRefused n f j; output = out; area = area }
+module _ (s calendar out area : List ℕ) where
+  pub call-refused : (n f j : ℕ) → bookFault s ≡ Refused n f j → planCall s calendar out area ≡ record { answer = planRefused n f j; output = out; area = area }
   unfolding planCall readBook planReading
   call-refused n f j e = rw e refl
 
-  pub call-short : bookFault s ≡ Pass → length area < workBytes → planCall s out area ≡ record { answer = planRefused 11 none none; output = out; area = area }
+  pub call-refused-calendar : (n f j : ℕ) → bookFault s ≡ Pass → calendarFault calendar ≡ Refused n f j →
+      planCall s calendar out area ≡ record { answer = planRefused n f j; output = out; area = area }
   unfolding planCall readBook planReading
-  call-short e l = rw (e, lt-ltb (length area) workBytes l) refl
+  call-refused-calendar n f j e d = rw (e, d) refl
 
-  call-passing : bookFault s ≡ Pass → workBytes ≤ length area → planCall s out area ≡ planOutcome (bookOf s) out area (plan (bookOf s))
+  pub call-short : bookFault s ≡ Pass → calendarFault calendar ≡ Pass → length area < workBytes →
+      planCall s calendar out area ≡ record { answer = planRefused 11 none none; output = out; area = area }
   unfolding planCall readBook planReading
-  call-passing e l = rw (e, le-ltb (length area) workBytes l) refl
+  call-short e d l = rw (e, d, lt-ltb (length area) workBytes l) refl
+
+  call-passing : bookFault s ≡ Pass → calendarFault calendar ≡ Pass → workBytes ≤ length area →
+      planCall s calendar out area ≡ planOf (calendarOf calendar) s out area
+  unfolding planCall readBook planReading
+  call-passing e d l = rw (e, d, le-ltb (length area) workBytes l) refl
 
 -- ---- what is left in each case
 pub leaves : (o : PlanOutcome) (answer : PlanAnswer) (output area : List ℕ) → o ≡ record { answer = answer; output = output; area = area } →
@@ -99,11 +108,14 @@ leaves o answer output area e answer′ output′ area′ p q r = record {
 head-same : (m n p q f g : ℕ) → m ≡ n → p ≡ q → f ≡ g → headBytes m p f ≡ headBytes n q g
 head-same m n p q f g d e h = rw (d, e, h) refl
 
-pub leaves-passing : (s out area : List ℕ) → bookFault s ≡ Pass → workBytes ≤ length area → (answer : PlanAnswer) (out′ area′ : List ℕ) →
-    Leaves (planOutcome (bookOf s) out area (plan (bookOf s))) answer out′ area′ → Leaves (planCall s out area) answer out′ area′
-leaves-passing s out area p l answer out′ area′ h = subst (λ (o : PlanOutcome). Leaves o answer out′ area′) (sym (call-passing s out area p l)) h
+pub leaves-passing : (s calendar out area : List ℕ) (c : Calendar) → bookFault s ≡ Pass → calendarFault calendar ≡ Pass → c ≡ calendarOf calendar →
+    workBytes ≤ length area → (answer : PlanAnswer) (out′ area′ : List ℕ) → Leaves (planOf c s out area) answer out′ area′ →
+    Leaves (planCall s calendar out area) answer out′ area′
+leaves-passing s calendar out area c p d e l answer out′ area′ h =
+    subst (λ (o : PlanOutcome). Leaves o answer out′ area′) (ap (λ (k : Calendar). planOf k s out area) e ∙ sym (call-passing s calendar out area p d l)) h
 
-module _ (s : List ℕ) (x : Index) (order : List ℕ) (size : ℕ) (out area : List ℕ) (a : Asked s x order (x .flows) area) (z : Sized s size) where
+module _ (s : List ℕ) (c : Calendar) (x : Index) (order : List ℕ) (size : ℕ) (out area : List ℕ) (a : Asked s c x order (x .flows) [] area)
+    (z : Sized (withCalendar c (bookOf s)) size) where
   -- the table has room for head and finishes
   pub head-within : 8 + 2 * x .flows ≤ size
   unfolding tableLength
@@ -111,26 +123,27 @@ module _ (s : List ℕ) (x : Index) (order : List ℕ) (size : ℕ) (out area : 
 
   -- "table longer than the lent output"
   pub leaves-longer : length out < size → (answer : PlanAnswer) → answer ≡ planRefused 13 none none →
-      Leaves (planOutcome (bookOf s) out area (plan (bookOf s))) answer out area
+      Leaves (planOf c s out area) answer out area
   leaves-longer l answer e =
-      leaves _ _ _ _ (outcome-longer (bookOf s) out area (z .rows) (z .planned-rows) (rw (z .size-of) at l)) answer out area e refl (a .zero)
+      leaves _ _ _ _ (outcome-longer (withCalendar c (bookOf s)) out area (z .rows) (z .planned-rows) (rw (z .size-of) at l)) answer out area e refl
+      (a .holds ∙ used-none slots area)
 
   -- rows, finishes and head are written
   pub leaves-written : (out₁ out₂ out₃ area′ : List ℕ) (r : Whole) (late : ℕ) → size ≤ length out →
-      FirstPlaced (bookOf s) (x .flows) out area out₁ area′ r → out₂ ≡ sets out₁ 8 (finishBytes (r .finish) (x .flows)) →
+      FirstPlaced (withCalendar c (bookOf s)) (x .flows) out area out₁ area′ r → out₂ ≡ sets out₁ 8 (finishBytes (r .finish) (x .flows)) →
       out₃ ≡ sets out₂ 0 (headBytes size (x .processors) (x .flows)) → late ≡ lateCount (x .deadlines) (r .finish) (x .flows) →
-      Leaves (planOutcome (bookOf s) out area (plan (bookOf s))) (planAccepted late size) out₃ area′
+      Leaves (planOf c s out area) (planAccepted late size) out₃ area′
   unfolding plan
   leaves-written out₁ out₂ out₃ area′ r late l f e₂ e₃ d =
       leaves _ _ _ _ (outcome-written b out area rows (z .planned-rows) room) (planAccepted late size) out₃ area′
-      (ap₂ planAccepted (d ∙ ap (lateCount (x .deadlines) (r .finish)) q ∙ late-counted b rows (x .deadlines) (r .finish) (a .indexed .deadlines) (p .finish)) (z .size-of))
+      (ap₂ planAccepted (d ∙ ap (lateCount (x .deadlines) (r .finish)) q ∙ late-of) (z .size-of))
       (e₃ ∙ ap (λ (o : List ℕ). sets o 0 (headBytes size (x .processors) (x .flows))) (e₂ ∙ ap (λ (o : List ℕ). sets o 8 (finishBytes (r .finish) (x .flows))) (p .put .output))
       ∙ ap₂ (λ (n : ℕ) (h : List ℕ). sets (sets (putRows out (tableHead b) rows) 8 (finishBytes (r .finish) n)) 0 h) q (head-same size (tableLength b rows) (x .processors) (b .processors) (x .flows) (flowCount b) (z .size-of) (a .indexed .processors) q)
       ∙ table-stored out (r .finish) b rows room (p .finish))
       (p .area-used)
     where
       b : Book
-      b = bookOf s
+      b = withCalendar c (bookOf s)
 
       rows : List Row
       rows = z .rows
@@ -141,69 +154,81 @@ module _ (s : List ℕ) (x : Index) (order : List ℕ) (size : ℕ) (out area : 
       room : tableLength b rows ≤ length out
       room = rw (z .size-of) at l
 
-      p : PlacedFirst b (x .flows) rows out area out₁ area′ (r .finish) (tableLength b rows)
+      p : PlacedFirst b (x .flows) [] rows out area out₁ area′ (r .finish) (tableLength b rows)
       p = f .when-planned rows (ap (placeFirst b) q ∙ z .planned-rows)
+
+      late-of : lateCount (x .deadlines) (r .finish) (flowCount b) ≡ lateFlows b rows
+      late-of =
+          late-counted (bookOf s) rows (x .deadlines) (r .finish) (a .indexed .deadlines) (p .finish)
+          ∙ sym (late-same b (bookOf s) (with-same c (bookOf s)) rows)
 
 -- ---- the first placing
 -- an area that is cleared may be placed in: the first k flows, or all
-pub asked-up-to : (s : List ℕ) (x : Index) (order area area′ : List ℕ) (k : ℕ) → Indexed s x → InOrder s order → k ≤ flowCount (bookOf s) →
-    workBytes ≤ length area′ → area′ ≡ workZero slots area → Asked s x order k area′
-asked-up-to s x order area area′ k i o within l e = record {
+pub asked-up-to : (s : List ℕ) (c : Calendar) (x : Index) (order area area′ : List ℕ) (k : ℕ) → Indexed s x → CalendarInRange c → InOrder s order →
+    k ≤ flowCount (bookOf s) → workBytes ≤ length area′ → area′ ≡ workZero slots area → Asked s c x order k [] area′
+asked-up-to s c x order area area′ k i range o within l e = record {
   indexed = i;
+  calendar-in-range = range;
   in-order = o;
   within = within;
   long-enough = l;
-  zero = e ∙ sym (cleared-twice slots area) ∙ ap (workZero slots) (sym e);
+  holds = e ∙ sym (cleared-twice slots area) ∙ ap (workZero slots) (sym e) ∙ sym (used-none slots area′);
 }
 
-pub asked-cleared : (s : List ℕ) (x : Index) (order area area′ : List ℕ) → Indexed s x → InOrder s order → workBytes ≤ length area′ →
-    area′ ≡ workZero slots area → Asked s x order (x .flows) area′
-asked-cleared s x order area area′ i o = asked-up-to s x order area area′ (x .flows) i o (omega (arith, i .flows))
+pub asked-cleared : (s : List ℕ) (c : Calendar) (x : Index) (order area area′ : List ℕ) → Indexed s x → CalendarInRange c → InOrder s order →
+    workBytes ≤ length area′ → area′ ≡ workZero slots area → Asked s c x order (x .flows) [] area′
+asked-cleared s c x order area area′ i range o = asked-up-to s c x order area area′ (x .flows) i range o (omega (arith, i .flows))
 
 -- rows that were put into no bytes are counted
-pub counted : (s : List ℕ) (x : Index) (order out area part part′ area₁ area₂ area₃ : List ℕ) (r : Whole) → Asked s x order (x .flows) area₁ →
-    area₁ ≡ workZero slots area → length part′ ≡ 0 → FirstPlaced (bookOf s) (x .flows) part area₁ part′ area₂ r → area₃ ≡ workZero slots area₂ →
-    Counted (bookOf s) out area (part′ ++ out) area₃ (r .ended)
+pub counted : (s : List ℕ) (c : Calendar) (x : Index) (order out area part part′ area₁ area₂ area₃ : List ℕ) (r : Whole) →
+    Asked s c x order (x .flows) [] area₁ → area₁ ≡ workZero slots area → length part′ ≡ 0 →
+    FirstPlaced (withCalendar c (bookOf s)) (x .flows) part area₁ part′ area₂ r → area₃ ≡ workZero slots area₂ →
+    Counted (withCalendar c (bookOf s)) out area (part′ ++ out) area₃ (r .ended)
 unfolding plan
-counted s x order out area part part′ area₁ area₂ area₃ r a e l f d = record {
+counted s c x order out area part part′ area₁ area₂ area₃ r a e l f d = record {
   ends = f .ends ∙ ap (λ (n : ℕ). endedOf b (placeFirst b n)) q;
   fits = λ rows p.
-      omega (arith, few-flows a, place-most b (x .flows) rows part area₁ part′ area₂ (r .finish) (tableLength b rows) (omega arith) (omega (arith, few-flows a)) (f .when-planned rows (ap (placeFirst b) q ∙ p)));
+      omega (
+        arith,
+        few-flows a,
+        place-most b (x .flows) [] rows part area₁ part′ area₂ (r .finish) (tableLength b rows) (omega arith)
+            (omega (arith, few-flows a)) (f .when-planned rows (ap (placeFirst b) q ∙ p)),
+      );
   output-kept = ap (_++ out) (no-bytes part′ l);
   area-zero = d ∙ f .cleared ∙ ap (workZero slots) e ∙ cleared-twice slots area;
 }
   where
     b : Book
-    b = bookOf s
+    b = withCalendar c (bookOf s)
 
     q : x .flows ≡ flowCount b
     q = a .indexed .flows
 
-module _ (s out area out′ area′ : List ℕ) (ended : Ended) (k : Counted (bookOf s) out area out′ area′ ended) where
+module _ (b : Book) (out area out′ area′ : List ℕ) (ended : Ended) (k : Counted b out area out′ area′ ended) where
   -- the flows are planned, and their table has this size
-  pub sized : (size : ℕ) → ended ≡ Planned size → Sized s size
-  sized size e = go (plan (bookOf s)) refl (sym e ∙ k .ends)
+  pub sized : (size : ℕ) → ended ≡ Planned size → Sized b size
+  sized size e = go (plan b) refl (sym e ∙ k .ends)
     where
-      go : (p : Plan) → plan (bookOf s) ≡ p → Planned size ≡ endedOf (bookOf s) p → Sized s size
+      go : (p : Plan) → plan b ≡ p → Planned size ≡ endedOf b p → Sized b size
       go (planned rows) d h =
-          let same : size ≡ tableLength (bookOf s) rows = cc in
+          let same : size ≡ tableLength b rows = cc in
           record { rows = rows; planned-rows = d; size-of = same; size-most = omega (arith, k .fits rows d) }
       go (infeasible f) d h = absurd (let z : _≡_ {A = ℕ} 0 1 = cc in omega arith)
 
   -- "infeasible by rule 6", with that flow
   pub leaves-infeasible : (f : ℕ) (answer : PlanAnswer) → ended ≡ Infeasible f → answer ≡ planRefused 12 f none →
-      Leaves (planOutcome (bookOf s) out area (plan (bookOf s))) answer out′ area′
+      Leaves (planOutcome b out area (plan b)) answer out′ area′
   leaves-infeasible f answer e h =
-      leaves _ _ _ _ (outcome-infeasible (bookOf s) out area f (go (plan (bookOf s)) refl (sym e ∙ k .ends))) answer out′ area′ h (k .output-kept) (k .area-zero)
+      leaves _ _ _ _ (outcome-infeasible b out area f (go (plan b) refl (sym e ∙ k .ends))) answer out′ area′ h (k .output-kept) (k .area-zero)
     where
-      go : (p : Plan) → plan (bookOf s) ≡ p → Infeasible f ≡ endedOf (bookOf s) p → plan (bookOf s) ≡ infeasible f
+      go : (p : Plan) → plan b ≡ p → Infeasible f ≡ endedOf b p → plan b ≡ infeasible f
       go (planned rows) d g = absurd (let z : _≡_ {A = ℕ} 0 1 = cc in omega arith)
       go (infeasible g) d h = let same : f ≡ g = cc in d ∙ ap infeasible (sym same)
 
   -- what is left after the second placing is what the call leaves
-  pub leaves-after : (answer : PlanAnswer) (out″ area″ : List ℕ) → Leaves (planOutcome (bookOf s) out′ area′ (plan (bookOf s))) answer out″ area″ →
-      Leaves (planOutcome (bookOf s) out area (plan (bookOf s))) answer out″ area″
+  pub leaves-after : (answer : PlanAnswer) (out″ area″ : List ℕ) → Leaves (planOutcome b out′ area′ (plan b)) answer out″ area″ →
+      Leaves (planOutcome b out area (plan b)) answer out″ area″
   leaves-after answer out″ area″ h =
       subst (λ (o : PlanOutcome). Leaves o answer out″ area″)
-      (ap (λ (o : List ℕ). planOutcome (bookOf s) o area′ (plan (bookOf s))) (k .output-kept)
-      ∙ outcome-by-rest (bookOf s) out area′ area (plan (bookOf s)) (ap (workZero slots) (k .area-zero) ∙ cleared-twice slots area)) h
+      (ap (λ (o : List ℕ). planOutcome b o area′ (plan b)) (k .output-kept)
+      ∙ outcome-by-rest b out area′ area (plan b) (ap (workZero slots) (k .area-zero) ∙ cleared-twice slots area)) h

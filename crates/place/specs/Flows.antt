@@ -11,7 +11,7 @@ use Rattle.rules.specs.Book.{Book, flowCount, flowOf}
 use Rattle.rules.specs.Reading.{bookOf, bookFault}
 use Rattle.rules.specs.PseudoJobs.{PseudoJob, work}
 use Rattle.rules.specs.Rows.{Row, usedIn, finishOf, workUsed}
-use Rattle.rules.specs.Placing.{Progress, given, afterSlot, progress, flowRows, freeProcessors, slotsFor, planned, infeasible, placeFlow}
+use Rattle.rules.specs.Placing.{Progress, given, afterSlot, progress, flowRows, freeProcessors}
 use Rattle.book.specs.Promise.{FlowJobs, Loaded}
 use Rattle.chain.specs.Runs.{Ideal, RunInput}
 use Rattle.place.specs.declared.Current.{Current}
@@ -130,29 +130,33 @@ pub record FlowHeld (s : List ℕ) (f : ℕ) (caps starts ends lasts firsts : Li
   pub lasts-whole : count ≤ length lasts
   pub firsts-whole : count ≤ length firsts
 
--- the rows of flow f beside those of the flows before it
-abbrev pub newRows : Book → ℕ → List Row → List Row
-newRows b f rows = flowRows (flowOf b f) f (freeProcessors b f rows) (slotsFor (flowOf b f))
+-- where flow f stands beside rows when the slots below a limit have passed
+abbrev pub standsAt : Book → ℕ → ℕ → List Row → Progress
+standsAt b f limit rows = progress (flowOf b f) (freeProcessors b f rows) limit
 
--- its rows are put and counted in
-pub record FlowDone (b : Book) (f : ℕ) (rows : List Row) (area out : List ℕ) (at : ℕ) (out′ area′ : List ℕ) (finish next : ℕ) : Type 0 where
-  pub placed : placeFlow b f rows ≡ planned (rows ++ newRows b f rows)
-  pub put : Put out at (newRows b f rows) out′ next
-  pub area-used : area′ ≡ workUsed slots (rows ++ newRows b f rows) area
-  pub ends : finish ≡ finishOf (newRows b f rows) f
-  pub within : (t : ℕ) → usedIn (rows ++ newRows b f rows) t ≤ b .processors
+-- its rows in these slots
+abbrev pub newRows : Book → ℕ → ℕ → List Row → List Row
+newRows b f limit rows = flowRows (flowOf b f) f (freeProcessors b f rows) limit
+
+-- it is finished, and its rows are put and counted in
+pub record FlowDone (b : Book) (f limit : ℕ) (rows : List Row) (area out : List ℕ) (at : ℕ) (out′ area′ : List ℕ) (finish next : ℕ) : Type 0 where
+  pub finished : standsAt b f limit rows .left ≡ []
+  pub put : Put out at (newRows b f limit rows) out′ next
+  pub area-used : area′ ≡ workUsed slots (rows ++ newRows b f limit rows) area
+  pub ends : finish ≡ finishOf (newRows b f limit rows) f
+  pub within : (t : ℕ) → usedIn (rows ++ newRows b f limit rows) t ≤ b .processors
   pub next-within : next ≤ at + 3145728
-  pub finish-within : finish ≤ slotsFor (flowOf b f)
+  pub finish-within : finish ≤ limit
 
 -- it makes the book infeasible
-pub record FlowInfeasible (b : Book) (f : ℕ) (rows : List Row) (area out out′ area′ : List ℕ) : Type 0 where
-  pub refused : placeFlow b f rows ≡ infeasible f
+pub record FlowInfeasible (b : Book) (f limit : ℕ) (rows : List Row) (area out out′ area′ : List ℕ) : Type 0 where
+  pub unfinished : standsAt b f limit rows .left ≡ [] → ⊥
   pub others : List Row
   pub area-used : area′ ≡ workUsed slots others area
   pub length-kept : length out′ ≡ length out
 
--- what the placing of flow f answers
-abbrev pub FlowPlaced : Bool → Book → ℕ → List Row → List ℕ → List ℕ → ℕ → List ℕ → List ℕ → Placed → Type 0
-FlowPlaced listed b f rows area out at out′ area′ (To finish next) =
-    (place : ℕ) × PlaceIf listed place next × FlowDone b f rows area out at out′ area′ finish place
-FlowPlaced listed b f rows area out at out′ area′ Infeasible = FlowInfeasible b f rows area out out′ area′
+-- what the placing of flow f in the slots below a limit answers
+abbrev pub FlowPlaced : Bool → Book → ℕ → ℕ → List Row → List ℕ → List ℕ → ℕ → List ℕ → List ℕ → Placed → Type 0
+FlowPlaced listed b f limit rows area out at out′ area′ (To finish next) =
+    (place : ℕ) × PlaceIf listed place next × FlowDone b f limit rows area out at out′ area′ finish place
+FlowPlaced listed b f limit rows area out at out′ area′ Infeasible = FlowInfeasible b f limit rows area out out′ area′

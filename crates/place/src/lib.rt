@@ -9,7 +9,6 @@ ghost use Rattle.rules.specs.Reading.{bookOf};
 ghost use Rattle.rules.specs.Rows.{Row, rowFor, usedIn, workUsed};
 ghost use Rattle.book.specs.Promise.{FlowStands};
 ghost use Rattle.rules.specs.Book.{flowOf};
-ghost use Rattle.rules.specs.Placing.{slotsFor};
 ghost use Rattle.place.specs.Flows.{SlotServed, RunAnswer, SlotUsed, RunUsed, Room, RunGoes, FlowHeld, FlowPlaced};
 ghost use Rattle.place.specs.Output.{Put};
 ghost use Rattle.place.specs.Service.{InService, PartsHeld, Serving, currentFlow, pseudoJob, Packs, packedRow, packedRows, jobRows, overlaps};
@@ -372,8 +371,8 @@ pub fn place_cuts(
     limit: usize,
     release: usize,
 ) -> Placed
-    requires { ⌜ FlowHeld (now book) f (now caps) (now starts) (now ends) (now lasts) (now firsts) count path × (count ≤ length (now names)) × (count ≤ length (now takes)) × (count ≤ length (now rows)) × (processors ≡ bookOf (now book) .processors) × (limit ≡ slotsFor (flowOf (bookOf (now book)) f)) × (release ≡ flowOf (bookOf (now book)) f .release) × (workBytes ≤ length (now area)) × Room listed (length (now out)) (at + 3145728) ⌝ }
-    ensures { λ r. ⌜ ((rows : List Row) (bytes : List ℕ) → now (area .entry) ≡ workUsed slots rows bytes → ((t : ℕ) → usedIn rows t ≤ processors) → FlowPlaced listed (bookOf (now (book .entry))) f rows bytes (now (out .entry)) at (now (out .exit)) (now (area .exit)) r) ⌝ }
+    requires { ⌜ FlowHeld (now book) f (now caps) (now starts) (now ends) (now lasts) (now firsts) count path × (count ≤ length (now names)) × (count ≤ length (now takes)) × (count ≤ length (now rows)) × (processors ≡ bookOf (now book) .processors) × (release ≡ flowOf (bookOf (now book)) f .release) × (release ≤ limit) × (limit ≤ 8192) × (workBytes ≤ length (now area)) × Room listed (length (now out)) (at + 3145728) ⌝ }
+    ensures { λ r. ⌜ ((rows : List Row) (bytes : List ℕ) → now (area .entry) ≡ workUsed slots rows bytes → ((t : ℕ) → usedIn rows t ≤ processors) → FlowPlaced listed (bookOf (now (book .entry))) f limit rows bytes (now (out .entry)) at (now (out .exit)) (now (area .exit)) r) ⌝ }
 {
     let mut from: usize = 0;
     let mut t: u32 = 0;
@@ -424,7 +423,7 @@ pub fn place_cuts(
     Placed::To(slot, next)
 }
 
-// Rules 1 to 6 for flow f, whose job records start at `records`: with its rows, or without, where no output is lent.
+// Rules 1 to 6 for flow f, whose job records start at `records`, in the slots below `limit`: with its rows, or without, where no output is lent.
 pub fn place_flow(
     listed: bool,
     book: &[u8],
@@ -434,15 +433,15 @@ pub fn place_flow(
     records: usize,
     f: usize,
     processors: u16,
+    limit: u16,
 ) -> Placed
-    requires { ⌜ FlowStands (now book) f records × (processors ≡ bookOf (now book) .processors) × (workBytes ≤ length (now area)) × Room listed (length (now out)) (at + 3145728) ⌝ }
-    ensures { λ r. ⌜ ((rows : List Row) (bytes : List ℕ) → now (area .entry) ≡ workUsed slots rows bytes → ((t : ℕ) → usedIn rows t ≤ processors) → FlowPlaced listed (bookOf (now (book .entry))) f rows bytes (now (out .entry)) at (now (out .exit)) (now (area .exit)) r) ⌝ }
+    requires { ⌜ FlowStands (now book) f records × (processors ≡ bookOf (now book) .processors) × (limit ≤ 8192) × (workBytes ≤ length (now area)) × Room listed (length (now out)) (at + 3145728) ⌝ }
+    ensures { λ r. ⌜ ((rows : List Row) (bytes : List ℕ) → now (area .entry) ≡ workUsed slots rows bytes → ((t : ℕ) → usedIn rows t ≤ processors) → FlowPlaced listed (bookOf (now (book .entry))) f limit rows bytes (now (out .entry)) at (now (out .exit)) (now (area .exit)) r) ⌝ }
 {
     let mut sizes = [0u32; 64];
     let mut caps = [0u32; 64];
     let mut predecessors = [0u64; 64];
     let head = book::load_flow(book, records, f, &mut sizes, &mut caps, &mut predecessors);
-    let limit = 2 * bytes::wide16(head.deadline);
     let release = bytes::wide16(head.release);
     let mut starts = [0u32; 64];
     let mut ends = [0u32; 64];
@@ -461,6 +460,10 @@ pub fn place_flow(
     let mut names = [0u8; 64];
     let mut takes = [0u32; 64];
     let mut rows = [0u32; 64];
+    let stop = bytes::wide16(limit);
+    if stop < release {
+        return Placed::Infeasible;
+    }
     place_cuts(
         listed,
         book,
@@ -479,7 +482,7 @@ pub fn place_flow(
         processors,
         head.jobs as usize,
         path,
-        limit,
+        stop,
         release,
     )
 }

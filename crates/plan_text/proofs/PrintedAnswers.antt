@@ -12,6 +12,7 @@ use Rattle.rules.specs.declared.PlanAnswer.{PlanAnswer}
 use Rattle.rules.specs.Walks.{joinFrom}
 use Rattle.rules.specs.Answers.{none, planAccepted, planRefused}
 use Rattle.rules.specs.Limits.{workBytes}
+use Rattle.rules.specs.Calendar.{noWindows}
 use Rattle.rules.specs.Book.{Book, InRange}
 use Rattle.rules.specs.Reading.{Reading, read, unread, readBook}
 use Rattle.rules.specs.Rows.{Row, lateFlows}
@@ -98,14 +99,14 @@ module _ (out area : List ℕ) (lent : length out ≡ lentBytes) (long : workByt
           rw (le-ltb (length out) (tableLength b rows) l, le-ltb lentBytes (tableLength b rows) (omega arith))
           (planned-prints b range rows e out l lent)
 
-  reading-prints : (input : List ℕ) (r : Reading) → readBook input ≡ r →
+  reading-prints : (input : List ℕ) (r : Reading) → readBook input noWindows ≡ r →
       Prints (readingText r) (planReading out area r .output) (planReading out area r .answer)
   unfolding readingText planReading
-  reading-prints input (unread n f j) e = refusal-prints out n f j (unread-number input n f j e)
-  reading-prints input (read b) e = rw (le-ltb (length area) workBytes long) (outcome-prints b (read-in-range input b e) (plan b) refl)
+  reading-prints input (unread n f j) e = refusal-prints out n f j (unread-number input noWindows n f j e)
+  reading-prints input (read b) e = rw (le-ltb (length area) workBytes long) (outcome-prints b (read-in-range input noWindows b e) (plan b) refl)
 
   -- any other input is answered by the planner
   pub call-prints : (input : List ℕ) → length input ≤ lentBytes →
-      Prints (printed input) (planCall input out area .output) (planCall input out area .answer)
+      Prints (printed input) (planCall input noWindows out area .output) (planCall input noWindows out area .answer)
   unfolding printed planCall
-  call-prints input l = rw (le-ltb lentBytes (length input) l) (reading-prints input (readBook input) refl)
+  call-prints input l = rw (le-ltb lentBytes (length input) l) (reading-prints input (readBook input noWindows) refl)

@@ -7,7 +7,7 @@ use native.Mathlib.Omega.{arith}
 use mathlib.Core.List.{List, _++_, append-nil}
 use Rattle.rules.specs.Walks.{listFrom, joinFrom}
 use Rattle.rules.specs.Fields.{byte, field, bytesOf}
-use Rattle.rules.specs.Book.{Book, flowCount, InRange}
+use Rattle.rules.specs.Book.{Book, flowCount, flowOf, InRange}
 use Rattle.rules.specs.Rows.{Row, finishOf, lateFlows}
 use Rattle.rules.specs.Placing.{planned, plan}
 use Rattle.rules.specs.Table.{tableHead, rowLength, tableLength, tableBytes, rowAt}
@@ -16,6 +16,7 @@ use Rattle.rules.specs.Text.{tableLine, finishLine, rowLine}
 use Rattle.rules.proofs.Caps.{used-in-range}
 use Rattle.rules.proofs.Walks.{join-split, join-ext, join-moved}
 use Rattle.rules.proofs.Rising.{_∈_}
+use Rattle.rules.proofs.OpenSlots.{limit-most}
 use Rattle.rules.proofs.PlannedValid.{planned-rows-fit}
 use Rattle.rules.proofs.Demand3Values.{planned-finish-fits}
 use Rattle.rules.proofs.TableBytes.{RowFits, table-bytes-length, table-rows-written, finish-written}
@@ -80,7 +81,7 @@ module _ (b : Book) (range : InRange b) (rows : List Row) (e : plan b ≡ planne
       let fit = planned-rows-fit b range rows e r m in
       let flow = used-in-range range (r .flow) (fit .flow-in) in
       record {
-        slot-fits = omega (arith, fit .slot-in, flow .deadline-most);
+        slot-fits = omega (arith, fit .slot-in, limit-most b (flowOf b (r .flow)));
         flow-fits = omega (arith, fit .flow-in, range .flows-most);
         job-fits = omega (arith, fit .job-in, flow .jobs-most);
         processors-fit = omega (arith, fit .processors-most, flow .each-job (r .job) (fit .job-in) .cap-most, range .processors-most);

@@ -1,11 +1,11 @@
 -- Rows that pass the check are those of a valid schedule, and the rows of every valid schedule within the slots pass.
--- The first: each row keeps its cap and its flow's release; the use of a slot grows row by row and never passes P; a job's rows before a slot
+-- The first: each row keeps its cap, its flow's release and the open slots; the use of a slot grows row by row and never passes P; a job's rows before a slot
 -- sum to what it has before that slot; a predecessor has its size by the rows so far, so it has it by all rows, which have no more. The second:
 -- rows so far are fewer than all rows, except of one flow in earlier slots, where they are all rows, since the rows of a flow stand by slot.
 -- Assumes nothing.
 use mathlib.Core.Path.{_≡_, refl, sym, ap, _∙_, subst}
 use mathlib.Core.Logic.{_⊎_, inl, inr}
-use mathlib.Core.Bool.{Bool, true, false, _&&_, and-false}
+use mathlib.Core.Bool.{Bool, true, false, _&&_, and-false, true≢false}
 use Prim.Native.Nat.{ℕ, zero, suc, _+_, _/_, _%_, _^_, _≤_, _<_}
 use native.Mathlib.Omega.{arith}
 use mathlib.Core.List.{List, _∷_, _++_, List·Memᴰ·cases-cons}
@@ -15,7 +15,8 @@ use lib.Dec.{ltb, eqb}
 use borrow.Author.Tests.{eqb-true, le-ltb, eq-eqb}
 use Rattle.rules.specs.Walks.{sumTo}
 use Rattle.rules.specs.Limits.{slots}
-use Rattle.rules.specs.Book.{Book, flowCount, jobCount, flowOf, jobOf, hasBit, precedes, InRange}
+use Rattle.rules.specs.Calendar.{isOpen}
+use Rattle.rules.specs.Book.{Book, flowCount, jobCount, flowOf, jobOf, hasBit, precedes, usable, InRange}
 use Rattle.rules.specs.Rows.{Row, sumWhere, usedIn, isOf, totalOf, doneBefore}
 use Rattle.rules.specs.Schedule.{Schedule, everyFlow, IsJob, inUse, Valid, InSlots, scheduleOf, scheduleRows}
 use Rattle.rules.specs.Check.{noRow}
@@ -27,6 +28,7 @@ use Rattle.rules.proofs.Rising.{_∈_, at-in, in-at, Rising, rising-aft
 use Rattle.rules.proofs.RowOrder.{Before, before-slot, rises-rising, rising-rises}
 use Rattle.rules.proofs.RowSums.{IsAt, counted-true, counted-false, sum-where-append, sum-where-none, sum-where-next, sum-where-take, schedule-none, schedule-met, sum-schedule, total-by, done-le-total, used-in-use}
 use Rattle.rules.proofs.ScheduleRows.{IsRow, row-is-job, rising-schedule, schedule-rows-rising, schedule-rows-in, rows-of-schedule, valid-within, schedule-of-rows}
+use Rattle.rules.proofs.Usable.{usable-open, released, usable-from}
 use Rattle.rules.proofs.TablePasses.{PredecessorsDone, RowPasses, RowsPass}
 
 -- a bit of a number below 2 ^ i is one of the lowest i
@@ -54,7 +56,7 @@ done-at b r f i t at-r soFar k below p h =
 -- ---- rows that pass are those of a valid schedule
 module _ (b : Book) (range : InRange b) (rows : List Row) (pass : RowsPass b rows) where
   -- what is said of every place of the list is said of every row
-  row-at : {r : Row} → r ∈ rows → (k : ℕ) × RowPasses b rows k × (getD rows k noRow ≡ r)
+  row-at : {r : Row} → r ∈ rows → (k : ℕ) × RowPasses b (isOpen (b .calendar)) rows k × (getD rows k noRow ≡ r)
   row-at m = let w = in-at noRow m in (w .0, pass .each-row (w .0) (w .1), w .2)
 
   pub passing-is-row : (r : Row) → r ∈ rows → IsRow b r
@@ -139,17 +141,18 @@ module _ (b : Book) (range : InRange b) (rows : List Row) (pass : RowsPass b row
         pass .totals f k (j .flow-in) (omega (arith, below, j .job-in)),
       )
 
-  row-released : {r : Row} → r ∈ rows → flowOf b (r .flow) .release ≤ r .slot
-  row-released m =
+  row-usable : {r : Row} → r ∈ rows → usable b (flowOf b (r .flow)) (r .slot) ≡ true
+  row-usable m =
       let w = row-at m in
-      subst (λ q. flowOf b (q .flow) .release ≤ q .slot) (w .2) (w .1 .released)
+      subst (λ q. usable b (flowOf b (q .flow)) (q .slot) ≡ true) (w .2)
+      (usable-from b (flowOf b (getD rows (w .0) noRow .flow)) (getD rows (w .0) noRow .slot) (w .1 .slot-open) (w .1 .released))
 
-  before-release : (f i t : ℕ) → t < flowOf b f .release → scheduleOf rows f i t ≡ 0
-  before-release f i t l =
+  nothing-unusable : (f i t : ℕ) → usable b (flowOf b f) t ≡ false → scheduleOf rows f i t ≡ 0
+  nothing-unusable f i t none =
       schedule-none rows f i t
       (λ r m at-r.
-      let from = rw (at-r .of-flow) at (row-released m) in
-      omega (arith, from, at-r .of-slot))
+      let can = rw (at-r .of-flow, at-r .of-slot) at (row-usable m) in
+      true≢false (sym can ∙ none))
 
   pub passing-valid : Valid b everyFlow (scheduleOf rows)
   passing-valid = record {
@@ -160,7 +163,7 @@ module _ (b : Book) (range : InRange b) (rows : List Row) (pass : RowsPass b row
     nothing-after = slot-in;
     sizes = λ f i j. sum-schedule rows f i slots ∙ total-by rows f i slots (λ r m. passing-is-row r m .slot-in) ∙ pass .totals f i (j .flow-in) (j .job-in);
     precedence = predecessor-done;
-    releases = λ f i t j. before-release f i t;
+    in-usable = λ f i t j. nothing-unusable f i t;
   }
 
   pub passing-in-slots : InSlots (scheduleOf rows)
@@ -238,24 +241,31 @@ module _ (b : Book) (range : InRange b) (σ : Schedule) (valid : Valid b everyFl
       let by-horizon = sum-quiet (σ f i) (valid .horizon) slots (λ t l. valid .nothing-after f i t l) in
       omega (arith, total-by rows f i slots slot-of, done-given f i slots, valid .sizes f i j)
 
-  row-passes : (k : ℕ) → k < length rows → RowPasses b rows k
+  given-usable : (f i t : ℕ) → IsJob b everyFlow f i → 0 < σ f i t → usable b (flowOf b f) t ≡ true
+  given-usable f i t j some = go (usable b (flowOf b f) t) refl
+    where
+      go : (c : Bool) → usable b (flowOf b f) t ≡ c → usable b (flowOf b f) t ≡ true
+      go true e = e
+      go false e = absurd (omega (arith, some, valid .in-usable f i t j e))
+
+  row-passes : (k : ℕ) → k < length rows → RowPasses b (isOpen (b .calendar)) rows k
   unfolding PredecessorsDone
   row-passes k l =
       let r = getD rows k noRow in
       let o = schedule-rows-in b σ r (at-in rows k noRow l) in
       let j = row-is-job b r (o .is-row .in-book) in
       let given-some : 0 < σ (r .flow) (r .job) (r .slot) = omega (arith, o .given-there, o .is-row .takes) in
-      let not-early : r .slot < flowOf b (r .flow) .release → ⊥ =
-      λ early. omega (arith, given-some, valid .releases (r .flow) (r .job) (r .slot) j early) in
+      let can = given-usable (r .flow) (r .job) (r .slot) j given-some in
       record {
         slot-in = o .is-row .slot-in;
         flow-in = j .flow-in;
         job-in = j .job-in;
         takes = o .is-row .takes;
+        slot-open = usable-open b (flowOf b (r .flow)) (r .slot) can;
         comes-after = rising-rises b rows (schedule-rows-rising b σ) k l;
         cap-kept = omega (arith, o .given-there, valid .caps (r .flow) (r .job) (r .slot) j);
         processors-kept = omega (arith, used-so-far rows k l, used-given (r .slot), valid .together (r .slot));
-        released = omega (arith, not-early);
+        released = released b (flowOf b (r .flow)) (r .slot) can;
         predecessors-done = λ i m p.
             omega (
               arith,

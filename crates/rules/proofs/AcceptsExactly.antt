@@ -106,10 +106,10 @@ module _ (b : Book) (s area : List ℕ) where
   passing-accepted pass long = rw (le-ltb (length area) workBytes long, pass) refl
 
 -- a call that answers 0 has a table without a fault, and the outcome of such a table
-pub call-accepts : (book table area : List ℕ) (b : Book) → readBook book ≡ read b → checkCall book table area .answer .number ≡ 0 →
-    (tableFault b table ≡ Pass) × (checkCall book table area ≡ checkOutcome b table area Pass)
+pub call-accepts : (book calendar table area : List ℕ) (b : Book) → readBook book calendar ≡ read b → checkCall book calendar table area .answer .number ≡ 0 →
+    (tableFault b table ≡ Pass) × (checkCall book calendar table area ≡ checkOutcome b table area Pass)
 unfolding checkCall
-call-accepts book table area b reads zero =
+call-accepts book calendar table area b reads zero =
     let same = ap (checkReading table area) reads in
     let w = reading-accepts b table area (ap (λ o. o .answer .number) (sym same) ∙ zero) in
     (w .0, same ∙ w .1)
@@ -132,12 +132,12 @@ faultless-is-schedule b range s bytes pass =
 pub accepts-exactly : AcceptsExactly
 unfolding checkCall checkOutcome
 accepts-exactly = record {
-  only-schedules = λ book table area b reads bytes zero.
-      let w = call-accepts book table area b reads zero in
+  only-schedules = λ book calendar table area b reads bytes zero.
+      let w = call-accepts book calendar table area b reads zero in
       subst (IsScheduleTable b table) (sym (ap (λ o. o .answer .late) (w .1)))
-      (faultless-is-schedule b (read-in-range book b reads) table bytes (w .0));
-  every-schedule = λ book table area b late reads long is.
-      let range = read-in-range book b reads in
+      (faultless-is-schedule b (read-in-range book calendar b reads) table bytes (w .0));
+  every-schedule = λ book calendar table area b late reads long is.
+      let range = read-in-range book calendar b reads in
       let pass : tableFault b table ≡ Pass = rw (is .written) (schedule-table-passes b range (is .schedule) (is .valid) (is .in-slots)) in
       let rows : tableRows b table ≡ scheduleRows b (is .schedule) =
       rw (is .written) (schedule-table-rows b range (is .schedule) (is .valid) (is .in-slots)) in

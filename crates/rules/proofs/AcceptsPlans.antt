@@ -25,16 +25,16 @@ use Rattle.rules.proofs.TableBytes.{table-bytes-length}
 use Rattle.rules.proofs.PlannedTable.{planned-table-is-schedule-table}
 use Rattle.rules.proofs.AcceptsExactly.{accepts-exactly}
 
--- a book that is not read is refused by a number from 1 on
-pub unread-number : (s : List ℕ) (n f j : ℕ) → readBook s ≡ unread n f j → 1 ≤ n
-unread-number s n f j e = unread-numbered s n f j e .0
+-- a book that is not read, or whose calendar is not, is refused by a number from 1 on
+pub unread-number : (s calendar : List ℕ) (n f j : ℕ) → readBook s calendar ≡ unread n f j → 1 ≤ n
+unread-number s calendar n f j e = unread-numbered s calendar n f j e .0
 
-module _ (book out area other : List ℕ) (long : workBytes ≤ length other) where
+module _ (book calendar out area other : List ℕ) (long : workBytes ≤ length other) where
   -- the outcome's table is accepted, if its number is 0
   abbrev Accepts : PlanOutcome → Type 0
-  Accepts o = o .answer .number ≡ 0 → checkCall book (take (o .answer .length) (o .output)) other .answer ≡ checkAccepted (o .answer .late)
+  Accepts o = o .answer .number ≡ 0 → checkCall book calendar (take (o .answer .length) (o .output)) other .answer ≡ checkAccepted (o .answer .late)
 
-  accepts-planned : (b : Book) → readBook book ≡ read b → (rows : List Row) → plan b ≡ planned rows → Accepts (planOutcome b out area (planned rows))
+  accepts-planned : (b : Book) → readBook book calendar ≡ read b → (rows : List Row) → plan b ≡ planned rows → Accepts (planOutcome b out area (planned rows))
   unfolding planOutcome
   accepts-planned b e rows p = go (ltb (length out) (tableLength b rows))
     where
@@ -53,23 +53,23 @@ module _ (book out area other : List ℕ) (long : workBytes ≤ length other) wh
       go true q = absurd (omega arith)
       go false q =
           rw table
-          (accepts-exactly .every-schedule book (tableBytes b rows) other b (lateFlows b rows) e long
-          (planned-table-is-schedule-table b (read-in-range book b e) rows p))
+          (accepts-exactly .every-schedule book calendar (tableBytes b rows) other b (lateFlows b rows) e long
+          (planned-table-is-schedule-table b (read-in-range book calendar b e) rows p))
 
-  accepts-plan : (b : Book) → readBook book ≡ read b → (p : Plan) → plan b ≡ p → Accepts (planOutcome b out area p)
+  accepts-plan : (b : Book) → readBook book calendar ≡ read b → (p : Plan) → plan b ≡ p → Accepts (planOutcome b out area p)
   unfolding planOutcome
   accepts-plan b e (planned rows) q z = accepts-planned b e rows q z
   accepts-plan b e (infeasible f) q z = absurd (omega arith)
 
-  accepts-reading : (r : Reading) → readBook book ≡ r → Accepts (planReading out area r)
+  accepts-reading : (r : Reading) → readBook book calendar ≡ r → Accepts (planReading out area r)
   unfolding planReading
   accepts-reading (read b) e z = go (ltb (length area) workBytes) z
     where
       go : (t : Bool) → Accepts (if t then record { answer = planRefused 11 none none; output = out; area = area } else planOutcome b out area (plan b))
       go true y = absurd (omega arith)
       go false y = accepts-plan b e (plan b) refl y
-  accepts-reading (unread n f j) e z = absurd (omega (arith, unread-number book n f j e))
+  accepts-reading (unread n f j) e z = absurd (omega (arith, unread-number book calendar n f j e))
 
 pub accepts-plans : AcceptsPlans
 unfolding AcceptsPlans planCall
-accepts-plans book out area other z long = accepts-reading book out area other long (readBook book) refl z
+accepts-plans book calendar out area other z long = accepts-reading book calendar out area other long (readBook book calendar) refl z

@@ -13,6 +13,8 @@ use lib.ListN.{length, getD}
 use lib.Dec.{eqb}
 use borrow.Author.Tests.{eqb-true, eq-eqb}
 use Rattle.rules.specs.Walks.{if_then_else_, sumTo, bit, countTo, anyTo}
+use Rattle.rules.specs.declared.Verdict.the-variants.{Pass}
+use Rattle.rules.specs.Calendar.{calendarOf, calendarFault}
 use Rattle.rules.specs.Book.{Flow, Book, flowCount, noFlow, flowIn, lowerCaps, flowOf, InRange}
 use Rattle.rules.specs.Reading.{bookBytes, readBook}
 use Rattle.rules.specs.Reading.Reading.{read}
@@ -206,6 +208,10 @@ module _ (b : Book) (k : ℕ) where
   unfolding cut
   cut-processors = refl
 
+  pub cut-calendar : cut b k .calendar ≡ b .calendar
+  unfolding cut
+  cut-calendar = refl
+
   pub cut-at-most : flowCount (cut b k) ≤ flowCount b
   cut-at-most = omega (arith, cut-length, chosen-here .count, count-most (λ i. amongFirst b k (0 + i)) (flowCount b))
 
@@ -216,6 +222,7 @@ module _ (b : Book) (k : ℕ) where
     processors-most = rw cut-processors (r .processors-most);
     flows-most = omega (arith, cut-at-most, r .flows-most);
     each-flow = λ f l. rw (cut-flow-in f l) (r .each-flow (kept b k f) (kept-below f l));
+    calendar-in-range = rw cut-calendar (r .calendar-in-range);
   }
 
   -- its releases fit where those of the whole book do
@@ -225,9 +232,11 @@ module _ (b : Book) (k : ℕ) where
     release-fits = λ f l. rw (cut-flow-in f l) (can .release-fits (kept b k f) (kept-below f l));
   }
 
--- "a book of its own", which keeps its version
-pub cut-reads : (v : ℕ) (b : Book) (k : ℕ) → InRange b → Writable v b → readBook (bookBytes v (cut b k)) ≡ read (cut b k)
-cut-reads v b k r can = read-written v (cut b k) (cut-in-range b k r) (cut-writable b k v can)
+-- "a book of its own", which keeps its version and its calendar
+pub cut-reads : (v : ℕ) (b : Book) (k : ℕ) (calendar : List ℕ) → InRange b → Writable v b → calendarFault calendar ≡ Pass → calendarOf calendar ≡ b .calendar →
+    readBook (bookBytes v (cut b k)) calendar ≡ read (cut b k)
+cut-reads v b k calendar r can passes same =
+    read-written v (cut b k) calendar (cut-in-range b k r) (cut-writable b k v can) passes (same ∙ sym (cut-calendar b k))
 
 -- ---- how many flows are kept
 -- the flows among the first k are those at the positions below k
@@ -332,7 +341,7 @@ keep-all q s (w ∷ ws) h =
 
 pub cut-whole : (b : Book) → cut b (flowCount b) ≡ b
 unfolding cut
-cut-whole b = λ x. record { processors = b .processors; flows = keep-all (amongFirst b (flowCount b)) 0 (b .flows) (λ i l. every (0 + i) (omega arith)) x }
+cut-whole b = λ x. record { processors = b .processors; flows = keep-all (amongFirst b (flowCount b)) 0 (b .flows) (λ i l. every (0 + i) (omega arith)) x; calendar = b .calendar }
   where
     every : (f : ℕ) → f < flowCount b → amongFirst b (flowCount b) f ≡ true
     every f l = let w = service-position b f l in rw (w .2) at (position-among b (flowCount b) (w .0) (w .1))

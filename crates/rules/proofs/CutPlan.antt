@@ -9,14 +9,15 @@ use lib.Dec.{eqb}
 use borrow.Author.Tests.{eqb-true, eq-eqb}
 use Rattle.rules.specs.Walks.{if_then_else_, joinFrom}
 use Rattle.rules.specs.Fields.{bytesOf}
-use Rattle.rules.specs.Book.{Flow, Book, flowCount, jobCount, flowOf, InRange}
+use Rattle.rules.specs.Book.{Flow, Book, flowCount, jobCount, flowOf, usable, InRange}
 use Rattle.rules.specs.PseudoJobs.{PseudoJob}
 use Rattle.rules.specs.Rows.{Row, rowFor, sumWhere, usedIn, finishOf, workUsed}
 use Rattle.rules.specs.Placing.{share, given, slotRows, progress, flowRows, freeProcessors, slotsFor, Plan, planned, infeasible, settled, placeFlow, thenPlace, placeFirst, plan}
 use Rattle.rules.specs.Cut.{cut}
 use Rattle.rules.proofs.Rising.{_∈_, first-in}
+use Rattle.rules.proofs.OpenSlots.{limit-same}
 use Rattle.rules.proofs.ServiceOrder.{servedAt}
-use Rattle.rules.proofs.CutBook.{kept, kept-once, cut-processors, cut-count, cut-in-range, cut-service, cut-service-flow}
+use Rattle.rules.proofs.CutBook.{kept, kept-once, cut-processors, cut-calendar, cut-count, cut-in-range, cut-service, cut-service-flow}
 use Rattle.rules.proofs.PlannedValid.{planned-rows-fit}
 use Rattle.rules.proofs.Position.{same-test}
 
@@ -72,10 +73,11 @@ module _ (to : ℕ → ℕ) where
   settled-renumbered f (p ∷ ps) rows = refl
 
   -- ---- a flow of one book that is used like a flow of another
-  module _ (b c : Book) (same-processors : b .processors ≡ c .processors) (f : ℕ) (same-flow : flowOf b (to f) ≡ flowOf c f) (rows : List Row) where
+  module _ (b c : Book) (same-processors : b .processors ≡ c .processors) (same-calendar : b .calendar ≡ c .calendar)
+      (f : ℕ) (same-flow : flowOf b (to f) ≡ flowOf c f) (rows : List Row) where
     free-renumbered : (t : ℕ) → freeProcessors b (to f) (map (renumber to) rows) t ≡ freeProcessors c f rows t
-    unfolding freeProcessors
-    free-renumbered t = rw (same-flow, same-processors, used-renumbered rows t) refl
+    unfolding freeProcessors usable
+    free-renumbered t = rw (same-flow, same-processors, same-calendar, used-renumbered rows t) refl
 
     place-renumbered : placeFlow b (to f) (map (renumber to) rows) ≡ renumberPlan to (placeFlow c f rows)
     unfolding placeFlow
@@ -83,12 +85,12 @@ module _ (to : ℕ → ℕ) where
         let w = flowOf c f in
         let free = freeProcessors c f rows in
         let same-free : freeProcessors b (to f) (map (renumber to) rows) ≡ free = λ x t. free-renumbered t x in
-        let left = progress w free (slotsFor w) .left in
-        rw (same-flow, same-free)
+        let left = progress w free (slotsFor c w) .left in
+        rw (same-flow, same-free, limit-same b c same-calendar w)
         (ap (settled (to f) left)
-        (ap (map (renumber to) rows ++_) (sym (flow-renumbered w f free (slotsFor w)))
-        ∙ sym (map-append (renumber to) rows (flowRows w f free (slotsFor w))))
-        ∙ settled-renumbered f left (rows ++ flowRows w f free (slotsFor w)))
+        (ap (map (renumber to) rows ++_) (sym (flow-renumbered w f free (slotsFor c w)))
+        ∙ sym (map-append (renumber to) rows (flowRows w f free (slotsFor c w))))
+        ∙ settled-renumbered f left (rows ++ flowRows w f free (slotsFor c w)))
 
   -- ---- the finish of a flow whose number no other flow is given
   finish-renumbered : (rows : List Row) (m : ℕ) → ((r : Row) → r ∈ rows → to (r .flow) ≡ to m → r .flow ≡ m) →
@@ -120,7 +122,7 @@ module _ (b : Book) (k : ℕ) (fits : k ≤ flowCount b) where
       go (infeasible g) = refl
       go (planned rows) =
           ap (λ g. placeFlow b g (map (renumber (kept b k)) rows)) (sym at)
-          ∙ place-renumbered (kept b k) b (cut b k) (sym (cut-processors b k)) f (ap (flowOf b) at ∙ sym (cut-service-flow b k fits n l)) rows
+          ∙ place-renumbered (kept b k) b (cut b k) (sym (cut-processors b k)) (sym (cut-calendar b k)) f (ap (flowOf b) at ∙ sym (cut-service-flow b k fits n l)) rows
 
   -- so are all of them
   pub cut-plan : placeFirst b k ≡ renumberPlan (kept b k) (plan (cut b k))

@@ -20,8 +20,8 @@ use Rattle.rules.specs.Table.{tableLength, tableBytes}
 use Rattle.rules.specs.Planner.{planOutcome, planReading, planCall}
 use Rattle.rules.specs.Cut.{cut}
 use Rattle.rules.specs.Demands.{PlannerOwes, PlannedWell, Demand3}
-use Rattle.rules.proofs.Passing.{read-in-range}
-use Rattle.rules.proofs.Versions.{read-writable}
+use Rattle.rules.proofs.Passing.{read-passes, read-in-range}
+use Rattle.rules.proofs.Versions.{read-writable, read-calendar}
 use Rattle.rules.proofs.CutBook.{cut-in-range, cut-reads}
 use Rattle.rules.proofs.Demand3Values.{planned-well, infeasible-proves}
 
@@ -80,16 +80,23 @@ module _ (c : Book) (range : InRange c) (out area : List ℕ) where
   owed (infeasible f) e = owed-infeasible f e
 
   -- with a work area that is long enough the outcome is that of the plan
-  pub call-plans : (book : List ℕ) → readBook book ≡ read c → workBytes ≤ length area → planCall book out area ≡ planOutcome c out area (plan c)
+  pub call-plans : (book calendar : List ℕ) → readBook book calendar ≡ read c → workBytes ≤ length area →
+      planCall book calendar out area ≡ planOutcome c out area (plan c)
   unfolding planCall planReading
-  call-plans book e h = rw (e, le-ltb (length area) workBytes h) refl
+  call-plans book calendar e h = rw (e, le-ltb (length area) workBytes h) refl
 
-  pub owed-of-call : (book : List ℕ) → readBook book ≡ read c → workBytes ≤ length area → PlannerOwes c out (planCall book out area)
-  owed-of-call book e h = rw (call-plans book e h) (owed (plan c) refl)
+  pub owed-of-call : (book calendar : List ℕ) → readBook book calendar ≡ read c → workBytes ≤ length area → PlannerOwes c out (planCall book calendar out area)
+  owed-of-call book calendar e h = rw (call-plans book calendar e h) (owed (plan c) refl)
+
+-- the cut book of a book that is read, beside the same calendar
+pub read-cut : (book calendar : List ℕ) (b : Book) → readBook book calendar ≡ read b → (k : ℕ) →
+    readBook (bookBytes (versionOf book) (cut b k)) calendar ≡ read (cut b k)
+read-cut book calendar b e k =
+    cut-reads (versionOf book) b k calendar (read-in-range book calendar b e) (read-writable book calendar b e)
+    (read-passes book calendar b e .calendar-passes) (read-calendar book calendar b e)
 
 pub demand-3 : Demand3
 unfolding Demand3
-demand-3 book b e k l out area h =
-    let range : InRange b = read-in-range book b e in
-    let can = read-writable book b e in
-    owed-of-call (cut b k) (cut-in-range b k range) out area (bookBytes (versionOf book) (cut b k)) (cut-reads (versionOf book) b k range can) h
+demand-3 book calendar b e k l out area h =
+    owed-of-call (cut b k) (cut-in-range b k (read-in-range book calendar b e)) out area (bookBytes (versionOf book) (cut b k)) calendar
+    (read-cut book calendar b e k) h

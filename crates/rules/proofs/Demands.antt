@@ -11,6 +11,7 @@ use Rattle.rules.proofs.Lowered.{caps-lowered}
 use Rattle.rules.proofs.Dispatches.{dispatches}
 use Rattle.rules.proofs.Finishes.{finishes}
 use Rattle.rules.proofs.WriteBack.{write-back}
+use Rattle.rules.proofs.Calendars.{calendars, no-windows}
 
 pub demands : Demands
 demands = record {
@@ -24,4 +25,6 @@ demands = record {
   dispatches = dispatches;
   finishes = finishes;
   write-back = write-back;
+  calendars = calendars;
+  no-windows = no-windows;
 }

@@ -16,8 +16,9 @@ use Rattle.rules.specs.declared.Verdict.the-variants.{Pass}
 use Rattle.rules.specs.Fields.{AllBytes}
 use Rattle.rules.specs.Answers.{none, listAccepted, listRefused}
 use Rattle.rules.specs.Limits.{slots, workBytes}
+use Rattle.rules.specs.Calendar.{calendarOf}
 use Rattle.rules.specs.Book.{Book, lowered, InRange}
-use Rattle.rules.specs.Reading.{versionOf, Reading, read, unread, bookOf, readBook, bookBytes}
+use Rattle.rules.specs.Reading.{versionOf, Reading, read, unread, bookOf, bookWith, readBook, bookBytes}
 use Rattle.rules.specs.Rows.{Row, usedIn, workUsed, workZero}
 use Rattle.rules.specs.Placing.{rowsOf, plan}
 use Rattle.rules.specs.Schedule.{scheduleOf}
@@ -28,7 +29,6 @@ use Rattle.rules.specs.Dispatch.{listedBefore, listRows, listLength, lis
 use Rattle.rules.specs.Demands.{PlansByTheRules, AcceptsPlans, Version1Kept, CheckRefusal, DispatchRefusal, timesIn, listOf, ListsRows, Dispatches}
 use Rattle.rules.proofs.Division.{lt-or-ge}
 use Rattle.rules.proofs.Passing.{read-passes, read-in-range}
-use Rattle.rules.proofs.RoundTrip.{writable-two, read-written}
 use Rattle.rules.proofs.Rising.{_∈_, Rising}
 use Rattle.rules.proofs.RowOrder.{Before}
 use Rattle.rules.proofs.ListOrder.{Listed, list-rising, list-as-often, list-sum, list-injective, listed-next, listed-once}
@@ -43,8 +43,8 @@ use Rattle.rules.proofs.Refusals.{demand-1}
 use Rattle.rules.proofs.AcceptsExactly.{row-fits, rows-accepted, call-accepts}
 use Rattle.rules.proofs.AcceptsPlans.{unread-number, accepts-plans}
 use Rattle.rules.proofs.PlansByTheRules.{plans-by-the-rules}
-use Rattle.rules.proofs.Versions.{version-1-kept}
-use Rattle.rules.proofs.SameUse.{dispatch-same}
+use Rattle.rules.proofs.Versions.{version-2-reads, version-1-kept}
+use Rattle.rules.proofs.SameUse.{with-same, dispatch-same}
 use Rattle.rules.proofs.Lowered.{same-use, caps-lowered}
 
 -- ---- the three outcomes of a call
@@ -135,37 +135,40 @@ module _ (b : Book) (rows : List Row) (out area : List ℕ) (fits : (r : Row) �
 
 -- ---- a book that is read
 -- number 0 is answered of a book that is read
-pub check-reads : (book table area : List ℕ) → checkCall book table area .answer .number ≡ 0 → readBook book ≡ read (bookOf book)
+pub check-reads : (book calendar table area : List ℕ) → checkCall book calendar table area .answer .number ≡ 0 →
+    readBook book calendar ≡ read (bookWith book calendar)
 unfolding checkCall checkReading
-check-reads book table area = go (readBook book) refl
+check-reads book calendar table area = go (readBook book calendar) refl
   where
-    go : (r : Reading) → readBook book ≡ r → checkReading table area r .answer .number ≡ 0 → readBook book ≡ read (bookOf book)
-    go (read b) e z = e ∙ ap read (read-passes book b e .1)
-    go (unread n f j) e z = absurd (omega (arith, unread-number book n f j e))
+    go : (r : Reading) → readBook book calendar ≡ r → checkReading table area r .answer .number ≡ 0 → readBook book calendar ≡ read (bookWith book calendar)
+    go (read b) e z = e ∙ ap read (read-passes book calendar b e .is-book)
+    go (unread n f j) e z = absurd (omega (arith, unread-number book calendar n f j e))
 
-module _ (book : List ℕ) (b : Book) (reads : readBook book ≡ read b) (table out area : List ℕ) where
+module _ (book calendar : List ℕ) (b : Book) (reads : readBook book calendar ≡ read b) (table out area : List ℕ) where
   abbrev call : DispatchOutcome
-  call = dispatchCall book table out area
+  call = dispatchCall book calendar table out area
 
   abbrev checked : CheckOutcome
-  checked = checkCall book table area
+  checked = checkCall book calendar table area
 
   abbrev rows : List Row
   rows = tableRows b table
 
   range : InRange b
-  range = read-in-range book b reads
+  range = read-in-range book calendar b reads
 
   dispatch-read : call ≡ dispatchChecked b rows out area checked
   unfolding dispatchCall
-  dispatch-read = ap (λ c. dispatchChecked c (tableRows c table) out area checked) (sym (read-passes book b reads .1))
+  dispatch-read =
+      sym (dispatch-same (bookWith book calendar) (bookOf book) (with-same (calendarOf calendar) (bookOf book)) table out area checked)
+      ∙ ap (λ c. dispatchChecked c (tableRows c table) out area checked) (sym (read-passes book calendar b reads .is-book))
 
   -- number 0 is that of a table without a fault, and of its list over the area that its rows use
   call-lists : call .answer .number ≡ 0 → (tableFault b table ≡ Pass) × (call ≡ listing b rows out (workUsed slots rows area))
   unfolding checkOutcome
   call-lists z =
       let w = outcome-zero b rows out area checked (ap (λ o. o .answer .number) (sym dispatch-read) ∙ z) in
-      let c = call-accepts book table area b reads (w .0) in
+      let c = call-accepts book calendar table area b reads (w .0) in
       (c .0, dispatch-read ∙ outcome-listed b rows out area checked (w .0) (w .1) ∙ ap (λ o. listing b rows out (o .area)) (c .1))
 
   call-passes : call .answer .number ≡ 0 → TablePasses b table
@@ -195,33 +198,35 @@ module _ (book : List ℕ) (b : Book) (reads : readBook book ≡ read b) (table 
   call-table bytes z = let p = call-passes z in table-read b table bytes (p .head-passes) (p .finishes)
 
 -- ---- nothing is lost
-nothing-lost : (book table other out out′ area area′ : List ℕ) → AllBytes table → AllBytes other →
-    dispatchCall book table out area .answer .number ≡ 0 → dispatchCall book other out′ area′ .answer .number ≡ 0 →
-    listOf (dispatchCall book table out area) ≡ listOf (dispatchCall book other out′ area′) → table ≡ other
+nothing-lost : (book calendar table other out out′ area area′ : List ℕ) → AllBytes table → AllBytes other →
+    dispatchCall book calendar table out area .answer .number ≡ 0 → dispatchCall book calendar other out′ area′ .answer .number ≡ 0 →
+    listOf (dispatchCall book calendar table out area) ≡ listOf (dispatchCall book calendar other out′ area′) → table ≡ other
 unfolding dispatchCall
-nothing-lost book table other out out′ area area′ bytes bytes′ z z′ same =
-    let b = bookOf book in
+nothing-lost book calendar table other out out′ area area′ bytes bytes′ z z′ same =
+    let b = bookWith book calendar in
     let rows = tableRows b table in
     let rows′ = tableRows b other in
-    let reads = check-reads book table area (outcome-zero b rows out area (checkCall book table area) z .0) in
+    let reads = check-reads book calendar table area
+    (outcome-zero (bookOf book) (tableRows (bookOf book) table) out area (checkCall book calendar table area) z .0) in
     let equal : listBytes b rows ≡ listBytes b rows′ =
-    sym (call-list book b reads table out area z) ∙ same ∙ call-list book b reads other out′ area′ z′ in
+    sym (call-list book calendar b reads table out area z) ∙ same ∙ call-list book calendar b reads other out′ area′ z′ in
     let listed : listRows rows ≡ listRows rows′ =
     sym (list-rows-written b rows (table-rows-fit b table bytes)) ∙ ap rowsInList equal ∙ list-rows-written b rows′ (table-rows-fit b other bytes′) in
     let one : rows ≡ rows′ =
-    list-injective b rows rows′ (call-rising book b reads table out area z) (call-rising book b reads other out′ area′ z′) listed in
-    call-table book b reads table out area bytes z ∙ ap (tableBytes b) one ∙ sym (call-table book b reads other out′ area′ bytes′ z′)
+    list-injective b rows rows′ (call-rising book calendar b reads table out area z) (call-rising book calendar b reads other out′ area′ z′) listed in
+    call-table book calendar b reads table out area bytes z ∙ ap (tableBytes b) one ∙ sym (call-table book calendar b reads other out′ area′ bytes′ z′)
 
 -- ---- the list of a plan
-lists-plan : (book out area list other : List ℕ) (b : Book) → readBook book ≡ read b → planCall book out area .answer .number ≡ 0 →
+lists-plan : (book calendar out area list other : List ℕ) (b : Book) → readBook book calendar ≡ read b → planCall book calendar out area .answer .number ≡ 0 →
     listLength (rowsOf (plan b)) ≤ length list → workBytes ≤ length other →
-    ListsRows b (rowsOf (plan b)) list (dispatchCall book (take (planCall book out area .answer .length) (planCall book out area .output)) list other)
+    ListsRows b (rowsOf (plan b)) list
+    (dispatchCall book calendar (take (planCall book calendar out area .answer .length) (planCall book calendar out area .output)) list other)
 unfolding PlansByTheRules AcceptsPlans
-lists-plan book out area list other b reads z fit long =
-    let range = read-in-range book b reads in
+lists-plan book calendar out area list other b reads z fit long =
+    let range = read-in-range book calendar b reads in
     let rows = rowsOf (plan b) in
-    let o = planCall book out area in
-    let p = plans-by-the-rules book out area b reads z in
+    let o = planCall book calendar out area in
+    let p = plans-by-the-rules book calendar out area b reads z in
     let table = take (o .answer .length) (o .output) in
     let written : table ≡ tableBytes b rows =
     ap (λ n. take n (o .output)) (p .table-length) ∙ ap (take (tableLength b rows)) (p .table)
@@ -232,39 +237,38 @@ lists-plan book out area list other b reads z fit long =
     let back : tableRows b table ≡ rows = ap (tableRows b) written ∙ rows-accepted b range rows same valid within .1 in
     let fits : (r : Row) → r ∈ rows → RowFits r =
     subst (λ rs. (r : Row) → r ∈ rs → RowFits r) (sym same) (row-fits b range (scheduleOf rows) valid within) in
-    let zero = ap (λ a. a .number) (accepts-plans book out area other z long) in
-    let enough = call-long-enough book b reads table list other zero (subst (λ rs. listLength rs ≤ length list) (sym back) fit) in
-    subst (λ rs. ListsRows b rs list (dispatchCall book table list other)) back
-    (call-holds book b reads table list other (subst (λ rs. (r : Row) → r ∈ rs → RowFits r) (sym back) fits) (ap (λ a. a .number) enough))
+    let zero = ap (λ a. a .number) (accepts-plans book calendar out area other z long) in
+    let enough = call-long-enough book calendar b reads table list other zero (subst (λ rs. listLength rs ≤ length list) (sym back) fit) in
+    subst (λ rs. ListsRows b rs list (dispatchCall book calendar table list other)) back
+    (call-holds book calendar b reads table list other (subst (λ rs. (r : Row) → r ∈ rs → RowFits r) (sym back) fits) (ap (λ a. a .number) enough))
 
 -- ---- books that are used alike: Req 01 and Req 02
-dispatch-version-1 : (book : List ℕ) (b : Book) → readBook book ≡ read b → versionOf book ≡ 1 → (table out area : List ℕ) →
-    dispatchCall book table out area ≡ dispatchCall (bookBytes 2 b) table out area
+dispatch-version-1 : (book calendar : List ℕ) (b : Book) → readBook book calendar ≡ read b → versionOf book ≡ 1 → (table out area : List ℕ) →
+    dispatchCall book calendar table out area ≡ dispatchCall (bookBytes 2 b) calendar table out area
 unfolding Version1Kept
-dispatch-version-1 book b reads one table out area =
-    let range = read-in-range book b reads in
-    dispatch-read book b reads table out area
-    ∙ ap (dispatchChecked b (tableRows b table) out area) (version-1-kept book b reads one .same-check table area)
-    ∙ sym (dispatch-read (bookBytes 2 b) b (read-written 2 b range (writable-two b range)) table out area)
+dispatch-version-1 book calendar b reads one table out area =
+    dispatch-read book calendar b reads table out area
+    ∙ ap (dispatchChecked b (tableRows b table) out area) (version-1-kept book calendar b reads one .same-check table area)
+    ∙ sym (dispatch-read (bookBytes 2 b) calendar b (version-2-reads book calendar b reads) table out area)
 
-dispatch-lowered : (book : List ℕ) (b : Book) → readBook book ≡ read b → (table out area : List ℕ) →
-    dispatchCall book table out area ≡ dispatchCall (bookBytes (versionOf book) (lowered b)) table out area
-dispatch-lowered book b reads table out area =
-    let w = caps-lowered .as-lowered book b reads in
-    dispatch-read book b reads table out area
+dispatch-lowered : (book calendar : List ℕ) (b : Book) → readBook book calendar ≡ read b → (table out area : List ℕ) →
+    dispatchCall book calendar table out area ≡ dispatchCall (bookBytes (versionOf book) (lowered b)) calendar table out area
+dispatch-lowered book calendar b reads table out area =
+    let w = caps-lowered .as-lowered book calendar b reads in
+    dispatch-read book calendar b reads table out area
     ∙ ap (dispatchChecked b (tableRows b table) out area) (w .same-check table area)
-    ∙ dispatch-same b (lowered b) (same-use b) table out area (checkCall (bookBytes (versionOf book) (lowered b)) table area)
-    ∙ sym (dispatch-read (bookBytes (versionOf book) (lowered b)) (lowered b) (w .lowered-reads) table out area)
+    ∙ dispatch-same b (lowered b) (same-use b .flows) table out area (checkCall (bookBytes (versionOf book) (lowered b)) calendar table area)
+    ∙ sym (dispatch-read (bookBytes (versionOf book) (lowered b)) calendar (lowered b) (w .lowered-reads) table out area)
 
 pub dispatches : Dispatches
 unfolding dispatchCall
 dispatches = record {
-  check-first = λ book table out area. outcome-refused (bookOf book) (tableRows (bookOf book) table) out area (checkCall book table area);
-  too-long = λ book table out area b reads. call-too-long book b reads table out area;
-  long-enough = λ book table out area b reads. call-long-enough book b reads table out area;
-  refusal = λ book table out area.
-      outcome-refusal (bookOf book) (tableRows (bookOf book) table) out area (checkCall book table area) (demand-1 .check-refusal book table area);
-  lists-table = λ book table out area b reads bytes. call-holds book b reads table out area (table-rows-fit b table bytes);
+  check-first = λ book calendar table out area. outcome-refused (bookOf book) (tableRows (bookOf book) table) out area (checkCall book calendar table area);
+  too-long = λ book calendar table out area b reads. call-too-long book calendar b reads table out area;
+  long-enough = λ book calendar table out area b reads. call-long-enough book calendar b reads table out area;
+  refusal = λ book calendar table out area.
+      outcome-refusal (bookOf book) (tableRows (bookOf book) table) out area (checkCall book calendar table area) (demand-1 .check-refusal book calendar table area);
+  lists-table = λ book calendar table out area b reads bytes. call-holds book calendar b reads table out area (table-rows-fit b table bytes);
   nothing-lost = nothing-lost;
   lists-plan = lists-plan;
   version-1-kept = dispatch-version-1;

@@ -1,46 +1,50 @@
 -- The finish of one flow (02, Req 05): what a call answers and leaves.
--- A call goes by the reading, the flow number, the length of the work area, and then by how the placing of the flows up to the one named ends. Flows after
--- them do not change their finishes, so it is the finish in the planner's table; and their placing is the plan of the book cut after them. Assumes nothing.
+-- A call goes by the tests of the book, the flow number, the calendar, the length of the work area, and then by how the placing of the flows up to the one
+-- named ends. Flows after them do not change their finishes, so it is the finish in the planner's table; and their placing is the plan of the book cut after
+-- them. Assumes nothing.
 use mathlib.Core.Path.{_≡_, refl, sym, ap, subst, _∙_}
 use mathlib.Core.Logic.{_⊎_, inl, inr, ⊎-elim}
 use mathlib.Core.Bool.{Bool, true, false, _||_, true≢false}
-use Prim.Native.Nat.{ℕ, _*_, _≤_, _<_}
+use Prim.Native.Nat.{ℕ, _≤_, _<_}
 use native.Mathlib.Nat.{eq-or-lt-of-le, lt-suc-self}
 use native.Mathlib.Omega.{arith}
 use mathlib.Core.List.{List, _++_, map}
 use lib.ListN.{length, drop}
 use lib.Dec.{ltb, eqb}
 use borrow.Author.Tests.{lt-ltb, le-ltb, lt-leb, le-leb}
+use Rattle.rules.specs.declared.Verdict.{Verdict}
+use Rattle.rules.specs.declared.Verdict.the-variants.{Pass, Refused}
 use Rattle.rules.specs.Walks.{if_then_else_}
 use Rattle.rules.specs.Answers.{none, planAccepted, planRefused, finishAccepted, finishRefused}
 use Rattle.rules.specs.Limits.{slots, workBytes}
-use Rattle.rules.specs.Book.{Book, flowCount, flowOf, lowered, InRange}
-use Rattle.rules.specs.Reading.{versionOf, Reading, read, unread, readBook, bookBytes}
+use Rattle.rules.specs.Calendar.{calendarFault}
+use Rattle.rules.specs.Book.{Book, flowCount, lowered, InRange}
+use Rattle.rules.specs.Reading.{versionOf, bookOf, bookFault, bookWith, read, readBook, bookBytes}
 use Rattle.rules.specs.Rows.{Row, finishOf, lateFlows, workUsed, workZero}
 use Rattle.rules.specs.Placing.{Plan, planned, infeasible, placeFirst, rowsOf, plan}
 use Rattle.rules.specs.Table.{tableLength, tableBytes}
 use Rattle.rules.specs.Planner.{PlanOutcome, planOutcome, planReading, planCall}
 use Rattle.rules.specs.Cut.{cut, numberInCut}
 use Rattle.rules.specs.Service.{position}
-use Rattle.rules.specs.Finish.{upToNamed, FinishOutcome, finishOutcome, finishReading, finishCall}
-use Rattle.rules.specs.Demands.{PlansByTheRules, finishByEleven, FinishRefusal, finishIn, planOfCut, AsForCut, RefusedFlow, Finishes}
+use Rattle.rules.specs.Finish.{upToNamed, FinishOutcome, finishOutcome, finishReading, unknownFlow, inputFault, finishCall}
+use Rattle.rules.specs.Demands.{byEleven, PlansByTheRules, WithinTwice, finishByEleven, FinishRefusal, finishIn, planOfCut, AsForCut, RefusedFlow, Finishes}
 use Rattle.rules.proofs.Division.{lt-or-ge}
-use Rattle.rules.proofs.Passing.{read-in-range}
-use Rattle.rules.proofs.Versions.{read-writable, same-reading}
+use Rattle.rules.proofs.Passing.{ReadWith, read-passes, read-in-range}
+use Rattle.rules.proofs.Versions.{version-2-reads}
 use Rattle.rules.proofs.ServiceOrder.{servedAt}
-use Rattle.rules.proofs.CutBook.{kept, kept-among, among-kept, number-kept, position-among, cut-in-range, cut-reads}
+use Rattle.rules.proofs.CutBook.{kept, kept-among, among-kept, number-kept, position-among, cut-in-range}
 use Rattle.rules.proofs.Position.{position-below, served-position}
-use Rattle.rules.proofs.SameUse.{finish-reading-same}
+use Rattle.rules.proofs.SameUse.{SameUse, finish-reading-same}
 use Rattle.rules.proofs.Lowered.{same-use, caps-lowered}
 use Rattle.rules.proofs.PlannedRows.{placing-stops, placed-earlier, finish-settled}
 use Rattle.rules.proofs.PlannedValid.{first-finish-within-twice}
 use Rattle.rules.proofs.Infeasible.{up-to-at, stopped-proves}
 use Rattle.rules.proofs.Demand3Values.{planned-finish-fits, infeasible-proves}
-use Rattle.rules.proofs.Demand3.{call-plans}
+use Rattle.rules.proofs.Demand3.{call-plans, read-cut}
 use Rattle.rules.proofs.CutPlan.{renumber, renumberPlan, work-renumbered, cut-plan, cut-finish}
 use Rattle.rules.proofs.TableBytes.{finish-in-front, finish-written}
 use Rattle.rules.proofs.PlansByTheRules.{plans-by-the-rules}
-use Rattle.rules.proofs.Refusals.{early-number, unread-numbered}
+use Rattle.rules.proofs.Refusals.{early-number, book-numbered, calendar-numbered}
 
 -- ---- what a call answers and leaves
 -- refused over an area as it was
@@ -49,22 +53,31 @@ refusedEarly n g j area = record { answer = finishRefused n g j; area = area }
 
 -- a number of the call, and what a refusal leaves
 record FinishAnswers (area : List ℕ) (o : FinishOutcome) : Type 0 where
-  number-is : (o .answer .number ≤ 12) ⊎ ((22 ≤ o .answer .number) × (o .answer .number ≤ 23))
+  number-is : (o .answer .number ≤ 12) ⊎ ((22 ≤ o .answer .number) × (o .answer .number ≤ 24))
   refusal : 0 < o .answer .number → FinishRefusal area o
 
-early-answers : (n g j : ℕ) (area : List ℕ) → (n ≤ 12) ⊎ ((22 ≤ n) × (n ≤ 23)) → finishByEleven n ≡ true → FinishAnswers area (refusedEarly n g j area)
-early-answers n g j area number h = record {
+refused-answers : (n g j : ℕ) (area : List ℕ) → (n ≤ 12) ⊎ ((22 ≤ n) × (n ≤ 24)) → finishByEleven n ≡ true → FinishAnswers area (refusedEarly n g j area)
+refused-answers n g j area number h = record {
   number-is = number;
   refusal = λ l. record { finish-zero = refl; kept = λ k. refl; zeroed = λ k. absurd (true≢false (sym h ∙ k)) };
 }
 
-ended-answers : (f : ℕ) (area : List ℕ) (p : Plan) → FinishAnswers area (finishOutcome f area p)
+-- by a number of the book or the calendar, or 11
+early-answers : (n g j : ℕ) (area : List ℕ) → byEleven n ≡ true → FinishAnswers area (refusedEarly n g j area)
+early-answers n g j area h =
+    refused-answers n g j area (early-number n h (λ l. inl (omega arith)) (λ q. inr (omega arith, omega arith)) (λ q. inr (omega arith, omega arith)))
+    (ap (_|| eqb n 23) h)
+
+-- an ending is 0 or 12, and 12 leaves the area zeroed
+ended-most : (f : ℕ) (area : List ℕ) (p : Plan) → finishOutcome f area p .answer .number ≤ 12
 unfolding finishOutcome
-ended-answers f area (planned rows) = record { number-is = inl (omega arith); refusal = λ l. absurd (omega arith) }
-ended-answers f area (infeasible g) = record {
-  number-is = inl (omega arith);
-  refusal = λ l. record { finish-zero = refl; kept = λ k. absurd (true≢false (sym k)); zeroed = λ k. refl };
-}
+ended-most f area (planned rows) = omega arith
+ended-most f area (infeasible g) = omega arith
+
+ended-refusal : (f : ℕ) (area : List ℕ) (p : Plan) → 0 < finishOutcome f area p .answer .number → FinishRefusal area (finishOutcome f area p)
+unfolding finishOutcome
+ended-refusal f area (planned rows) l = absurd (omega arith)
+ended-refusal f area (infeasible g) l = record { finish-zero = refl; kept = λ k. absurd (true≢false (sym k)); zeroed = λ k. refl }
 
 -- ---- a book that is read
 module _ (b : Book) (f : ℕ) (area : List ℕ) where
@@ -75,45 +88,29 @@ module _ (b : Book) (f : ℕ) (area : List ℕ) where
   abbrev ending : Plan
   ending = placeFirst b (upToNamed b f)
 
-  -- 23, 11, or by that ending
-  outcome-outside : flowCount b ≤ f → outcome ≡ refusedEarly 23 none none area
+  -- 11, or by that ending
+  outcome-short : length area < workBytes → outcome ≡ refusedEarly 11 none none area
   unfolding finishReading
-  outcome-outside l = rw (le-leb (flowCount b) f l) refl
+  outcome-short h = rw (lt-ltb (length area) workBytes h) refl
 
-  outcome-short : f < flowCount b → length area < workBytes → outcome ≡ refusedEarly 11 none none area
+  outcome-ended : workBytes ≤ length area → outcome ≡ finishOutcome f area ending
   unfolding finishReading
-  outcome-short l h = rw (lt-leb (flowCount b) f l, lt-ltb (length area) workBytes h) refl
-
-  outcome-ended : f < flowCount b → workBytes ≤ length area → outcome ≡ finishOutcome f area ending
-  unfolding finishReading
-  outcome-ended l h = rw (lt-leb (flowCount b) f l, le-ltb (length area) workBytes h) refl
+  outcome-ended h = rw (le-ltb (length area) workBytes h) refl
 
   -- these are all
-  outcome-cases : {X : Type 0} → (flowCount b ≤ f → X) → (f < flowCount b → length area < workBytes → X) → (f < flowCount b → workBytes ≤ length area → X) → X
-  outcome-cases {X} outside short ended = go (lt-or-ge f (flowCount b)) (lt-or-ge (length area) workBytes)
-    where
-      go : (f < flowCount b) ⊎ (flowCount b ≤ f) → (length area < workBytes) ⊎ (workBytes ≤ length area) → X
-      go (inr l) h = outside l
-      go (inl l) (inl h) = short l h
-      go (inl l) (inr h) = ended l h
+  outcome-cases : {X : Type 0} → (length area < workBytes → X) → (workBytes ≤ length area → X) → X
+  outcome-cases short ended = ⊎-elim short ended (lt-or-ge (length area) workBytes)
+
+  outcome-most : outcome .answer .number ≤ 12
+  outcome-most =
+      outcome-cases (λ h. omega (arith, ap (λ o. o .answer .number) (outcome-short h)))
+      (λ h. omega (arith, ap (λ o. o .answer .number) (outcome-ended h), ended-most f area ending))
 
   outcome-answers : FinishAnswers area outcome
   outcome-answers =
       outcome-cases
-      (λ l. subst (FinishAnswers area) (sym (outcome-outside l)) (early-answers 23 none none area (inr (omega arith, omega arith)) refl))
-      (λ l h. subst (FinishAnswers area) (sym (outcome-short l h)) (early-answers 11 none none area (inl (omega arith)) refl))
-      (λ l h. subst (FinishAnswers area) (sym (outcome-ended l h)) (ended-answers f area ending))
-
-  -- 23 is answered of a flow number that is not in the book
-  number-23 : outcome .answer .number ≡ 23 → flowCount b ≤ f
-  unfolding finishOutcome
-  number-23 z =
-      outcome-cases (λ l. l) (λ l h. absurd (omega (arith, ap (λ o. o .answer .number) (outcome-short l h))))
-      (λ l h. absurd (not-23 ending (ap (λ o. o .answer .number) (sym (outcome-ended l h)) ∙ z)))
-    where
-      not-23 : (p : Plan) → finishOutcome f area p .answer .number ≡ 23 → ⊥
-      not-23 (planned rows) e = omega arith
-      not-23 (infeasible g) e = omega arith
+      (λ h. subst (FinishAnswers area) (sym (outcome-short h)) (early-answers 11 none none area refl))
+      (λ h. subst (FinishAnswers area) (sym (outcome-ended h)) (record { number-is = inl (ended-most f area ending); refusal = ended-refusal f area ending }))
 
   -- 0 and 12 say how the placing ended
   ended-0 : (p : Plan) → finishOutcome f area p .answer .number ≡ 0 → p ≡ planned (rowsOf p)
@@ -127,22 +124,53 @@ module _ (b : Book) (f : ℕ) (area : List ℕ) where
   ended-12 (infeasible g) e = refl
 
   -- a number that stands for an ending
-  outcome-by : (n : ℕ) → (n ≡ 23 → ⊥) → (n ≡ 11 → ⊥) → outcome .answer .number ≡ n → (f < flowCount b) × (outcome ≡ finishOutcome f area ending)
-  outcome-by n p q z =
-      outcome-cases (λ l. absurd (p (sym z ∙ ap (λ o. o .answer .number) (outcome-outside l))))
-      (λ l h. absurd (q (sym z ∙ ap (λ o. o .answer .number) (outcome-short l h)))) (λ l h. (l, outcome-ended l h))
+  outcome-by : (n : ℕ) → (n ≡ 11 → ⊥) → outcome .answer .number ≡ n → outcome ≡ finishOutcome f area ending
+  outcome-by n q z = outcome-cases (λ h. absurd (q (sym z ∙ ap (λ o. o .answer .number) (outcome-short h)))) outcome-ended
 
-  number-0 : outcome .answer .number ≡ 0 → (f < flowCount b) × (ending ≡ planned (rowsOf ending)) × (outcome .answer .finish ≡ finishOf (rowsOf ending) f)
+  number-0 : outcome .answer .number ≡ 0 → (ending ≡ planned (rowsOf ending)) × (outcome .answer .finish ≡ finishOf (rowsOf ending) f)
   unfolding finishOutcome
   number-0 z =
-      let w = outcome-by 0 (λ e. omega arith) (λ e. omega arith) z in
-      let e = ended-0 ending (ap (λ o. o .answer .number) (sym (w .1)) ∙ z) in
-      (w .0, e, ap (λ o. o .answer .finish) (w .1) ∙ ap (λ p. finishOutcome f area p .answer .finish) e)
+      let w = outcome-by 0 (λ e. omega arith) z in
+      let e = ended-0 ending (ap (λ o. o .answer .number) (sym w) ∙ z) in
+      (e, ap (λ o. o .answer .finish) w ∙ ap (λ p. finishOutcome f area p .answer .finish) e)
 
-  number-12 : outcome .answer .number ≡ 12 → (f < flowCount b) × (ending ≡ infeasible (outcome .answer .flow))
+  number-12 : outcome .answer .number ≡ 12 → ending ≡ infeasible (outcome .answer .flow)
   number-12 z =
-      let w = outcome-by 12 (λ e. omega arith) (λ e. omega arith) z in
-      (w .0, ended-12 ending (ap (λ o. o .answer .number) (sym (w .1)) ∙ z) ∙ ap (λ o. infeasible (o .answer .flow)) (sym (w .1)))
+      let w = outcome-by 12 (λ e. omega arith) z in
+      ended-12 ending (ap (λ o. o .answer .number) (sym w) ∙ z) ∙ ap (λ o. infeasible (o .answer .flow)) (sym w)
+
+-- ---- the tests of a call, in their order
+module _ (book calendar : List ℕ) (f : ℕ) (area : List ℕ) where
+  call-book-refused : (n g j : ℕ) → bookFault book ≡ Refused n g j → finishCall book calendar f area ≡ refusedEarly n g j area
+  unfolding finishCall inputFault finishReading
+  call-book-refused n g j e = rw e refl
+
+  call-unknown : bookFault book ≡ Pass → flowCount (bookOf book) ≤ f → finishCall book calendar f area ≡ refusedEarly 23 none none area
+  unfolding finishCall inputFault finishReading unknownFlow
+  call-unknown e l = rw (e, le-leb (flowCount (bookOf book)) f l) refl
+
+  call-calendar-refused : (n g j : ℕ) → bookFault book ≡ Pass → f < flowCount (bookOf book) → calendarFault calendar ≡ Refused n g j →
+      finishCall book calendar f area ≡ refusedEarly n g j area
+  unfolding finishCall inputFault finishReading unknownFlow
+  call-calendar-refused n g j e l d = rw (e, lt-leb (flowCount (bookOf book)) f l, d) refl
+
+  call-passed : bookFault book ≡ Pass → f < flowCount (bookOf book) → calendarFault calendar ≡ Pass →
+      finishCall book calendar f area ≡ finishReading f area (read (bookWith book calendar))
+  unfolding finishCall inputFault unknownFlow
+  call-passed e l d = rw (e, lt-leb (flowCount (bookOf book)) f l, d) refl
+
+  -- what holds of these outcomes holds of every call
+  call-cases : (X : FinishOutcome → Type 0) → ((n g j : ℕ) → byEleven n ≡ true → X (refusedEarly n g j area)) →
+      (bookFault book ≡ Pass → flowCount (bookOf book) ≤ f → X (refusedEarly 23 none none area)) → X (finishReading f area (read (bookWith book calendar))) →
+      X (finishCall book calendar f area)
+  call-cases X early unknown known = go (bookFault book) refl (lt-or-ge f (flowCount (bookOf book))) (calendarFault calendar) refl
+    where
+      go : (v : Verdict) → bookFault book ≡ v → (f < flowCount (bookOf book)) ⊎ (flowCount (bookOf book) ≤ f) → (u : Verdict) → calendarFault calendar ≡ u →
+          X (finishCall book calendar f area)
+      go (Refused n g j) e l u d = subst X (sym (call-book-refused n g j e)) (early n g j (book-numbered book .among n g j e .1))
+      go Pass e (inr l) u d = subst X (sym (call-unknown e l)) (unknown e l)
+      go Pass e (inl l) (Refused n g j) d = subst X (sym (call-calendar-refused n g j e l d)) (early n g j (calendar-numbered calendar .among n g j d .1))
+      go Pass e (inl l) Pass d = subst X (sym (call-passed e l d)) known
 
 -- ---- the planner's number says how its placing ended
 module _ (b : Book) (out area : List ℕ) where
@@ -203,16 +231,30 @@ module _ (b : Book) (out area : List ℕ) where
       planned-by (plan b) (λ e. omega arith)
 
 -- ---- a flow of a book that is read
-module _ (book : List ℕ) (b : Book) (reads : readBook book ≡ read b) (f : ℕ) where
+module _ (book calendar : List ℕ) (b : Book) (reads : readBook book calendar ≡ read b) (f : ℕ) where
   range : InRange b
-  range = read-in-range book b reads
+  range = read-in-range book calendar b reads
+
+  passes : ReadWith book calendar b
+  passes = read-passes book calendar b reads
+
+  same-count : flowCount b ≡ flowCount (bookOf book)
+  same-count = ap flowCount (passes .is-book)
 
   -- a call goes by the values of the book
-  finish-read : (area : List ℕ) → finishCall book f area ≡ finishReading f area (read b)
-  unfolding finishCall
-  finish-read area = ap (finishReading f area) reads
+  finish-read : f < flowCount b → (area : List ℕ) → finishCall book calendar f area ≡ finishReading f area (read b)
+  finish-read l area =
+      call-passed book calendar f area (passes .book-passes) (omega (arith, l, same-count)) (passes .calendar-passes)
+      ∙ ap (λ (c : Book). finishReading f area (read c)) (sym (passes .is-book))
 
-  plan-read : (out area : List ℕ) → planCall book out area ≡ planReading out area (read b)
+  finish-unknown : flowCount b ≤ f → (area : List ℕ) → finishCall book calendar f area ≡ refusedEarly 23 none none area
+  finish-unknown l area = call-unknown book calendar f area (passes .book-passes) (omega (arith, l, same-count))
+
+  -- a number other than 23 is that of a flow in the book
+  flow-known : (n : ℕ) → (n ≡ 23 → ⊥) → (area : List ℕ) → finishCall book calendar f area .answer .number ≡ n → f < flowCount b
+  flow-known n ne area z = ⊎-elim (λ l. l) (λ l. absurd (ne (sym z ∙ ap (λ o. o .answer .number) (finish-unknown l area)))) (lt-or-ge f (flowCount b))
+
+  plan-read : (out area : List ℕ) → planCall book calendar out area ≡ planReading out area (read b)
   unfolding planCall
   plan-read out area = ap (planReading out area) reads
 
@@ -230,29 +272,29 @@ module _ (book : List ℕ) (b : Book) (reads : readBook book ≡ read b) (f : �
     -- ---- in the table of the whole book
     -- where all flows are planned, so are those up to it, and the others do not change its finish
     finish-of-plan : (rows : List Row) → plan b ≡ planned rows → (area : List ℕ) → workBytes ≤ length area →
-        finishCall book f area .answer ≡ finishAccepted (finishOf rows f)
+        finishCall book calendar f area .answer ≡ finishAccepted (finishOf rows f)
     unfolding finishOutcome plan
     finish-of-plan rows e area h =
         let w : (first : List Row) × (placeFirst b many ≡ planned first) =
         ⊎-elim (λ q. (rows, ap (placeFirst b) q ∙ e)) (placed-earlier b (flowCount b) rows e many) (eq-or-lt-of-le fits) in
-        ap (λ o. o .answer) (finish-read area ∙ outcome-ended b f area l h)
+        ap (λ o. o .answer) (finish-read l area ∙ outcome-ended b f area h)
         ∙ ap (λ p. finishOutcome f area p .answer) (w .1)
         ∙ ap finishAccepted
         (rw named at (finish-settled b many (flowCount b) (w .0) rows fits (omega arith) (w .1) e (position b f) (lt-suc-self (position b f))))
 
-    in-table : (area out other : List ℕ) → workBytes ≤ length area → planCall book out other .answer .number ≡ 0 →
-        finishCall book f area .answer ≡ finishAccepted (finishIn (planCall book out other .output) f)
+    in-table : (area out other : List ℕ) → workBytes ≤ length area → planCall book calendar out other .answer .number ≡ 0 →
+        finishCall book calendar f area .answer ≡ finishAccepted (finishIn (planCall book calendar out other .output) f)
     unfolding PlansByTheRules
     in-table area out other h z =
-        let p = plans-by-the-rules book out other b reads z in
+        let p = plans-by-the-rules book calendar out other b reads z in
         let rows = rowsOf (plan b) in
         finish-of-plan rows (p .all-placed) area h
         ∙ ap finishAccepted
         (sym (ap (λ s. finishIn s f) (p .table)
         ∙ finish-in-front b rows (drop (tableLength b rows) out) f l (planned-finish-fits b range rows (p .all-placed) f l)))
 
-    in-long-table : (area out other : List ℕ) → workBytes ≤ length area → planCall book out other .answer .number ≡ 13 →
-        finishCall book f area .answer ≡ finishAccepted (finishIn (tableBytes b (rowsOf (plan b))) f)
+    in-long-table : (area out other : List ℕ) → workBytes ≤ length area → planCall book calendar out other .answer .number ≡ 13 →
+        finishCall book calendar f area .answer ≡ finishAccepted (finishIn (tableBytes b (rowsOf (plan b))) f)
     in-long-table area out other h z =
         let rows = rowsOf (plan b) in
         let e = plan-number-13 b out other (ap (λ o. o .answer .number) (sym (plan-read out other)) ∙ z) in
@@ -265,11 +307,11 @@ module _ (book : List ℕ) (b : Book) (reads : readBook book ≡ read b) (f : �
     cut-range : InRange cutBook
     cut-range = cut-in-range b many range
 
-    cut-book-reads : readBook (bookBytes (versionOf book) cutBook) ≡ read cutBook
-    cut-book-reads = cut-reads (versionOf book) b many range (read-writable book b reads)
+    cut-book-reads : readBook (bookBytes (versionOf book) cutBook) calendar ≡ read cutBook
+    cut-book-reads = read-cut book calendar b reads many
 
-    plan-of-cut : (out area : List ℕ) → workBytes ≤ length area → planOfCut book b f out area ≡ planOutcome cutBook out area (plan cutBook)
-    plan-of-cut out area = call-plans cutBook cut-range out area (bookBytes (versionOf book) cutBook) cut-book-reads
+    plan-of-cut : (out area : List ℕ) → workBytes ≤ length area → planOfCut book calendar b f out area ≡ planOutcome cutBook out area (plan cutBook)
+    plan-of-cut out area = call-plans cutBook cut-range out area (bookBytes (versionOf book) cutBook) calendar cut-book-reads
 
     ending-cut : placeFirst b many ≡ renumberPlan (kept b many) (plan cutBook)
     ending-cut = cut-plan b many fits
@@ -319,17 +361,17 @@ module _ (book : List ℕ) (b : Book) (reads : readBook book ≡ read b) (f : �
             ∙ sym (finish-in-front cutBook rows rest m (in-cut .1) (planned-finish-fits cutBook cut-range rows e m (in-cut .1)))
             ∙ ap (finishIn (tableBytes cutBook rows ++ rest)) (sym number-in-cut)
 
-    as-cut-short : (area out : List ℕ) → length area < workBytes → AsForCut b f (planOfCut book b f out area) (finishCall book f area)
+    as-cut-short : (area out : List ℕ) → length area < workBytes → AsForCut b f (planOfCut book calendar b f out area) (finishCall book calendar f area)
     unfolding planCall planReading
     as-cut-short area out h =
-        rw (cut-book-reads, lt-ltb (length area) workBytes h, finish-read area, outcome-short b f area l h)
+        rw (cut-book-reads, lt-ltb (length area) workBytes h, finish-read l area, outcome-short b f area h)
         (record { same-number = refl; same-finish = λ z. absurd (omega arith); same-flow = λ z. absurd (omega arith); same-area = refl })
 
-    as-cut-ended : (area out : List ℕ) → workBytes ≤ length area → (planOfCut book b f out area .answer .number ≡ 13 → ⊥) →
-        AsForCut b f (planOfCut book b f out area) (finishCall book f area)
+    as-cut-ended : (area out : List ℕ) → workBytes ≤ length area → (planOfCut book calendar b f out area .answer .number ≡ 13 → ⊥) →
+        AsForCut b f (planOfCut book calendar b f out area) (finishCall book calendar f area)
     as-cut-ended area out h fit =
         let plans = plan-of-cut out area h in
-        let ends = finish-read area ∙ outcome-ended b f area l h ∙ ap (finishOutcome f area) ending-cut in
+        let ends = finish-read l area ∙ outcome-ended b f area h ∙ ap (finishOutcome f area) ending-cut in
         rw (plans, ends) (go (plan cutBook) refl (rw plans at fit))
       where
         go : (p : Plan) → plan cutBook ≡ p → (planOutcome cutBook out area p .answer .number ≡ 13 → ⊥) →
@@ -337,8 +379,8 @@ module _ (book : List ℕ) (b : Book) (reads : readBook book ≡ read b) (f : �
         go (infeasible g) e fit = as-cut-infeasible out area g e
         go (planned rows) e fit = as-cut-planned out area rows e fit
 
-    as-for-cut : (area out : List ℕ) → (planOfCut book b f out area .answer .number ≡ 13 → ⊥) →
-        AsForCut b f (planOfCut book b f out area) (finishCall book f area)
+    as-for-cut : (area out : List ℕ) → (planOfCut book calendar b f out area .answer .number ≡ 13 → ⊥) →
+        AsForCut b f (planOfCut book calendar b f out area) (finishCall book calendar f area)
     as-for-cut area out fit = ⊎-elim (as-cut-short area out) (λ h. as-cut-ended area out h fit) (lt-or-ge (length area) workBytes)
 
     -- it is infeasible where the placing ends so
@@ -349,19 +391,19 @@ module _ (book : List ℕ) (b : Book) (reads : readBook book ≡ read b) (f : �
         go (infeasible h) q d = (h, q)
         go (planned rows) q d = absurd (let z : _≡_ {A = ℕ} 0 1 = cc in omega arith)
 
-    infeasible-cut : (area out other : List ℕ) → workBytes ≤ length other → finishCall book f area .answer .number ≡ 12 →
-        planOfCut book b f out other .answer .number ≡ 12
+    infeasible-cut : (area out other : List ℕ) → workBytes ≤ length other → finishCall book calendar f area .answer .number ≡ 12 →
+        planOfCut book calendar b f out other .answer .number ≡ 12
     infeasible-cut area out other h z =
-        let e = number-12 b f area (ap (λ o. o .answer .number) (sym (finish-read area)) ∙ z) .1 in
+        let e = number-12 b f area (ap (λ o. o .answer .number) (sym (finish-read l area)) ∙ z) in
         let w = cut-ends (finishReading f area (read b) .answer .flow) e in
         ap (λ o. o .answer .number) (plan-of-cut out other h) ∙ infeasible-12 cutBook out other (plan cutBook) (w .0) (w .1)
 
-    cut-infeasible : (area out other : List ℕ) → workBytes ≤ length area → planOfCut book b f out other .answer .number ≡ 12 →
-        finishCall book f area .answer .number ≡ 12
+    cut-infeasible : (area out other : List ℕ) → workBytes ≤ length area → planOfCut book calendar b f out other .answer .number ≡ 12 →
+        finishCall book calendar f area .answer .number ≡ 12
     unfolding planCall finishOutcome
     cut-infeasible area out other h z =
         let w = plan-number-12 cutBook out other (ap (λ r. planReading out other r .answer .number) (sym cut-book-reads) ∙ z) in
-        ap (λ o. o .answer .number) (finish-read area ∙ outcome-ended b f area l h)
+        ap (λ o. o .answer .number) (finish-read l area ∙ outcome-ended b f area h)
         ∙ ap (λ p. finishOutcome f area p .answer .number) (ending-cut ∙ ap (renumberPlan (kept b many)) (w .1))
 
     -- what an ending by 12 proves
@@ -375,72 +417,81 @@ module _ (book : List ℕ) (b : Book) (reads : readBook book ≡ read b) (f : �
           none-on-time = w .1;
         }
 
-  refused-flow : (area : List ℕ) → finishCall book f area .answer .number ≡ 12 → RefusedFlow b f (finishCall book f area .answer .flow)
+  refused-flow : (area : List ℕ) → finishCall book calendar f area .answer .number ≡ 12 → RefusedFlow b f (finishCall book calendar f area .answer .flow)
   refused-flow area z =
-      let w = number-12 b f area (ap (λ o. o .answer .number) (sym (finish-read area)) ∙ z) in
-      subst (λ o. RefusedFlow b f (o .answer .flow)) (sym (finish-read area)) (ending-proves (w .0) (finishReading f area (read b) .answer .flow) (w .1))
+      let l = flow-known 12 (λ e. omega arith) area z in
+      let same = finish-read l area in
+      subst (λ o. RefusedFlow b f (o .answer .flow)) (sym same)
+      (ending-proves l (finishReading f area (read b) .answer .flow) (number-12 b f area (ap (λ o. o .answer .number) (sym same) ∙ z)))
 
-  within-twice : (area : List ℕ) → finishCall book f area .answer .number ≡ 0 → finishCall book f area .answer .finish ≤ 2 * flowOf b f .deadline
+  within-twice : (area : List ℕ) → finishCall book calendar f area .answer .number ≡ 0 → WithinTwice b f (finishCall book calendar f area .answer .finish)
   within-twice area z =
-      let w = number-0 b f area (ap (λ o. o .answer .number) (sym (finish-read area)) ∙ z) in
-      rw (finish-read area, w .2) (first-finish-within-twice b range many (rowsOf (placeFirst b many)) (fits (w .0)) (w .1) f)
+      let l = flow-known 0 (λ e. omega arith) area z in
+      let same = finish-read l area in
+      let w = number-0 b f area (ap (λ o. o .answer .number) (sym same) ∙ z) in
+      rw (same, w .1) (first-finish-within-twice b range many (rowsOf (placeFirst b many)) (fits l) (w .0) f)
 
 -- ---- every call
-call-answers : (book area : List ℕ) (f : ℕ) → FinishAnswers area (finishCall book f area)
-unfolding finishCall finishReading
-call-answers book area f = go (readBook book) refl
-  where
-    go : (r : Reading) → readBook book ≡ r → FinishAnswers area (finishReading f area r)
-    go (read b) e = outcome-answers b f area
-    go (unread n g j) e =
-        let early = unread-numbered book n g j e .1 in
-        early-answers n g j area (early-number n early (λ l. inl (omega arith)) (λ q. inr (omega arith, omega arith))) (ap (_|| eqb n 23) early)
+call-answers : (book calendar area : List ℕ) (f : ℕ) → FinishAnswers area (finishCall book calendar f area)
+call-answers book calendar area f =
+    call-cases book calendar f area (FinishAnswers area) (λ n g j h. early-answers n g j area h)
+    (λ e l. refused-answers 23 none none area (inr (omega arith, omega arith)) refl) (outcome-answers (bookWith book calendar) f area)
 
-only-then : (book area : List ℕ) (f : ℕ) → finishCall book f area .answer .number ≡ 23 → (b : Book) × (readBook book ≡ read b) × (flowCount b ≤ f)
-unfolding finishCall finishReading
-only-then book area f = go (readBook book) refl
-  where
-    go : (r : Reading) → readBook book ≡ r → finishReading f area r .answer .number ≡ 23 → (b : Book) × (readBook book ≡ read b) × (flowCount b ≤ f)
-    go (read b) e z = (b, e, number-23 b f area z)
-    go (unread n g j) e z = absurd (early-number n (unread-numbered book n g j e .1) (λ l. omega arith) (λ q. omega arith))
+only-then : (book calendar area : List ℕ) (f : ℕ) → finishCall book calendar f area .answer .number ≡ 23 →
+    (bookFault book ≡ Pass) × (flowCount (bookOf book) ≤ f)
+only-then book calendar area f =
+    call-cases book calendar f area (λ o. o .answer .number ≡ 23 → (bookFault book ≡ Pass) × (flowCount (bookOf book) ≤ f))
+    (λ n g j h z. absurd (true≢false (sym h ∙ ap byEleven z))) (λ e l z. (e, l))
+    (λ z. absurd (omega (arith, z, outcome-most (bookWith book calendar) f area)))
 
-answers : (book area : List ℕ) (f : ℕ) (b : Book) → readBook book ≡ read b → f < flowCount b → workBytes ≤ length area →
-    (finishCall book f area .answer .number ≡ 0) ⊎ (finishCall book f area .answer .number ≡ 12)
+answers : (book calendar area : List ℕ) (f : ℕ) (b : Book) → readBook book calendar ≡ read b → f < flowCount b → workBytes ≤ length area →
+    (finishCall book calendar f area .answer .number ≡ 0) ⊎ (finishCall book calendar f area .answer .number ≡ 12)
 unfolding finishOutcome
-answers book area f b reads l h = rw (finish-read book b reads f area, outcome-ended b f area l h) (go (placeFirst b (upToNamed b f)))
+answers book calendar area f b reads l h = rw (finish-read book calendar b reads f l area, outcome-ended b f area h) (go (placeFirst b (upToNamed b f)))
   where
     go : (p : Plan) → (finishOutcome f area p .answer .number ≡ 0) ⊎ (finishOutcome f area p .answer .number ≡ 12)
     go (planned rows) = inl refl
     go (infeasible g) = inr refl
 
 -- ---- books that are used alike: Req 01 and Req 02
-finish-version-1 : (book : List ℕ) (b : Book) → readBook book ≡ read b → (f : ℕ) (area : List ℕ) → finishCall book f area ≡ finishCall (bookBytes 2 b) f area
-unfolding finishCall
-finish-version-1 book b reads f area = ap (finishReading f area) (same-reading book b reads)
+finish-same : (book other calendar : List ℕ) (b c : Book) → readBook book calendar ≡ read b → readBook other calendar ≡ read c → SameUse b c →
+    (f : ℕ) (area : List ℕ) → finishCall book calendar f area ≡ finishCall other calendar f area
+finish-same book other calendar b c reads reads′ same f area =
+    ⊎-elim
+    (λ l. finish-read book calendar b reads f l area ∙ finish-reading-same b c same f area
+    ∙ sym (finish-read other calendar c reads′ f (omega (arith, l, same .flows .count)) area))
+    (λ l. finish-unknown book calendar b reads f l area
+    ∙ sym (finish-unknown other calendar c reads′ f (omega (arith, l, same .flows .count)) area)) (lt-or-ge f (flowCount b))
 
-finish-lowered : (book : List ℕ) (b : Book) → readBook book ≡ read b → (f : ℕ) (area : List ℕ) →
-    finishCall book f area ≡ finishCall (bookBytes (versionOf book) (lowered b)) f area
-finish-lowered book b reads f area =
-    finish-read book b reads f area ∙ finish-reading-same b (lowered b) (same-use b) f area
-    ∙ sym (finish-read (bookBytes (versionOf book) (lowered b)) (lowered b) (caps-lowered .as-lowered book b reads .lowered-reads) f area)
+finish-version-1 : (book calendar : List ℕ) (b : Book) → readBook book calendar ≡ read b → (f : ℕ) (area : List ℕ) →
+    finishCall book calendar f area ≡ finishCall (bookBytes 2 b) calendar f area
+finish-version-1 book calendar b reads =
+    finish-same book (bookBytes 2 b) calendar b b reads (version-2-reads book calendar b reads)
+    (record { flows = record { processors = refl; count = refl; flow = λ f. refl }; calendar = refl })
+
+finish-lowered : (book calendar : List ℕ) (b : Book) → readBook book calendar ≡ read b → (f : ℕ) (area : List ℕ) →
+    finishCall book calendar f area ≡ finishCall (bookBytes (versionOf book) (lowered b)) calendar f area
+finish-lowered book calendar b reads =
+    finish-same book (bookBytes (versionOf book) (lowered b)) calendar b (lowered b) reads (caps-lowered .as-lowered book calendar b reads .lowered-reads)
+    (same-use b)
 
 pub finishes : Finishes
-unfolding finishCall finishReading
 finishes = record {
-  numbers = λ book area f. call-answers book area f .number-is;
-  refusal = λ book area f. call-answers book area f .refusal;
-  book-first = λ book area f n g j unread. ap (finishReading f area) unread;
-  not-in-book = λ book area f b reads l. finish-read book b reads f area ∙ outcome-outside b f area l;
+  numbers = λ book calendar area f. call-answers book calendar area f .number-is;
+  refusal = λ book calendar area f. call-answers book calendar area f .refusal;
+  book-first = λ book calendar area f. call-book-refused book calendar f area;
+  not-in-book = λ book calendar area f. call-unknown book calendar f area;
   only-then = only-then;
-  area-short = λ book area f b reads l h. finish-read book b reads f area ∙ outcome-short b f area l h;
+  calendar-next = λ book calendar area f. call-calendar-refused book calendar f area;
+  area-short = λ book calendar area f b reads l h. finish-read book calendar b reads f l area ∙ outcome-short b f area h;
   answers = answers;
-  in-table = λ book area out other f b reads l. in-table book b reads f l area out other;
-  in-long-table = λ book area out other f b reads l. in-long-table book b reads f l area out other;
-  as-for-cut = λ book area out f b reads l. as-for-cut book b reads f l area out;
-  infeasible-cut = λ book area out other f b reads l. infeasible-cut book b reads f l area out other;
-  cut-infeasible = λ book area out other f b reads l. cut-infeasible book b reads f l area out other;
-  refused-flow = λ book area f b reads. refused-flow book b reads f area;
-  within-twice = λ book area f b reads. within-twice book b reads f area;
-  version-1-kept = λ book b reads one. finish-version-1 book b reads;
+  in-table = λ book calendar area out other f b reads l. in-table book calendar b reads f l area out other;
+  in-long-table = λ book calendar area out other f b reads l. in-long-table book calendar b reads f l area out other;
+  as-for-cut = λ book calendar area out f b reads l. as-for-cut book calendar b reads f l area out;
+  infeasible-cut = λ book calendar area out other f b reads l. infeasible-cut book calendar b reads f l area out other;
+  cut-infeasible = λ book calendar area out other f b reads l. cut-infeasible book calendar b reads f l area out other;
+  refused-flow = λ book calendar area f b reads. refused-flow book calendar b reads f area;
+  within-twice = λ book calendar area f b reads. within-twice book calendar b reads f area;
+  version-1-kept = λ book calendar b reads one. finish-version-1 book calendar b reads;
   caps-lowered = finish-lowered;
 }

@@ -1,49 +1,49 @@
 -- A book that rule 6 calls infeasible: no schedule of the flow named and those before it is on time, whoever made it.
 -- The refusal over sequences of flows is read with the flows in service order; flows that differ share the processors of a slot, so a schedule
--- of the book is one of the sequence. On time, a flow has its path between release and deadline, and the work up to it fits P processors
--- over the slots before the deadline; by twice the deadline as many slots have passed since the release as both take together. The same bound,
--- divided by P, says when a planned flow ends at the latest. Assumes nothing.
+-- of the book is one of the sequence. On time, a flow has its path in the open slots between release and deadline, and the work up to it fits P
+-- processors over the open slots before the deadline; by twice the deadline as many open slots have passed since the release as both take
+-- together. The same bound, divided by P, says when a planned flow ends at the latest. Assumes nothing.
 use mathlib.Core.Path.{_≡_, refl, ap, _∙_}
-use Prim.Native.Nat.{ℕ, suc, _+_, _-_, _/_, _≤_, _<_}
+use Prim.Native.Nat.{ℕ, zero, suc, _+_, _-_, _/_, _≤_, _<_}
 use mathlib.Core.Bool.{Bool, true, false, _||_}
 use mathlib.Core.List.{List, []}
 use mathlib.Core.Logic.{_⊎_, inl, inr}
-use native.Mathlib.Nat.{le-trans}
+use native.Mathlib.Nat.{le-trans, le-of-lt}
 use native.Mathlib.Omega.{arith}
 use lib.Dec.{eqb}
 use borrow.Author.Tests.{eq-eqb}
 use Rattle.rules.specs.Walks.{sumTo}
-use Rattle.rules.specs.Book.{Book, flowCount, jobCount, flowOf, InRange}
+use Rattle.rules.specs.Calendar.{isOpen, openBefore}
+use Rattle.rules.specs.Book.{Book, flowCount, jobCount, flowOf, usable, twiceDeadline, InRange}
 use Rattle.rules.specs.Ideal.{path}
 use Rattle.rules.specs.Service.{servedBefore}
 use Rattle.rules.specs.Rows.{Row, usedIn, finishOf}
 use Rattle.rules.specs.Schedule.{Schedule, IsJob, inUse, Valid, EndsBy, scheduleOf}
-use Rattle.rules.specs.Placing.{progress, usable, slotsFor, planned, placeFirst}
+use Rattle.rules.specs.Placing.{progress, slotsFor, planned, placeFirst}
 use Rattle.rules.specs.Demands.{upTo, NoneOnTime}
 use Rattle.rules.proofs.Division.{lt-or-ge}
-use Rattle.rules.proofs.Sums.{count-all, sum-quiet, sum-distinct}
+use Rattle.rules.proofs.Sums.{sum-quiet, sum-distinct}
 use Rattle.rules.proofs.Walks.{last-or}
 use Rattle.rules.proofs.PseudoJobs.{chain-live}
 use Rattle.rules.proofs.ServiceOrder.{service-below, service-sorted, service-once, service-deadlines}
-use Rattle.rules.proofs.Usable.{usable-from, released, count-usable, free-from-release}
+use Rattle.rules.proofs.OpenSlots.{open-none, open-step, open-mono, limit-count}
+use Rattle.rules.proofs.Usable.{usable-open, count-usable, free-usable}
 use Rattle.rules.proofs.Greedy.{unitsLeftAt, something-left, nothing-left}
 use Rattle.rules.proofs.Necessity.{Keeps, CompleteBy, worksUpTo, OnTime}
 use Rattle.rules.proofs.Refusal.{refusal, quote-bound}
-use Rattle.rules.proofs.RowSums.{ends-finish}
 use Rattle.rules.proofs.PlacedFlow.{shareTo}
 use Rattle.rules.proofs.PlannedRows.{servedAt, servedFlow, freeFor, plannedShare, Stopped, placed-earlier, states-share, states-none-of-flow}
-use Rattle.rules.proofs.PlannedValid.{range-at, sized-at, used-within-work, first-rows-fit}
+use Rattle.rules.proofs.PlannedValid.{range-at, sized-at, used-within-work, first-finish-least}
 
--- every slot is open to some flow
-abbrev pub everySlot : ℕ → Bool
-everySlot t = true
+-- the open slots within which the flow at place n ends at the latest: those before its release, its path, and the area of the flows up to it
+abbrev pub quoteFor : Book → ℕ → ℕ
+quoteFor b n = openBefore (b .calendar) (servedFlow b n .release) + path (servedFlow b n) + worksUpTo (servedFlow b) (suc n) / b .processors
 
 module _ (b : Book) (range : InRange b) where
   -- in a slot that the flow at a place can use, the processors free for it and those that the flows before it use are P
-  free-or-used : (n : ℕ) (earlier : List Row) → placeFirst b n ≡ planned earlier → (t : ℕ) → usable (servedFlow b n) t ≡ true →
+  free-or-used : (n : ℕ) (earlier : List Row) → placeFirst b n ≡ planned earlier → (t : ℕ) → usable b (servedFlow b n) t ≡ true →
       b .processors ≤ usedIn earlier t + freeFor b n t
-  free-or-used n earlier e t u =
-      rw e (omega (arith, free-from-release b (servedAt b n) earlier t (released (servedFlow b n) t u)))
+  free-or-used n earlier e t u = rw e (omega (arith, free-usable b (servedAt b n) earlier t u))
 
   -- the flows up to place n are those up to the flow at n
   pub up-to-at : (n f : ℕ) → n < flowCount b → servedAt b n ≡ f → (m : ℕ) → m < suc n → upTo b f (servedAt b m) ≡ true
@@ -66,17 +66,17 @@ module _ (b : Book) (range : InRange b) where
     is-job : (m i : ℕ) → m < suc n → i < jobCount (servedFlow b m) → IsJob b (upTo b f) (servedAt b m) i
     is-job m i l a = record { flow-among = up-to-at n f below at m l; flow-in = service-below b m (omega arith); job-in = a }
 
-    in-released : (m i t : ℕ) → m < suc n → i < jobCount (servedFlow b m) → 0 < σ (servedAt b m) i t → usable (servedFlow b m) t ≡ true
-    in-released m i t l a g = go (lt-or-ge t (servedFlow b m .release))
+    in-usable-slot : (m i t : ℕ) → m < suc n → i < jobCount (servedFlow b m) → 0 < σ (servedAt b m) i t → usable b (servedFlow b m) t ≡ true
+    in-usable-slot m i t l a g = go (usable b (servedFlow b m) t) refl
       where
-        go : (t < servedFlow b m .release) ⊎ (servedFlow b m .release ≤ t) → usable (servedFlow b m) t ≡ true
-        go (inl c) = absurd (omega (arith, valid .releases (servedAt b m) i t (is-job m i l a) c))
-        go (inr c) = usable-from (servedFlow b m) t c
+        go : (c : Bool) → usable b (servedFlow b m) t ≡ c → c ≡ true
+        go true e = refl
+        go false e = absurd (omega (arith, valid .in-usable (servedAt b m) i t (is-job m i l a) e))
 
-    keeps-rules : (m : ℕ) → m < suc n → Keeps (servedFlow b m) (usable (servedFlow b m)) (σ (servedAt b m))
+    keeps-rules : (m : ℕ) → m < suc n → Keeps (servedFlow b m) (usable b (servedFlow b m)) (σ (servedAt b m))
     keeps-rules m l = record {
       capped = λ i t a. valid .caps (servedAt b m) i t (is-job m i l a);
-      in-usable = λ i t. in-released m i t l;
+      in-usable = λ i t. in-usable-slot m i t l;
       in-order = λ i k t a c q g. omega (arith, valid .precedence (servedAt b m) i k t (is-job m i l a) q g);
     }
 
@@ -94,24 +94,24 @@ module _ (b : Book) (range : InRange b) where
         λ t. (unfold EndsBy in on-time (servedAt b m) (service-below b m (omega arith)) (up-to-at n f below at m l) i t) in
         omega (arith, valid .sizes (servedAt b m) i (is-job m i l a), sum-quiet (σ (servedAt b m) i) (servedFlow b m .deadline) (valid .horizon) quiet)
 
-    pub sequence-on-time : OnTime (b .processors) (suc n) (servedFlow b) (λ m. usable (servedFlow b m)) (λ m. servedFlow b m .deadline) (λ m. σ (servedAt b m))
+    pub sequence-on-time : OnTime (b .processors) (suc n) (servedFlow b) (λ m. usable b (servedFlow b m)) (λ m. servedFlow b m .deadline) (λ m. σ (servedAt b m))
     sequence-on-time = record { keeps = keeps-rules; load = shares-load; complete = ends-complete }
 
-  -- the flow at place n, with work left after twice its deadline
+  -- the flow at place n, with work left after twice the open slots before its deadline
   none-on-time : (n : ℕ) (earlier : List Row) → n < flowCount b → placeFirst b n ≡ planned earlier →
-      0 < unitsLeftAt (servedFlow b n) (freeFor b n) (slotsFor (servedFlow b n)) → NoneOnTime b (servedAt b n)
+      0 < unitsLeftAt (servedFlow b n) (freeFor b n) (slotsFor b (servedFlow b n)) → NoneOnTime b (servedAt b n)
   unfolding NoneOnTime
   none-on-time n earlier below e left σ valid on-time =
-      refusal (b .processors) n (servedFlow b) (λ m. usable (servedFlow b m)) (freeFor b n) (usedIn earlier) (sized-at b range n below)
+      refusal (b .processors) n (servedFlow b) (λ m. usable b (servedFlow b m)) (freeFor b n) (usedIn earlier) (sized-at b range n below)
       (free-or-used n earlier e) (used-within-work b range n earlier (omega arith) e)
-      (slotsFor (servedFlow b n)) everySlot (λ m. servedFlow b m .deadline) (λ m t l q. refl)
+      (slotsFor b (servedFlow b n)) (isOpen (b .calendar)) (λ m. servedFlow b m .deadline) (λ m t l. usable-open b (servedFlow b m) t)
       (λ m l. service-deadlines b m n (omega arith) below)
-      (omega (
+      (unfold openBefore twiceDeadline in omega (
         arith,
-        count-all (servedFlow b n .deadline),
-        count-usable (servedFlow b n) (servedFlow b n .deadline),
-        count-usable (servedFlow b n) (slotsFor (servedFlow b n)),
-        range-at b range n below .release-below,
+        count-usable b (servedFlow b n) (servedFlow b n .deadline),
+        count-usable b (servedFlow b n) (slotsFor b (servedFlow b n)),
+        limit-count b (servedFlow b n) (range .calendar-in-range) (range-at b range n below .deadline-most),
+        open-mono (b .calendar) (le-of-lt (range-at b range n below .release-below)),
       ))
       left
       (λ m. σ (servedAt b m)) (sequence-on-time n (servedAt b n) below refl σ valid on-time)
@@ -121,48 +121,52 @@ module _ (b : Book) (range : InRange b) where
   stopped-proves m f h s =
       let n = s .place in
       let below : n < flowCount b = omega (arith, s .place-below) in
-      let left : 0 < unitsLeftAt (servedFlow b n) (freeFor b n) (slotsFor (servedFlow b n)) =
-      something-left (servedFlow b n) (freeFor b n) (chain-live (servedFlow b n) (sized-at b range n below)) (slotsFor (servedFlow b n)) (s .not-finished) in
+      let left : 0 < unitsLeftAt (servedFlow b n) (freeFor b n) (slotsFor b (servedFlow b n)) =
+      something-left (servedFlow b n) (freeFor b n) (chain-live (servedFlow b n) (sized-at b range n below)) (slotsFor b (servedFlow b n)) (s .not-finished) in
       (rw (s .served) at (service-below b n below), rw (s .served) at (none-on-time n (s .earlier) below (s .placed-before) left))
 
   -- ---- the quote
-  -- while work is left: the slots from the release to t are fewer than the path and the area of the flows up to it
+  -- while work is left, fewer open slots have passed
   pub quote-at : (n : ℕ) (earlier : List Row) → n < flowCount b → placeFirst b n ≡ planned earlier → (t : ℕ) →
-      0 < unitsLeftAt (servedFlow b n) (freeFor b n) t → t < servedFlow b n .release + path (servedFlow b n) + worksUpTo (servedFlow b) (suc n) / b .processors
+      0 < unitsLeftAt (servedFlow b n) (freeFor b n) t → openBefore (b .calendar) t < quoteFor b n
   quote-at n earlier below e t left =
       omega (
         arith,
-        count-usable (servedFlow b n) t,
-        quote-bound (b .processors) n (servedFlow b) (λ m. usable (servedFlow b m)) (freeFor b n) (usedIn earlier) (sized-at b range n below)
+        count-usable b (servedFlow b n) t,
+        quote-bound (b .processors) n (servedFlow b) (λ m. usable b (servedFlow b m)) (freeFor b n) (usedIn earlier) (sized-at b range n below)
             (free-or-used n earlier e) (used-within-work b range n earlier (omega arith) e) (range .processors-least) t left,
       )
 
-  -- the slots within which the flow at place n ends at the latest
-  abbrev pub quoteFor : ℕ → ℕ
-  quoteFor n = servedFlow b n .release + path (servedFlow b n) + worksUpTo (servedFlow b) (suc n) / b .processors
-
   module _ (k : ℕ) (rows : List Row) (h : k ≤ flowCount b) (e : placeFirst b k ≡ planned rows) (n : ℕ) (l : n < k) where
-    after-quote : (t : ℕ) → quoteFor n ≤ t → progress (servedFlow b n) (freeFor b n) t .left ≡ []
+    after-quote : (t : ℕ) → quoteFor b n ≤ openBefore (b .calendar) t → progress (servedFlow b n) (freeFor b n) t .left ≡ []
     after-quote t c = go (lt-or-ge 0 (unitsLeftAt (servedFlow b n) (freeFor b n) t))
       where
         go : (0 < unitsLeftAt (servedFlow b n) (freeFor b n) t) ⊎ (unitsLeftAt (servedFlow b n) (freeFor b n) t ≤ 0) → progress (servedFlow b n) (freeFor b n) t .left ≡ []
         go (inl left) = let p = placed-earlier b k rows e n l in absurd (omega (arith, quote-at n (p .0) (omega arith) (p .1) t left))
         go (inr none) = nothing-left (servedFlow b n) (freeFor b n) (chain-live (servedFlow b n) (sized-at b range n (omega arith))) t (omega arith)
 
-    ends-by-quote : EndsBy (scheduleOf rows) (servedAt b n) (quoteFor n)
+    ends-by-quote : (d : ℕ) → quoteFor b n ≤ openBefore (b .calendar) d → EndsBy (scheduleOf rows) (servedAt b n) d
     unfolding EndsBy
-    ends-by-quote i t c = go (lt-or-ge t (slotsFor (servedFlow b n))) (lt-or-ge i (jobCount (servedFlow b n)))
+    ends-by-quote d q i t c = go (lt-or-ge t (slotsFor b (servedFlow b n))) (lt-or-ge i (jobCount (servedFlow b n)))
       where
         none : plannedShare b n i t ≡ 0
-        none = rw (after-quote t c) (unfold shareTo in refl)
+        none = rw (after-quote t (le-trans q (open-mono (b .calendar) c))) (unfold shareTo in refl)
 
-        go : (t < slotsFor (servedFlow b n)) ⊎ (slotsFor (servedFlow b n) ≤ t) → (i < jobCount (servedFlow b n)) ⊎ (jobCount (servedFlow b n) ≤ i) → scheduleOf rows (servedAt b n) i t ≡ 0
+        go : (t < slotsFor b (servedFlow b n)) ⊎ (slotsFor b (servedFlow b n) ≤ t) → (i < jobCount (servedFlow b n)) ⊎ (jobCount (servedFlow b n) ≤ i) → scheduleOf rows (servedAt b n) i t ≡ 0
         go (inl d) (inl a) = states-share b k rows e h n i t l a d ∙ none
         go (inl d) (inr a) = states-none-of-flow b k rows e h n i t l (λ x y. omega arith)
         go (inr d) o = states-none-of-flow b k rows e h n i t l (λ x y. omega arith)
 
-    -- a finish within the quote
-    pub first-finish-within-quote : finishOf rows (servedAt b n) ≤ quoteFor n
+    -- a finish within the quote: in the slot before it the quote was not yet reached
+    pub first-finish-within-quote : openBefore (b .calendar) (finishOf rows (servedAt b n)) ≤ quoteFor b n
     first-finish-within-quote =
-        ends-finish rows (servedAt b n) (quoteFor n)
-        (λ r m. first-rows-fit b range k rows h e r m .processors-least) ends-by-quote
+        first-within (finishOf rows (servedAt b n))
+        (λ d q. first-finish-least b range k rows h e (servedAt b n) d (ends-by-quote d q))
+      where
+        first-within : (t : ℕ) → ((d : ℕ) → quoteFor b n ≤ openBefore (b .calendar) d → t ≤ d) → openBefore (b .calendar) t ≤ quoteFor b n
+        first-within zero ends = omega (arith, open-none (b .calendar))
+        first-within (suc t) ends = go (lt-or-ge (openBefore (b .calendar) t) (quoteFor b n))
+          where
+            go : (openBefore (b .calendar) t < quoteFor b n) ⊎ (quoteFor b n ≤ openBefore (b .calendar) t) → openBefore (b .calendar) (suc t) ≤ quoteFor b n
+            go (inl c) = omega (arith, open-step (b .calendar) t)
+            go (inr c) = absurd (omega (arith, ends t c))

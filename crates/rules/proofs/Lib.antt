@@ -10,6 +10,7 @@ pub mod AcceptsPlans
 pub mod Dispatches
 pub mod Finishes
 pub mod WriteBack
+pub mod Calendars
 -- laws that the proofs here and in the crates above cite
 pub mod Division
 pub mod Bits
@@ -41,6 +42,7 @@ pub mod FlowRows
 pub mod RowsSoFar
 pub mod WorkArea
 -- placing, what it guarantees, and what a refusal proves
+pub mod OpenSlots
 pub mod Usable
 pub mod Greedy
 pub mod Necessity

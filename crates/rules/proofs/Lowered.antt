@@ -19,8 +19,8 @@ use Rattle.rules.specs.Demands.{CapsLowered}
 use Rattle.rules.proofs.Caps.{job-lowered, lowered-in-range, caps-kept}
 use Rattle.rules.proofs.Fields.{field-lt}
 use Rattle.rules.proofs.Passing.{read-in-range}
-use Rattle.rules.proofs.RoundTrip.{Writable, read-written}
-use Rattle.rules.proofs.Versions.{read-writable}
+use Rattle.rules.proofs.RoundTrip.{Writable}
+use Rattle.rules.proofs.Versions.{read-writable, read-beside}
 use Rattle.rules.proofs.SameUse.{SameUse, plan-reading-same, check-reading-same}
 
 -- ---- the book with its caps lowered
@@ -42,11 +42,14 @@ module _ (b : Book) where
   pub same-use : SameUse b (lowered b)
   unfolding lowered flowOf
   same-use = record {
-    processors = refl;
-    count = sym count-of-lowered;
-    flow = λ f.
-        sym (ap (lowerCaps (b .processors)) (flow-in-lowered f)
-        ∙ caps-kept (b .processors) (lowerCaps (b .processors) (flowIn b f)) (lowered-caps f));
+    flows = record {
+      processors = refl;
+      count = sym count-of-lowered;
+      flow = λ f.
+          sym (ap (lowerCaps (b .processors)) (flow-in-lowered f)
+          ∙ caps-kept (b .processors) (lowerCaps (b .processors) (flowIn b f)) (lowered-caps f));
+    };
+    calendar = refl;
   }
 
   -- it is in range, and can be written in the same version
@@ -60,6 +63,7 @@ module _ (b : Book) where
         rw (flow-in-lowered f)
         (lowered-in-range (b .processors) mostCap (flowIn b f) (r .processors-least) (omega (arith, r .processors-most))
         (r .each-flow f (omega (arith, count-of-lowered))));
+    calendar-in-range = r .calendar-in-range;
   }
 
   lowered-writable : (v : ℕ) → Writable v b → Writable v (lowered b)
@@ -92,9 +96,9 @@ job-fault-before s f i at p l = rw (le-ltb mostCap (field 2 s (at + 4)) (omega a
 pub caps-lowered : CapsLowered
 unfolding planCall checkCall flowOf
 caps-lowered = record {
-  as-lowered = λ book b e.
-      let reads = read-written (versionOf book) (lowered b) (lowered-book-in-range b (read-in-range book b e))
-      (lowered-writable b (versionOf book) (read-writable book b e)) in
+  as-lowered = λ book calendar b e.
+      let reads = read-beside book calendar b e (versionOf book) (lowered b) (lowered-book-in-range b (read-in-range book calendar b e))
+      (lowered-writable b (versionOf book) (read-writable book calendar b e)) (sym (same-use b .calendar)) in
       record {
         lowered-reads = reads;
         same-plan = λ out area. rw (e, reads) (plan-reading-same b (lowered b) (same-use b) out area);

@@ -3,22 +3,23 @@
 use mathlib.Core.Path.{_≡_, refl, ap, ap₂}
 use Prim.Native.Nat.{ℕ, zero, suc, _+_, _*_, _^_, _≤_, _<_}
 use mathlib.Core.Bool.{Bool, true, false, not, _||_, true≢false}
-use mathlib.Core.List.{List}
+use mathlib.Core.List.{List, []}
 use mathlib.Core.Logic.{_⊎_, inl, inr}
 use native.Mathlib.Omega.{arith}
 use lib.ListN.{length}
-use lib.Dec.{ltb, eqb}
+use lib.Dec.{ltb, leb, eqb}
 use borrow.Author.Tests.{ltb-false, leb-false, eqb-true, not-false, le-ltb, lt-leb, eq-eqb}
 use Rattle.rules.specs.declared.Verdict.{Verdict}
 use Rattle.rules.specs.declared.Verdict.the-variants.{Pass, Refused}
 use Rattle.rules.specs.Walks.{if_then_else_}
 use Rattle.rules.specs.Fields.{byte, field}
-use Rattle.rules.specs.Answers.{firstFault}
-use Rattle.rules.specs.Limits.{outside, mostProcessors, mostFlows, mostDeadline, mostJobs, mostSize, mostCap}
-use Rattle.rules.specs.Book.{Book, flowCount, jobCount, noFlow, noJob, flowIn, jobOf, JobInRange, FlowInRange, InRange}
-use Rattle.rules.specs.Reading.{bookHead, versionOf, flowHead, jobRecord, releaseAt, jobsAt, flowStart, jobStart, jobAt, flowAt, bookOf, flowHeadFault, jobFault, flowFault, leftoverFault, bookFault, readingOf, readBook}
+use Rattle.rules.specs.Answers.{none, _andThen_, firstFault}
+use Rattle.rules.specs.Limits.{outside, mostProcessors, mostFlows, mostDeadline, mostJobs, mostSize, mostCap, mostWindows, mostReopening}
+use Rattle.rules.specs.Calendar.{Calendar, CalendarInRange, calendarHead, windowLength, windowAt, calendarOf, windowFault, beginsEarly, calendarFault, noWindow, windowOf}
+use Rattle.rules.specs.Book.{Book, withCalendar, flowCount, jobCount, noFlow, noJob, flowIn, jobOf, JobInRange, FlowInRange, InRange}
+use Rattle.rules.specs.Reading.{bookHead, versionOf, flowHead, jobRecord, releaseAt, jobsAt, flowStart, jobStart, jobAt, flowAt, bookOf, flowHeadFault, jobFault, flowFault, leftoverFault, bookFault, bookWith, readingOf, readBook}
 use Rattle.rules.specs.Reading.Reading.{read}
-use Rattle.rules.proofs.Walks.{list-length, list-at-zero}
+use Rattle.rules.proofs.Walks.{list-length, list-at-zero, any-none}
 use Rattle.rules.proofs.Faults.{not-pass, both-pass, fault-pass, all-pass}
 
 -- ---- the values of the book that bytes hold
@@ -49,6 +50,10 @@ release-of-flow s at = refl
 pub processors-of-book : (s : List ℕ) → bookOf s .processors ≡ field 2 s 5
 unfolding bookOf
 processors-of-book s = refl
+
+pub calendar-of-book : (s : List ℕ) → bookOf s .calendar ≡ []
+unfolding bookOf
+calendar-of-book s = refl
 
 -- ---- tests that pass
 -- a test that would refuse did not, and what comes after it passes
@@ -217,6 +222,67 @@ book-passes s e =
 pub flow-of-passing : (s : List ℕ) → bookFault s ≡ Pass → (f : ℕ) → f < byte s 7 → FlowPasses s (flowStart s f)
 flow-of-passing s e f h = flow-passes s f (flowStart s f) (book-passes s e .each-passes f h)
 
+-- ---- a calendar that passes
+pub record CalendarPasses (s : List ℕ) : Type 0 where
+  pub calendar-whole : calendarHead ≤ length s
+  pub calendar-length : field 4 s 0 ≡ length s
+  pub calendar-version : byte s 4 ≡ 1
+  pub windows-to : byte s 5 ≤ mostWindows
+  pub calendar-bytes : length s ≡ calendarHead + windowLength * byte s 5
+  pub no-window-fault : (k : ℕ) → k < byte s 5 → windowFault s k ≡ false
+
+pub calendar-passes : (s : List ℕ) → calendarFault s ≡ Pass → CalendarPasses s
+unfolding calendarFault
+calendar-passes s e =
+    let test = test-passed _ 24 none none Pass e in
+    let windows = neither-true _ _ (test .0) in
+    let bytes = neither-true _ _ (windows .0) in
+    let count = neither-true _ _ (bytes .0) in
+    let version = neither-true _ _ (count .0) in
+    let head = neither-true _ _ (version .0) in
+    record {
+      calendar-whole = ltb-false (length s) calendarHead (head .0);
+      calendar-length = eqb-true (field 4 s 0) (length s) (not-false _ (head .1));
+      calendar-version = eqb-true (byte s 4) 1 (not-false _ (version .1));
+      windows-to = ltb-false mostWindows (byte s 5) (count .1);
+      calendar-bytes = eqb-true (length s) (calendarHead + windowLength * byte s 5) (not-false _ (bytes .1));
+      no-window-fault = any-none (windowFault s) (byte s 5) (windows .1);
+    }
+
+pub window-count : (s : List ℕ) → length (calendarOf s) ≡ byte s 5
+unfolding calendarOf
+window-count s = list-length (windowAt s) (byte s 5) 0
+
+pub window-in-calendar : (s : List ℕ) (k : ℕ) → k < byte s 5 → windowOf (calendarOf s) k ≡ windowAt s k
+unfolding calendarOf windowOf
+window-in-calendar s k h = list-at-zero (windowAt s) (byte s 5) k noWindow h
+
+pub none-in-range : CalendarInRange []
+none-in-range = record { windows-most = omega arith; not-empty = λ k l. absurd (omega arith); apart = λ k l. absurd (omega arith); reopens = λ k l. absurd (omega arith) }
+
+pub calendar-pass-in-range : (s : List ℕ) → calendarFault s ≡ Pass → CalendarInRange (calendarOf s)
+calendar-pass-in-range s e = record {
+  windows-most = rw (window-count s) (p .windows-to);
+  not-empty = λ k l. rw (window-in-calendar s k (in-bytes k l)) (leb-false (windowAt s k .again) (windowAt s k .shut) (parts k l .0 .0));
+  apart = λ k l. rw (window-in-calendar s k (in-bytes k (omega arith)), window-in-calendar s (suc k) (in-bytes (suc k) l))
+      (leb-false (windowAt s (suc k) .shut) (windowAt s k .again) (unfold beginsEarly in parts (suc k) l .0 .1));
+  reopens = λ k l. rw (window-in-calendar s k (in-bytes k l)) (ltb-false mostReopening (windowAt s k .again) (parts k l .1));
+}
+  where
+    p : CalendarPasses s
+    p = calendar-passes s e
+
+    in-bytes : (k : ℕ) → k < length (calendarOf s) → k < byte s 5
+    in-bytes k l = omega (arith, window-count s)
+
+    parts : (k : ℕ) → k < length (calendarOf s) →
+        ((leb (windowAt s k .again) (windowAt s k .shut) ≡ false) × (beginsEarly s k ≡ false)) × (ltb mostReopening (windowAt s k .again) ≡ false)
+    parts k l =
+        let rules : ((leb (windowAt s k .again) (windowAt s k .shut) || beginsEarly s k) || ltb mostReopening (windowAt s k .again)) ≡ false =
+        unfold windowFault in p .no-window-fault k (in-bytes k l) in
+        let last = neither-true (leb (windowAt s k .again) (windowAt s k .shut) || beginsEarly s k) (ltb mostReopening (windowAt s k .again)) rules in
+        (neither-true (leb (windowAt s k .again) (windowAt s k .shut)) (beginsEarly s k) (last .0), last .1)
+
 -- "A book passes its checks when no test that comes before 11 turns it down": its values are in range
 pub pass-in-range : (s : List ℕ) → bookFault s ≡ Pass → InRange (bookOf s)
 pass-in-range s e =
@@ -228,25 +294,43 @@ pass-in-range s e =
       each-flow = λ f h.
           let l : f < byte s 7 = rw (flow-count s) at h in
           rw (flow-in-book s f l) (flow-in-range s (flowStart s f) (flow-of-passing s e f l));
+      calendar-in-range = rw (calendar-of-book s) none-in-range;
     }
 
--- ---- a book that is read
-pub read-passes : (s : List ℕ) (b : Book) → readBook s ≡ read b → (bookFault s ≡ Pass) × (b ≡ bookOf s)
+-- another calendar in range changes no other range
+pub with-in-range : (c : Calendar) (b : Book) → CalendarInRange c → InRange b → InRange (withCalendar c b)
+with-in-range c b h r = record {
+  processors-least = r .processors-least;
+  processors-most = r .processors-most;
+  flows-most = r .flows-most;
+  each-flow = λ f l. unfold flowIn in r .each-flow f l;
+  calendar-in-range = h;
+}
+
+-- ---- a book that is read, with its calendar
+pub record ReadWith (s calendar : List ℕ) (b : Book) : Type 0 where
+  pub book-passes : bookFault s ≡ Pass
+  pub calendar-passes : calendarFault calendar ≡ Pass
+  pub is-book : b ≡ bookWith s calendar
+
+pub read-passes : (s calendar : List ℕ) (b : Book) → readBook s calendar ≡ read b → ReadWith s calendar b
 unfolding readBook
-read-passes s b e = go (bookFault s) refl e
+read-passes s calendar b e = go (bookFault s andThen calendarFault calendar) refl e
   where
-    go : (v : Verdict) → bookFault s ≡ v → readingOf v (bookOf s) ≡ read b → (bookFault s ≡ Pass) × (b ≡ bookOf s)
-    go Pass q r = (q, cc)
+    go : (v : Verdict) → (bookFault s andThen calendarFault calendar) ≡ v → readingOf v (bookWith s calendar) ≡ read b → ReadWith s calendar b
+    go Pass q r =
+        let both = both-pass (bookFault s) (calendarFault calendar) q in
+        record { book-passes = both .0; calendar-passes = both .1; is-book = cc }
     go (Refused n f j) q r = absurd (let z : _≡_ {A = ℕ} 0 1 = cc in omega arith)
 
-pub read-in-range : (s : List ℕ) (b : Book) → readBook s ≡ read b → InRange b
-read-in-range s b e =
-    let p = read-passes s b e in
-    rw (p .1) (pass-in-range s (p .0))
+pub read-in-range : (s calendar : List ℕ) (b : Book) → readBook s calendar ≡ read b → InRange b
+read-in-range s calendar b e =
+    let p = read-passes s calendar b e in
+    rw (p .is-book) (with-in-range (calendarOf calendar) (bookOf s) (calendar-pass-in-range calendar (p .calendar-passes)) (pass-in-range s (p .book-passes)))
 
-pub pass-reads : (s : List ℕ) → bookFault s ≡ Pass → readBook s ≡ read (bookOf s)
+pub pass-reads : (s calendar : List ℕ) → bookFault s ≡ Pass → calendarFault calendar ≡ Pass → readBook s calendar ≡ read (bookWith s calendar)
 unfolding readBook
-pass-reads s e = rw e refl
+pass-reads s calendar e d = rw (e, d) refl
 
 -- ---- the other way round: bytes that have all this pass
 pub test-passes : (t : Bool) (n f j : ℕ) (v : Verdict) → t ≡ false → v ≡ Pass → (if t then Refused n f j else v) ≡ Pass

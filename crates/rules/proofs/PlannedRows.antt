@@ -71,11 +71,11 @@ abbrev pub plannedShare : Book → ℕ → ℕ → ℕ → ℕ
 plannedShare b n = shareIn (servedFlow b n) (freeFor b n)
 
 unfoldable pub plannedGrid : Book → ℕ → List Row
-plannedGrid b n = flowGrid (servedAt b n) (jobCount (servedFlow b n)) (slotsFor (servedFlow b n)) (plannedShare b n)
+plannedGrid b n = flowGrid (servedAt b n) (jobCount (servedFlow b n)) (slotsFor b (servedFlow b n)) (plannedShare b n)
 
 -- the flow at place n has no pseudo-job left after its slots
 abbrev pub Finished : Book → ℕ → Type 0
-Finished b n = progress (servedFlow b n) (freeFor b n) (slotsFor (servedFlow b n)) .left ≡ []
+Finished b n = progress (servedFlow b n) (freeFor b n) (slotsFor b (servedFlow b n)) .left ≡ []
 
 planned-differs : {X : Type 0} (f : ℕ) (rows : List Row) → infeasible f ≡ planned rows → X
 planned-differs f rows e = absurd (let z : _≡_ {A = ℕ} 0 1 = cc in omega arith)
@@ -105,13 +105,13 @@ placed-next b k rows e = go (placeFirst b k) refl e
     go : (q : Plan) → placeFirst b k ≡ q → thenPlace q (placeFlow b (servedAt b k)) ≡ planned rows → PlacedNext b k rows
     go (infeasible f) z d = planned-differs f rows d
     go (planned earlier) z d =
-        let s = settled-planned (servedAt b k) (progress (servedFlow b k) (freeProcessors b (servedAt b k) earlier) (slotsFor (servedFlow b k)) .left)
-        (earlier ++ flowRows (servedFlow b k) (servedAt b k) (freeProcessors b (servedAt b k) earlier) (slotsFor (servedFlow b k))) rows (unfold placeFlow in d) in
+        let s = settled-planned (servedAt b k) (progress (servedFlow b k) (freeProcessors b (servedAt b k) earlier) (slotsFor b (servedFlow b k)) .left)
+        (earlier ++ flowRows (servedFlow b k) (servedAt b k) (freeProcessors b (servedAt b k) earlier) (slotsFor b (servedFlow b k))) rows (unfold placeFlow in d) in
         record {
           earlier = earlier;
           placed-before = z;
           finished = rw z (s .0);
-          appended = s .1 ∙ ap (earlier ++_) (unfold plannedGrid in rw z (flow-rows-grid (servedFlow b k) (servedAt b k) (freeProcessors b (servedAt b k) earlier) (slotsFor (servedFlow b k))));
+          appended = s .1 ∙ ap (earlier ++_) (unfold plannedGrid in rw z (flow-rows-grid (servedFlow b k) (servedAt b k) (freeProcessors b (servedAt b k) earlier) (slotsFor b (servedFlow b k))));
         }
 
 -- the flow at which the placing stops
@@ -133,8 +133,8 @@ placing-stops b (suc k) f e = go (placeFirst b k) refl e (placing-stops b k f)
         let s = ih (z ∙ d) in
         record { place = s .place; place-below = omega (arith, s .place-below); served = s .served; earlier = s .earlier; placed-before = s .placed-before; not-finished = s .not-finished }
     go (planned earlier) z d ih =
-        let s = settled-infeasible (servedAt b k) f (progress (servedFlow b k) (freeProcessors b (servedAt b k) earlier) (slotsFor (servedFlow b k)) .left)
-        (earlier ++ flowRows (servedFlow b k) (servedAt b k) (freeProcessors b (servedAt b k) earlier) (slotsFor (servedFlow b k))) (unfold placeFlow in d) in
+        let s = settled-infeasible (servedAt b k) f (progress (servedFlow b k) (freeProcessors b (servedAt b k) earlier) (slotsFor b (servedFlow b k)) .left)
+        (earlier ++ flowRows (servedFlow b k) (servedAt b k) (freeProcessors b (servedAt b k) earlier) (slotsFor b (servedFlow b k))) (unfold placeFlow in d) in
         record { place = k; place-below = lt-suc-self k; served = s .1; earlier = earlier; placed-before = z; not-finished = rw z (s .0) }
 
 -- ---- the rows of the first k flows
@@ -162,7 +162,7 @@ placed-earlier b (suc k) rows e n l =
 grid-flow : (b : Book) (n : ℕ) (r : Row) → r ∈ plannedGrid b n → r .flow ≡ servedAt b n
 unfolding plannedGrid
 grid-flow b n r m =
-    ap (λ (x : Row). x .flow) (grid-in (servedAt b n) (jobCount (servedFlow b n)) (slotsFor (servedFlow b n)) (plannedShare b n) r m .4)
+    ap (λ (x : Row). x .flow) (grid-in (servedAt b n) (jobCount (servedFlow b n)) (slotsFor b (servedFlow b n)) (plannedShare b n) r m .4)
 
 pub finish-settled : (b : Book) (m k : ℕ) (first rows : List Row) → m ≤ k → k ≤ flowCount b → placeFirst b m ≡ planned first → placeFirst b k ≡ planned rows →
     (n : ℕ) → n < m → finishOf first (servedAt b n) ≡ finishOf rows (servedAt b n)
@@ -183,7 +183,7 @@ module _ (b : Book) (k : ℕ) (rows : List Row) (e : placeFirst b k ≡ planned 
   other-grid : (n g i t : ℕ) → (servedAt b n ≡ g → ⊥) → scheduleOf (plannedGrid b n) g i t ≡ 0
   unfolding plannedGrid
   other-grid n g i t ne =
-      grid-states-nothing (servedAt b n) (jobCount (servedFlow b n)) (slotsFor (servedFlow b n)) (plannedShare b n) g i t (λ q a c. ne (sym q))
+      grid-states-nothing (servedAt b n) (jobCount (servedFlow b n)) (slotsFor b (servedFlow b n)) (plannedShare b n) g i t (λ q a c. ne (sym q))
 
   pub states-nothing : (g i t : ℕ) → ((n : ℕ) → n < k → servedAt b n ≡ g → ⊥) → scheduleOf rows g i t ≡ 0
   states-nothing g i t ne = schedule-sum g i t ∙ sum-nothing _ k (λ n l. other-grid n g i t (ne n l))
@@ -195,14 +195,14 @@ module _ (b : Book) (k : ℕ) (rows : List Row) (e : placeFirst b k ≡ planned 
       (λ m c ne. other-grid m (servedAt b n) i t (λ q. ne (service-once b m n (omega arith) (omega arith) q)))
 
   -- the plan: what a job gets, within the slots of its flow
-  pub states-share : k ≤ flowCount b → (n i t : ℕ) → n < k → i < jobCount (servedFlow b n) → t < slotsFor (servedFlow b n) →
+  pub states-share : k ≤ flowCount b → (n i t : ℕ) → n < k → i < jobCount (servedFlow b n) → t < slotsFor b (servedFlow b n) →
       scheduleOf rows (servedAt b n) i t ≡ plannedShare b n i t
   states-share h n i t l a c =
       states-own h n i t l ∙
-      (unfold plannedGrid in grid-states (servedAt b n) (jobCount (servedFlow b n)) (slotsFor (servedFlow b n)) (plannedShare b n) i t a c)
+      (unfold plannedGrid in grid-states (servedAt b n) (jobCount (servedFlow b n)) (slotsFor b (servedFlow b n)) (plannedShare b n) i t a c)
 
-  pub states-none-of-flow : k ≤ flowCount b → (n i t : ℕ) → n < k → (i < jobCount (servedFlow b n) → t < slotsFor (servedFlow b n) → ⊥) →
+  pub states-none-of-flow : k ≤ flowCount b → (n i t : ℕ) → n < k → (i < jobCount (servedFlow b n) → t < slotsFor b (servedFlow b n) → ⊥) →
       scheduleOf rows (servedAt b n) i t ≡ 0
   states-none-of-flow h n i t l ne =
       states-own h n i t l ∙
-      (unfold plannedGrid in grid-states-nothing (servedAt b n) (jobCount (servedFlow b n)) (slotsFor (servedFlow b n)) (plannedShare b n) (servedAt b n) i t (λ q a c. ne a c))
+      (unfold plannedGrid in grid-states-nothing (servedAt b n) (jobCount (servedFlow b n)) (slotsFor b (servedFlow b n)) (plannedShare b n) (servedAt b n) i t (λ q a c. ne a c))

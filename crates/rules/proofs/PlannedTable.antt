@@ -16,10 +16,11 @@ use Rattle.rules.specs.Demands.{IsScheduleTable}
 use Rattle.rules.proofs.Walks.{join-ext, join-split}
 use Rattle.rules.proofs.Rising.{Rising}
 use Rattle.rules.proofs.RowOrder.{Before}
+use Rattle.rules.proofs.OpenSlots.{limit-most}
 use Rattle.rules.proofs.ScheduleRows.{schedule-rows-rising}
 use Rattle.rules.proofs.FlowRows.{flowGrid}
 use Rattle.rules.proofs.PlannedRows.{join-nothing, servedAt, servedFlow, plannedShare, plannedGrid, placed-rows, states-share, states-none-of-flow}
-use Rattle.rules.proofs.PlannedValid.{range-at, all-placed, planned-valid, planned-in-slots}
+use Rattle.rules.proofs.PlannedValid.{all-placed, planned-valid, planned-in-slots}
 
 -- ---- rows of a flow by slot and job
 grid-ext : (f m n : ℕ) (τ υ : ℕ → ℕ → ℕ) → ((i t : ℕ) → i < m → t < n → τ i t ≡ υ i t) → flowGrid f m n τ ≡ flowGrid f m n υ
@@ -46,10 +47,10 @@ module _ (b : Book) (range : InRange b) (rows : List Row) (e : plan b ≡ planne
   own-rows : (n : ℕ) → n < flowCount b → plannedGrid b n ≡ flowGrid (servedAt b n) (jobCount (servedFlow b n)) slots (scheduleOf rows (servedAt b n))
   unfolding plannedGrid
   own-rows n l =
-      grid-ext (servedAt b n) (jobCount (servedFlow b n)) (slotsFor (servedFlow b n)) (plannedShare b n) (scheduleOf rows (servedAt b n))
+      grid-ext (servedAt b n) (jobCount (servedFlow b n)) (slotsFor b (servedFlow b n)) (plannedShare b n) (scheduleOf rows (servedAt b n))
       (λ i t a c. sym (states-share b (flowCount b) rows (all-placed b range rows e) (omega arith) n i t l a c)) ∙
-      grid-longer (servedAt b n) (jobCount (servedFlow b n)) (slotsFor (servedFlow b n)) slots (scheduleOf rows (servedAt b n))
-      (omega (arith, range-at b range n l .deadline-most))
+      grid-longer (servedAt b n) (jobCount (servedFlow b n)) (slotsFor b (servedFlow b n)) slots (scheduleOf rows (servedAt b n))
+      (limit-most b (servedFlow b n))
       (λ i t a c. states-none-of-flow b (flowCount b) rows (all-placed b range rows e) (omega arith) n i t l (λ x y. omega arith))
 
   -- the rows of a plan are the rows of the schedule that they state

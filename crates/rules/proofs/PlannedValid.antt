@@ -1,9 +1,9 @@
--- The rows of a plan are a valid schedule: caps, at most P processors in every slot, exact sizes, precedence, nothing before a release and
--- nothing else; and each flow ends within twice its deadline. Flow by flow this is what one placed flow keeps; the flows share a slot because
--- each gets at most what those before it leave free. Everything is shown of the first k flows placed, and read off for the whole plan. Assumes
--- nothing.
+-- The rows of a plan are a valid schedule: caps, at most P processors in every slot, exact sizes, precedence, nothing before a release or in a
+-- shut slot, and nothing else; and each flow ends within twice its deadline, in open slots. Flow by flow this is what one placed flow keeps; the
+-- flows share a slot because each gets at most what those before it leave free. Everything is shown of the first k flows placed, and read off
+-- for the whole plan. Assumes nothing.
 use mathlib.Core.Path.{_≡_, refl, sym, ap, subst, _∙_}
-use Prim.Native.Nat.{ℕ, zero, suc, _+_, _*_, _-_, _/_, _%_, _^_, _≤_, _<_}
+use Prim.Native.Nat.{ℕ, zero, suc, _+_, _-_, _/_, _%_, _^_, _≤_, _<_}
 use mathlib.Core.Bool.{Bool, true, false, false≢true}
 use mathlib.Core.List.{List}
 use mathlib.Core.Logic.{_⊎_, inl, inr}
@@ -13,11 +13,12 @@ use lib.Dec.{eqb}
 use borrow.Author.Tests.{eqb-true, eqb-false, eq-eqb}
 use Rattle.rules.specs.Walks.{sumTo, joinFrom}
 use Rattle.rules.specs.Limits.{slots}
-use Rattle.rules.specs.Book.{Job, Book, flowCount, jobCount, flowOf, jobOf, hasBit, precedes, JobInRange, FlowInRange, InRange}
+use Rattle.rules.specs.Book.{Job, Book, flowCount, jobCount, flowOf, jobOf, hasBit, precedes, usable, JobInRange, FlowInRange, InRange}
 use Rattle.rules.specs.Rows.{Row, sumWhere, usedIn, finishOf}
 use Rattle.rules.specs.Schedule.{Schedule, everyFlow, IsJob, Valid, EndsBy, InSlots, scheduleOf}
 use Rattle.rules.specs.Placing.{slotsFor, planned, placeFirst, rowsOf, plan}
 use Rattle.rules.specs.Cut.{amongFirst}
+use Rattle.rules.specs.Demands.{WithinTwice}
 use Rattle.rules.proofs.Caps.{used-in-range}
 use Rattle.rules.proofs.Division.{lt-or-ge}
 use Rattle.rules.proofs.Sums.{sum-ext, sum-mono, sum-add, sum-zero, sum-up, sum-quiet}
@@ -25,7 +26,8 @@ use Rattle.rules.proofs.Walks.{any-met, any-none, any-true}
 use Rattle.rules.proofs.Ideal.{Sized, in-range-sized}
 use Rattle.rules.proofs.PseudoJobs.{chain-live, chain-works}
 use Rattle.rules.proofs.ServiceOrder.{service-below, service-position}
-use Rattle.rules.proofs.Usable.{none-free-before, free-within}
+use Rattle.rules.proofs.OpenSlots.{open-none, open-mono, limit-most, limit-count}
+use Rattle.rules.proofs.Usable.{none-free, free-within}
 use Rattle.rules.proofs.Greedy.{givenIn, given-in-le-free, given-and-left}
 use Rattle.rules.proofs.Necessity.{flowWork, worksUpTo}
 use Rattle.rules.proofs.Rising.{_∈_, join-in}
@@ -59,13 +61,13 @@ predecessor-below {P} {i} {j} r k e = go (lt-or-ge k i)
         let none : j .predecessors / 2 ^ k % 2 ≡ 0 = rw (div-eq-of-lt small, zero-mod) refl in
         absurd (omega (arith, eqb-true (j .predecessors / 2 ^ k % 2) 1 e))
 
--- a row of a plan: a job of the book, at least one processor and at most the cap, before twice the deadline
+-- a row of a plan: a job of the book, at least one processor and at most the cap, within the limit of its flow
 pub record RowFits (b : Book) (r : Row) : Type 0 where
   pub flow-in : r .flow < flowCount b
   pub job-in : r .job < jobCount (flowOf b (r .flow))
   pub processors-least : 1 ≤ r .processors
   pub processors-most : r .processors ≤ jobOf (flowOf b (r .flow)) (r .job) .cap
-  pub slot-in : r .slot < slotsFor (flowOf b (r .flow))
+  pub slot-in : r .slot < slotsFor b (flowOf b (r .flow))
 
 -- the same schedule, for a test that picks the same flows of the book
 pub valid-among : (b : Book) (p q : ℕ → Bool) (σ : Schedule) → ((f : ℕ) → f < flowCount b → p f ≡ q f) → Valid b p σ → Valid b q σ
@@ -77,7 +79,7 @@ valid-among b p q σ same v = record {
   nothing-after = v .nothing-after;
   sizes = λ f i j. v .sizes f i (back f i j);
   precedence = λ f i k t j. v .precedence f i k t (back f i j);
-  releases = λ f i t j. v .releases f i t (back f i j);
+  in-usable = λ f i t j. v .in-usable f i t (back f i j);
 }
   where
     over : (p q : ℕ → Bool) → ((f : ℕ) → f < flowCount b → p f ≡ q f) → (f i : ℕ) → IsJob b p f i → IsJob b q f i
@@ -97,16 +99,16 @@ module _ (b : Book) (range : InRange b) where
   -- a flow's rows use at most what the flow is given
   grid-within-given : (n t : ℕ) → n < flowCount b → usedIn (plannedGrid b n) t ≤ givenIn (servedFlow b n) (freeFor b n) t
   unfolding plannedGrid
-  grid-within-given n t l = go (lt-or-ge t (slotsFor (servedFlow b n)))
+  grid-within-given n t l = go (lt-or-ge t (slotsFor b (servedFlow b n)))
     where
-      go : (t < slotsFor (servedFlow b n)) ⊎ (slotsFor (servedFlow b n) ≤ t) → usedIn (plannedGrid b n) t ≤ givenIn (servedFlow b n) (freeFor b n) t
+      go : (t < slotsFor b (servedFlow b n)) ⊎ (slotsFor b (servedFlow b n) ≤ t) → usedIn (plannedGrid b n) t ≤ givenIn (servedFlow b n) (freeFor b n) t
       go (inl c) =
           omega (
             arith,
-            grid-used (servedAt b n) (jobCount (servedFlow b n)) (slotsFor (servedFlow b n)) (plannedShare b n) t c,
+            grid-used (servedAt b n) (jobCount (servedFlow b n)) (slotsFor b (servedFlow b n)) (plannedShare b n) t c,
             placed-together (servedFlow b n) (freeFor b n) (sized-at n l) t,
           )
-      go (inr c) = omega (arith, grid-not-used (servedAt b n) (jobCount (servedFlow b n)) (slotsFor (servedFlow b n)) (plannedShare b n) t c)
+      go (inr c) = omega (arith, grid-not-used (servedAt b n) (jobCount (servedFlow b n)) (slotsFor b (servedFlow b n)) (plannedShare b n) t c)
 
   grid-within-free : (n t : ℕ) → n < flowCount b → usedIn (plannedGrid b n) t ≤ freeFor b n t
   grid-within-free n t l = le-trans (grid-within-given n t l) (given-in-le-free (servedFlow b n) (freeFor b n) t)
@@ -158,56 +160,56 @@ module _ (b : Book) (range : InRange b) where
       within-count = omega arith
 
       flow-caps : (i t : ℕ) → i < jobCount (servedFlow b n) → scheduleOf rows (servedAt b n) i t ≤ jobOf (servedFlow b n) i .cap
-      flow-caps i t a = go (lt-or-ge t (slotsFor (servedFlow b n)))
+      flow-caps i t a = go (lt-or-ge t (slotsFor b (servedFlow b n)))
         where
-          go : (t < slotsFor (servedFlow b n)) ⊎ (slotsFor (servedFlow b n) ≤ t) → scheduleOf rows (servedAt b n) i t ≤ jobOf (servedFlow b n) i .cap
+          go : (t < slotsFor b (servedFlow b n)) ⊎ (slotsFor b (servedFlow b n) ≤ t) → scheduleOf rows (servedAt b n) i t ≤ jobOf (servedFlow b n) i .cap
           go (inl c) =
               omega (arith, states-share b k rows e h n i t l a c, placed-within-cap (servedFlow b n) (freeFor b n) (sized-at n within-count) i t a)
           go (inr c) = omega (arith, states-none-of-flow b k rows e h n i t l (λ x y. omega arith))
 
-      -- within twice the deadline
-      flow-ends : (i t : ℕ) → slotsFor (servedFlow b n) ≤ t → scheduleOf rows (servedAt b n) i t ≡ 0
+      -- nothing from its limit on
+      flow-ends : (i t : ℕ) → slotsFor b (servedFlow b n) ≤ t → scheduleOf rows (servedAt b n) i t ≡ 0
       flow-ends i t c = states-none-of-flow b k rows e h n i t l (λ x y. omega arith)
 
-      flow-sum : (i t : ℕ) → i < jobCount (servedFlow b n) → t ≤ slotsFor (servedFlow b n) → sumTo (scheduleOf rows (servedAt b n) i) t ≡ sumTo (plannedShare b n i) t
+      flow-sum : (i t : ℕ) → i < jobCount (servedFlow b n) → t ≤ slotsFor b (servedFlow b n) → sumTo (scheduleOf rows (servedAt b n) i) t ≡ sumTo (plannedShare b n i) t
       flow-sum i t a c = sum-ext _ _ t (λ u d. states-share b k rows e h n i u l a (omega arith))
 
-      slots-enough : slotsFor (servedFlow b n) ≤ slots
-      slots-enough = omega (arith, range-at n within-count .deadline-most)
+      slots-enough : slotsFor b (servedFlow b n) ≤ slots
+      slots-enough = limit-most b (servedFlow b n)
 
       flow-sizes : (i : ℕ) → i < jobCount (servedFlow b n) → sumTo (scheduleOf rows (servedAt b n) i) slots ≡ jobOf (servedFlow b n) i .size
       flow-sizes i a =
           omega (
             arith,
-            flow-sum i (slotsFor (servedFlow b n)) a (omega arith),
-            placed-exactly (servedFlow b n) (freeFor b n) (sized-at n within-count) i (slotsFor (servedFlow b n)) a (placed-finished b k rows e n l),
-            sum-quiet (scheduleOf rows (servedAt b n) i) (slotsFor (servedFlow b n)) slots (flow-ends i),
+            flow-sum i (slotsFor b (servedFlow b n)) a (omega arith),
+            placed-exactly (servedFlow b n) (freeFor b n) (sized-at n within-count) i (slotsFor b (servedFlow b n)) a (placed-finished b k rows e n l),
+            sum-quiet (scheduleOf rows (servedAt b n) i) (slotsFor b (servedFlow b n)) slots (flow-ends i),
             sum-up (scheduleOf rows (servedAt b n) i) slots-enough,
           )
 
       flow-precedence : (i j t : ℕ) → i < jobCount (servedFlow b n) → precedes (servedFlow b n) j i ≡ true → 0 < scheduleOf rows (servedAt b n) i t →
           sumTo (scheduleOf rows (servedAt b n) j) t ≡ jobOf (servedFlow b n) j .size
-      flow-precedence i j t a p g = go (lt-or-ge t (slotsFor (servedFlow b n)))
+      flow-precedence i j t a p g = go (lt-or-ge t (slotsFor b (servedFlow b n)))
         where
           below : j < i
           below = predecessor-below (range-at n within-count .each-job i a) j p
 
-          go : (t < slotsFor (servedFlow b n)) ⊎ (slotsFor (servedFlow b n) ≤ t) → sumTo (scheduleOf rows (servedAt b n) j) t ≡ jobOf (servedFlow b n) j .size
+          go : (t < slotsFor b (servedFlow b n)) ⊎ (slotsFor b (servedFlow b n) ≤ t) → sumTo (scheduleOf rows (servedAt b n) j) t ≡ jobOf (servedFlow b n) j .size
           go (inl c) =
               flow-sum j t (omega (arith, below)) (omega arith) ∙
               placed-in-order (servedFlow b n) (freeFor b n) (sized-at n within-count) i j t a below p (rw (states-share b k rows e h n i t l a c) at g)
           go (inr c) = absurd (omega (arith, flow-ends i t c))
 
-      flow-releases : (i t : ℕ) → i < jobCount (servedFlow b n) → t < servedFlow b n .release → scheduleOf rows (servedAt b n) i t ≡ 0
-      flow-releases i t a c = go (lt-or-ge t (slotsFor (servedFlow b n)))
+      flow-in-usable : (i t : ℕ) → i < jobCount (servedFlow b n) → usable b (servedFlow b n) t ≡ false → scheduleOf rows (servedAt b n) i t ≡ 0
+      flow-in-usable i t a c = go (lt-or-ge t (slotsFor b (servedFlow b n)))
         where
-          go : (t < slotsFor (servedFlow b n)) ⊎ (slotsFor (servedFlow b n) ≤ t) → scheduleOf rows (servedAt b n) i t ≡ 0
+          go : (t < slotsFor b (servedFlow b n)) ⊎ (slotsFor b (servedFlow b n) ≤ t) → scheduleOf rows (servedAt b n) i t ≡ 0
           go (inl d) =
               omega (
                 arith,
                 states-share b k rows e h n i t l a d,
                 placed-within-free (servedFlow b n) (freeFor b n) (sized-at n within-count) i t a,
-                none-free-before b (servedAt b n) (rowsOf (placeFirst b n)) t c,
+                none-free b (servedAt b n) (rowsOf (placeFirst b n)) t c,
               )
           go (inr d) = flow-ends i t d
 
@@ -241,7 +243,7 @@ module _ (b : Book) (range : InRange b) where
       where
         fit : (n : ℕ) → n < k → r ∈ plannedGrid b n → RowFits b r
         fit n l g =
-            let s = grid-in (servedAt b n) (jobCount (servedFlow b n)) (slotsFor (servedFlow b n)) (plannedShare b n) r (unfold plannedGrid in g) in
+            let s = grid-in (servedAt b n) (jobCount (servedFlow b n)) (slotsFor b (servedFlow b n)) (plannedShare b n) r (unfold plannedGrid in g) in
             subst (RowFits b) (sym (s .4))
             (record {
               flow-in = service-below b n (omega arith);
@@ -279,20 +281,32 @@ module _ (b : Book) (range : InRange b) where
           (λ f. (i m t : ℕ) → IsJob b (amongFirst b k) f i → precedes (flowOf b f) m i ≡ true → 0 < scheduleOf rows f i t →
           sumTo (scheduleOf rows f m) t ≡ jobOf (flowOf b f) m .size)
           (λ n l i m t j. flow-precedence n l i m t (j .job-in)) (λ f z q i m t j. absurd (false≢true (sym q ∙ j .flow-among)));
-      releases = by-flow (λ f. (i t : ℕ) → IsJob b (amongFirst b k) f i → t < flowOf b f .release → scheduleOf rows f i t ≡ 0)
-          (λ n l i t j. flow-releases n l i t (j .job-in)) (λ f z q i t j c. z i t);
+      in-usable = by-flow (λ f. (i t : ℕ) → IsJob b (amongFirst b k) f i → usable b (flowOf b f) t ≡ false → scheduleOf rows f i t ≡ 0)
+          (λ n l i t j. flow-in-usable n l i t (j .job-in)) (λ f z q i t j c. z i t);
     }
 
-    -- each of them ends within twice its deadline
-    pub first-within-twice : (f : ℕ) → EndsBy (scheduleOf rows) f (2 * flowOf b f .deadline)
-    unfolding EndsBy
-    first-within-twice = by-flow (λ f. (i t : ℕ) → 2 * flowOf b f .deadline ≤ t → scheduleOf rows f i t ≡ 0)
-        (λ n l i t g. flow-ends n l i t (omega arith)) (λ f z q i t g. z i t)
+    -- a finish is no later than a slot from which on the flow has nothing
+    pub first-finish-least : (f d : ℕ) → EndsBy (scheduleOf rows) f d → finishOf rows f ≤ d
+    first-finish-least f d = ends-finish rows f d (λ r m. first-rows-fit r m .processors-least)
 
-    -- so does each finish
-    pub first-finish-within-twice : (f : ℕ) → finishOf rows f ≤ 2 * flowOf b f .deadline
-    first-finish-within-twice f =
-        ends-finish rows f (2 * flowOf b f .deadline) (λ r m. first-rows-fit r m .processors-least) (first-within-twice f)
+    -- each of them ends within twice its deadline, in open slots
+    pub first-finish-within-twice : (f : ℕ) → WithinTwice b f (finishOf rows f)
+    first-finish-within-twice = by-flow (λ f. WithinTwice b f (finishOf rows f))
+        (λ n l. omega (
+          arith,
+          open-mono (b .calendar) (first-finish-least (servedAt b n) (slotsFor b (servedFlow b n)) (unfold EndsBy in flow-ends n l)),
+          limit-count b (servedFlow b n) (range .calendar-in-range) (range-at n (within-count n l) .deadline-most),
+        ))
+        (λ f z q. omega (
+          arith,
+          open-mono (b .calendar) (first-finish-least f 0 (unfold EndsBy in λ i t g. z i t)),
+          open-none (b .calendar),
+        ))
+
+    -- and within the slots of a table
+    pub first-finish-in-slots : (f : ℕ) → finishOf rows f ≤ slots
+    unfolding InSlots EndsBy
+    first-finish-in-slots f = first-finish-least f slots (first-in-slots f)
 
   -- ---- the whole plan
   among-all : (f : ℕ) → f < flowCount b → amongFirst b (flowCount b) f ≡ true

@@ -52,4 +52,4 @@ module _ (b : Book) (out area : List ℕ) where
 -- "row for row"
 pub plans-by-the-rules : PlansByTheRules
 unfolding PlansByTheRules planCall planReading
-plans-by-the-rules book out area b e = rw e (writes-long b out area (ltb (length area) workBytes))
+plans-by-the-rules book calendar out area b e = rw e (writes-long b out area (ltb (length area) workBytes))

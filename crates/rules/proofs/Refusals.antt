@@ -1,10 +1,10 @@
 -- Demand 1: the numbers of refusals, and what a refused call returns and leaves.
--- The tests of a book give 1 to 10 and 22, those of a table 14 to 21; 11 to 13 stand in the calls themselves. The rest goes by cases: the
--- reading, the length of the work area, the plan or the verdict on the table. Assumes nothing.
-use mathlib.Core.Path.{_≡_, refl, sym, ap₂, _∙_}
-use mathlib.Core.Logic.{_⊎_, inl, inr}
+-- The tests of a book give 1 to 10 and 22, that of a calendar 24, those of a table 14 to 21 and 25; 11 to 13 stand in the calls themselves. The rest goes
+-- by cases: the reading, the length of the work area, the plan or the verdict on the table. Assumes nothing.
+use mathlib.Core.Path.{_≡_, refl, sym, ap, ap₂, _∙_}
+use mathlib.Core.Logic.{_⊎_, inl, inr, ⊎-elim}
 use mathlib.Core.Bool.{Bool, true, false, not, _&&_, _||_, and-eq-true-iff, true≢false}
-use Prim.Native.Nat.{ℕ, zero, suc, _+_, _-_, _%_, _^_, _≤_, _<_}
+use Prim.Native.Nat.{ℕ, zero, suc, _+_, _*_, _-_, _%_, _^_, _≤_, _<_}
 use native.Mathlib.Omega.{arith}
 use mathlib.Core.List.{List, _++_}
 use lib.ListN.{length, take, drop, getD}
@@ -12,12 +12,13 @@ use lib.Dec.{ltb, leb, eqb}
 use borrow.Author.Tests.{leb-true, eqb-true, lt-leb, ne-eqb}
 use Rattle.rules.specs.declared.Verdict.{Verdict}
 use Rattle.rules.specs.declared.Verdict.the-variants.{Pass, Refused}
-use Rattle.rules.specs.Walks.{if_then_else_}
+use Rattle.rules.specs.Walks.{if_then_else_, anyTo}
 use Rattle.rules.specs.Fields.{byte, field}
 use Rattle.rules.specs.Answers.{none, _andThen_, firstFault, planAccepted, planRefused, checkRefused}
-use Rattle.rules.specs.Limits.{outside, mostProcessors, mostFlows, mostDeadline, mostJobs, mostSize, mostCap, slots, workBytes}
+use Rattle.rules.specs.Limits.{outside, mostProcessors, mostFlows, mostDeadline, mostJobs, mostSize, mostCap, mostWindows, slots, workBytes}
+use Rattle.rules.specs.Calendar.{isOpen, calendarHead, windowLength, windowFault, calendarFault}
 use Rattle.rules.specs.Book.{Book, flowCount, jobCount, flowOf, jobOf}
-use Rattle.rules.specs.Reading.{bookHead, versionOf, flowHead, jobRecord, releaseAt, jobsAt, flowStart, jobStart, flowHeadFault, jobFault, flowFault, leftoverFault, bookFault, bookOf, unread, readingOf, readBook}
+use Rattle.rules.specs.Reading.{bookHead, versionOf, flowHead, jobRecord, releaseAt, jobsAt, flowStart, jobStart, flowHeadFault, jobFault, flowFault, leftoverFault, bookFault, bookWith, unread, readingOf, readBook}
 use Rattle.rules.specs.Rows.{Row, usedIn, totalOf, finishOf, lateFlows, workUsed, workZero}
 use Rattle.rules.specs.Placing.{Plan, plan}
 use Rattle.rules.specs.Placing.Plan.{planned, infeasible}
@@ -94,81 +95,123 @@ book-numbered s =
     (numbered-then byEleven (firstFault (λ f. flowFault s f (flowStart s f)) (byte s 7)) (leftoverFault s)
     (numbered-first byEleven (λ f. flowFault s f (flowStart s f)) (byte s 7) (λ f. flow-numbered s f (flowStart s f))) (leftover-numbered s)))))
 
--- a book that is not read is refused by one of these numbers
-pub unread-numbered : (s : List ℕ) (n f j : ℕ) → readBook s ≡ unread n f j → (1 ≤ n) × (byEleven n ≡ true)
-unfolding readBook
-unread-numbered s n f j = go (bookFault s) refl
+-- "24 when the calendar breaks its layout" (02, Req 07)
+pub calendar-either : (s : List ℕ) → (calendarFault s ≡ Pass) ⊎ (calendarFault s ≡ Refused 24 none none)
+unfolding calendarFault
+calendar-either s =
+    go (ltb (length s) calendarHead || not (eqb (field 4 s 0) (length s)) || not (eqb (byte s 4) 1) || ltb mostWindows (byte s 5)
+    || not (eqb (length s) (calendarHead + windowLength * byte s 5)) || anyTo (windowFault s) (byte s 5))
   where
-    go : (v : Verdict) → bookFault s ≡ v → readingOf v (bookOf s) ≡ unread n f j → (1 ≤ n) × (byEleven n ≡ true)
+    go : (t : Bool) → ((if t then Refused 24 none none else Pass) ≡ Pass) ⊎ ((if t then Refused 24 none none else Pass) ≡ Refused 24 none none)
+    go true = inr refl
+    go false = inl refl
+
+pub calendar-numbered : (s : List ℕ) → Numbered byEleven (calendarFault s)
+calendar-numbered s =
+    ⊎-elim (λ e. rw e (numbered-pass byEleven)) (λ e. rw e (numbered-refused byEleven 24 none none (omega arith, refl))) (calendar-either s)
+
+read-numbered : (s calendar : List ℕ) → Numbered byEleven (bookFault s andThen calendarFault calendar)
+read-numbered s calendar = numbered-then byEleven (bookFault s) (calendarFault calendar) (book-numbered s) (calendar-numbered calendar)
+
+-- a book that is not read, or whose calendar is not, is refused by one of these numbers
+pub unread-numbered : (s calendar : List ℕ) (n f j : ℕ) → readBook s calendar ≡ unread n f j → (1 ≤ n) × (byEleven n ≡ true)
+unfolding readBook
+unread-numbered s calendar n f j = go (bookFault s andThen calendarFault calendar) refl
+  where
+    go : (v : Verdict) → (bookFault s andThen calendarFault calendar) ≡ v → readingOf v (bookWith s calendar) ≡ unread n f j → (1 ≤ n) × (byEleven n ≡ true)
     go Pass q e = absurd (let z : _≡_ {A = ℕ} 0 1 = cc in omega arith)
-    go (Refused m g i) q e = let d : m ≡ n = cc in rw d at (book-numbered s .among m g i q)
+    go (Refused m g i) q e = let d : m ≡ n = cc in rw d at (read-numbered s calendar .among m g i q)
 
--- ---- "14, then 15 to 19 in order for each row, then 20, 21"
+-- ---- "14, then 15 to 19 in order for each row, then 20, 21": these numbers, and with them 25 where slots are shut
+abbrev pub withoutShut : ℕ → Bool
+withoutShut n = leb 14 n && leb n 21
+
 abbrev pub ofTable : ℕ → Bool
-ofTable n = leb 14 n && leb n 21
+ofTable n = withoutShut n || eqb n 25
 
-head-numbered : (b : Book) (s : List ℕ) → Numbered ofTable (tableHeadFault b s)
-unfolding tableHeadFault
-head-numbered b s =
-    numbered-test ofTable
-    (ltb (length s) (tableHead b) || not (eqb (field 4 s 0) (length s)) || not (eqb (byte s 4) 1)
-    || not (eqb (field 2 s 5) (b .processors)) || not (eqb (byte s 7) (flowCount b)) || not (eqb ((length s - tableHead b) % rowLength) 0))
-    14 none none Pass (omega arith, refl) (numbered-pass ofTable)
+-- numbers among which those are, and 25 where a slot is not open
+module _ (these : ℕ → Bool) (b : Book) (s : List ℕ) (those : (n : ℕ) → withoutShut n ≡ true → these n ≡ true)
+    (shut : (t : ℕ) → isOpen (b .calendar) t ≡ false → these 25 ≡ true) where
+  abbrev rows : List Row
+  rows = tableRows b s
 
-row-numbered : (b : Book) (rows : List Row) (k : ℕ) → Numbered ofTable (rowFault b rows k)
-unfolding rowFault
-row-numbered b rows k =
-    let r = getD rows k noRow in
-    numbered-test ofTable
-    (leb slots (r .slot) || leb (flowCount b) (r .flow) || leb (jobCount (flowOf b (r .flow))) (r .job) || eqb (r .processors) 0)
-    15 (r .flow) (r .job) _ (omega arith, refl)
-    (numbered-test ofTable (not (rises b rows k)) 16 (r .flow) (r .job) _ (omega arith, refl)
-    (numbered-test ofTable (ltb (jobOf (flowOf b (r .flow)) (r .job) .cap) (r .processors)) 17 (r .flow) (r .job) _ (omega arith, refl)
-    (numbered-test ofTable (ltb (b .processors) (usedIn (take k rows) (r .slot) + r .processors)) 18 (r .flow) (r .job) _ (omega arith, refl)
-    (numbered-test ofTable (beforeRelease b r || lacksPredecessor b (take k rows) r) 19 (r .flow) (r .job) Pass (omega arith, refl) (numbered-pass ofTable)))))
+  abbrev opened : ℕ → Bool
+  opened = isOpen (b .calendar)
 
-total-numbered : (b : Book) (rows : List Row) (f i : ℕ) → Numbered ofTable (totalFault b rows f i)
-unfolding totalFault
-total-numbered b rows f i = numbered-hold ofTable (eqb (totalOf rows f i) (jobOf (flowOf b f) i .size)) 20 f i (omega arith, refl)
+  head-numbered : Numbered these (tableHeadFault b s)
+  unfolding tableHeadFault
+  head-numbered =
+      numbered-test these
+      (ltb (length s) (tableHead b) || not (eqb (field 4 s 0) (length s)) || not (eqb (byte s 4) 1)
+      || not (eqb (field 2 s 5) (b .processors)) || not (eqb (byte s 7) (flowCount b)) || not (eqb ((length s - tableHead b) % rowLength) 0))
+      14 none none Pass (omega arith, those 14 refl) (numbered-pass these)
 
-finish-numbered : (s : List ℕ) (rows : List Row) (f : ℕ) → Numbered ofTable (finishFault s rows f)
-unfolding finishFault
-finish-numbered s rows f = numbered-hold ofTable (eqb (statedFinish s f) (finishOf rows f)) 21 f none (omega arith, refl)
+  open-numbered : (t f j : ℕ) (v : Verdict) → Numbered these v → Numbered these (if not (opened t) then Refused 25 f j else v)
+  open-numbered t f j v h = go (opened t) refl
+    where
+      go : (o : Bool) → opened t ≡ o → Numbered these (if not o then Refused 25 f j else v)
+      go true e = h
+      go false e = numbered-refused these 25 f j (omega arith, shut t e)
+
+  row-numbered : (k : ℕ) → Numbered these (rowFault b opened rows k)
+  unfolding rowFault
+  row-numbered k =
+      let r = getD rows k noRow in
+      numbered-test these
+      (leb slots (r .slot) || leb (flowCount b) (r .flow) || leb (jobCount (flowOf b (r .flow))) (r .job) || eqb (r .processors) 0)
+      15 (r .flow) (r .job) _ (omega arith, those 15 refl)
+      (open-numbered (r .slot) (r .flow) (r .job) _
+      (numbered-test these (not (rises b rows k)) 16 (r .flow) (r .job) _ (omega arith, those 16 refl)
+      (numbered-test these (ltb (jobOf (flowOf b (r .flow)) (r .job) .cap) (r .processors)) 17 (r .flow) (r .job) _ (omega arith, those 17 refl)
+      (numbered-test these (ltb (b .processors) (usedIn (take k rows) (r .slot) + r .processors)) 18 (r .flow) (r .job) _ (omega arith, those 18 refl)
+      (numbered-test these (beforeRelease b r || lacksPredecessor b (take k rows) r) 19 (r .flow) (r .job) Pass (omega arith, those 19 refl)
+      (numbered-pass these))))))
+
+  total-numbered : (f i : ℕ) → Numbered these (totalFault b rows f i)
+  unfolding totalFault
+  total-numbered f i = numbered-hold these (eqb (totalOf rows f i) (jobOf (flowOf b f) i .size)) 20 f i (omega arith, those 20 refl)
+
+  finish-numbered : (f : ℕ) → Numbered these (finishFault s rows f)
+  unfolding finishFault
+  finish-numbered f = numbered-hold these (eqb (statedFinish s f) (finishOf rows f)) 21 f none (omega arith, those 21 refl)
+
+  pub table-numbered-by : Numbered these (tableFault b s)
+  unfolding tableFault
+  table-numbered-by =
+      let walk = firstFault (rowFault b opened rows) (length rows) in
+      let totals = firstFault (λ f. firstFault (totalFault b rows f) (jobCount (flowOf b f))) (flowCount b) in
+      let finishes = firstFault (finishFault s rows) (flowCount b) in
+      numbered-then these (tableHeadFault b s) (walk andThen totals andThen finishes) head-numbered
+      (numbered-then these walk (totals andThen finishes) (numbered-first these (rowFault b opened rows) (length rows) row-numbered)
+      (numbered-then these totals finishes
+      (numbered-first these (λ f. firstFault (totalFault b rows f) (jobCount (flowOf b f))) (flowCount b)
+      (λ f. numbered-first these (totalFault b rows f) (jobCount (flowOf b f)) (total-numbered f)))
+      (numbered-first these (finishFault s rows) (flowCount b) finish-numbered)))
 
 pub table-numbered : (b : Book) (s : List ℕ) → Numbered ofTable (tableFault b s)
-unfolding tableFault
-table-numbered b s =
-    let rows = tableRows b s in
-    let walk = firstFault (rowFault b rows) (length rows) in
-    let totals = firstFault (λ f. firstFault (totalFault b rows f) (jobCount (flowOf b f))) (flowCount b) in
-    let finishes = firstFault (finishFault s rows) (flowCount b) in
-    numbered-then ofTable (tableHeadFault b s) (walk andThen totals andThen finishes) (head-numbered b s)
-    (numbered-then ofTable walk (totals andThen finishes) (numbered-first ofTable (rowFault b rows) (length rows) (row-numbered b rows))
-    (numbered-then ofTable totals finishes
-    (numbered-first ofTable (λ f. firstFault (totalFault b rows f) (jobCount (flowOf b f))) (flowCount b)
-    (λ f. numbered-first ofTable (totalFault b rows f) (jobCount (flowOf b f)) (total-numbered b rows f)))
-    (numbered-first ofTable (finishFault s rows) (flowCount b) (finish-numbered s rows))))
+table-numbered b s = table-numbered-by ofTable b s (λ n e. ap (_|| eqb n 25) e) (λ t e. refl)
 
 -- ---- the planner
 -- what demand 1 says of an outcome of the planner
 record PlannerAnswers (out area : List ℕ) (o : PlanOutcome) : Type 0 where
-  number-is : (o .answer .number ≤ 13) ⊎ (o .answer .number ≡ 22)
+  number-is : (o .answer .number ≤ 13) ⊎ ((o .answer .number ≡ 22) ⊎ (o .answer .number ≡ 24))
   refusal : 0 < o .answer .number → PlannerRefusal out area o
 
 -- a refusal before or by 11, and one after it
-pub early-number : {X : Type 0} (n : ℕ) → byEleven n ≡ true → (n ≤ 11 → X) → (n ≡ 22 → X) → X
-early-number {X} n e low last = go (leb n 11) refl e
+pub early-number : {X : Type 0} (n : ℕ) → byEleven n ≡ true → (n ≤ 11 → X) → (n ≡ 22 → X) → (n ≡ 24 → X) → X
+early-number {X} n e low release last = go (leb n 11) (eqb n 22) refl refl e
   where
-    go : (t : Bool) → leb n 11 ≡ t → (t || eqb n 22) ≡ true → X
-    go true q p = low (leb-true n 11 q)
-    go false q p = last (eqb-true n 22 p)
+    go : (t u : Bool) → leb n 11 ≡ t → eqb n 22 ≡ u → (t || u || eqb n 24) ≡ true → X
+    go true u q r p = low (leb-true n 11 q)
+    go false true q r p = release (eqb-true n 22 r)
+    go false false q r p = last (eqb-true n 24 p)
 
-late-number : (n : ℕ) → 12 ≤ n → n ≤ 21 → byEleven n ≡ false
-late-number n l m = ap₂ _||_ (lt-leb n 11 (omega arith)) (ne-eqb n 22 (λ e. omega arith))
+late-number : (n : ℕ) → 12 ≤ n → (n ≡ 22 → ⊥) → (n ≡ 24 → ⊥) → byEleven n ≡ false
+late-number n l m k = ap₂ _||_ (ap₂ _||_ (lt-leb n 11 (omega arith)) (ne-eqb n 22 m)) (ne-eqb n 24 k)
 
 planner-kept : (out area : List ℕ) (n f j : ℕ) → byEleven n ≡ true → PlannerAnswers out area (record { answer = planRefused n f j; output = out; area = area })
 planner-kept out area n f j h = record {
-  number-is = early-number n h (λ l. inl (omega arith)) inr;
+  number-is = early-number n h (λ l. inl (omega arith)) (λ e. inr (inl e)) (λ e. inr (inr e));
   refusal = λ l. record {
     late-zero = refl;
     length-zero = refl;
@@ -185,7 +228,7 @@ planner-zeroed out area n f j h m = record {
     late-zero = refl;
     length-zero = refl;
     output-kept = refl;
-    area-left = record { kept = λ k. absurd (true≢false (sym k ∙ late-number n h (omega arith))); zeroed = λ k. refl };
+    area-left = record { kept = λ k. absurd (true≢false (sym k ∙ late-number n h (λ e. omega arith) (λ e. omega arith))); zeroed = λ k. refl };
   };
 }
 
@@ -214,35 +257,42 @@ plan-reading-answers out area Pass b h = go (ltb (length area) workBytes)
     go true = planner-kept out area 11 none none refl
     go false = plan-outcome-answers b out area (plan b)
 
-planner-answers : (book out area : List ℕ) → PlannerAnswers out area (planCall book out area)
+planner-answers : (book calendar out area : List ℕ) → PlannerAnswers out area (planCall book calendar out area)
 unfolding planCall readBook
-planner-answers book out area = plan-reading-answers out area (bookFault book) (bookOf book) (book-numbered book)
+planner-answers book calendar out area =
+    plan-reading-answers out area (bookFault book andThen calendarFault calendar) (bookWith book calendar) (read-numbered book calendar)
 
 -- ---- the table check
 record CheckAnswers (area : List ℕ) (o : CheckOutcome) : Type 0 where
-  number-is : (o .answer .number ≤ 11) ⊎ ((14 ≤ o .answer .number) × (o .answer .number ≤ 22))
+  number-is : (o .answer .number ≤ 11) ⊎
+      (((14 ≤ o .answer .number) × (o .answer .number ≤ 22)) ⊎ ((24 ≤ o .answer .number) × (o .answer .number ≤ 25)))
   refusal : 0 < o .answer .number → CheckRefusal area o
 
 check-kept : (area : List ℕ) (n f j : ℕ) → byEleven n ≡ true → CheckAnswers area (record { answer = checkRefused n f j; area = area })
 check-kept area n f j h = record {
-  number-is = early-number n h inl (λ e. inr (omega arith, omega arith));
+  number-is = early-number n h inl (λ e. inr (inl (omega arith, omega arith))) (λ e. inr (inr (omega arith, omega arith)));
   refusal = λ l. record { late-zero = refl; area-left = record { kept = λ k. refl; zeroed = λ k. absurd (true≢false (sym h ∙ k)) } };
+}
+
+check-zeroed : (area : List ℕ) (n f j : ℕ) → byEleven n ≡ false → (((14 ≤ n) × (n ≤ 22)) ⊎ ((24 ≤ n) × (n ≤ 25))) →
+    CheckAnswers area (record { answer = checkRefused n f j; area = workZero slots area })
+check-zeroed area n f j l is = record {
+  number-is = inr is;
+  refusal = λ z. record { late-zero = refl; area-left = record { kept = λ k. absurd (true≢false (sym k ∙ l)); zeroed = λ k. refl } };
 }
 
 check-outcome-answers : (b : Book) (s area : List ℕ) (v : Verdict) → Numbered ofTable v → CheckAnswers area (checkOutcome b s area v)
 unfolding checkOutcome
 check-outcome-answers b s area Pass h = record { number-is = inl (omega arith); refusal = λ l. absurd (omega arith) }
-check-outcome-answers b s area (Refused n f j) h =
-    let both = and-eq-true-iff (leb 14 n) (leb n 21) .0 (h .among n f j refl .1) in
-    let least = leb-true 14 n (both .0) in
-    let most = leb-true n 21 (both .1) in
-    record {
-      number-is = inr (least, omega (arith, most));
-      refusal = λ l. record {
-        late-zero = refl;
-        area-left = record { kept = λ k. absurd (true≢false (sym k ∙ late-number n (omega (arith, least)) most)); zeroed = λ k. refl };
-      };
-    }
+check-outcome-answers b s area (Refused n f j) h = go (withoutShut n) refl (h .among n f j refl .1)
+  where
+    go : (t : Bool) → withoutShut n ≡ t → (t || eqb n 25) ≡ true → CheckAnswers area (record { answer = checkRefused n f j; area = workZero slots area })
+    go true e p =
+        let both = and-eq-true-iff (leb 14 n) (leb n 21) .0 e in
+        let least = leb-true 14 n (both .0) in
+        let most = leb-true n 21 (both .1) in
+        check-zeroed area n f j (late-number n (omega (arith, least)) (λ q. omega (arith, most)) (λ q. omega (arith, most))) (inl (least, omega (arith, most)))
+    go false e p = rw (eqb-true n 25 p) (check-zeroed area 25 f j refl (inr (omega arith, omega arith)))
 
 check-reading-answers : (s area : List ℕ) (v : Verdict) (b : Book) → Numbered byEleven v → CheckAnswers area (checkReading s area (readingOf v b))
 unfolding checkReading
@@ -254,14 +304,15 @@ check-reading-answers s area Pass b h = go (ltb (length area) workBytes)
     go true = check-kept area 11 none none refl
     go false = check-outcome-answers b s area (tableFault b s) (table-numbered b s)
 
-check-answers : (book s area : List ℕ) → CheckAnswers area (checkCall book s area)
+check-answers : (book calendar s area : List ℕ) → CheckAnswers area (checkCall book calendar s area)
 unfolding checkCall readBook
-check-answers book s area = check-reading-answers s area (bookFault book) (bookOf book) (book-numbered book)
+check-answers book calendar s area =
+    check-reading-answers s area (bookFault book andThen calendarFault calendar) (bookWith book calendar) (read-numbered book calendar)
 
 pub demand-1 : Demand1
 demand-1 = record {
-  planner-number = λ book out area. planner-answers book out area .number-is;
-  planner-refusal = λ book out area. planner-answers book out area .refusal;
-  check-number = λ book table area. check-answers book table area .number-is;
-  check-refusal = λ book table area. check-answers book table area .refusal;
+  planner-number = λ book calendar out area. planner-answers book calendar out area .number-is;
+  planner-refusal = λ book calendar out area. planner-answers book calendar out area .refusal;
+  check-number = λ book calendar table area. check-answers book calendar table area .number-is;
+  check-refusal = λ book calendar table area. check-answers book calendar table area .refusal;
 }

@@ -3,7 +3,7 @@
 use mathlib.Core.Path.{_≡_, refl, sym, ap, subst, _∙_}
 use Prim.Native.Nat.{ℕ, zero, suc, _+_, _*_, _^_, _≤_, _<_}
 use mathlib.Core.Bool.{Bool, true, false}
-use mathlib.Core.List.{List, _++_}
+use mathlib.Core.List.{List, [], _++_}
 use mathlib.Core.Logic.{inl, inr}
 use native.Mathlib.Nat.{pow-le-pow-right}
 use native.Mathlib.Omega.{arith}
@@ -13,7 +13,8 @@ use Rattle.rules.specs.declared.Verdict.the-variants.{Pass}
 use Rattle.rules.specs.Walks.{if_then_else_, sumTo, listFrom, joinFrom}
 use Rattle.rules.specs.Fields.{byte, field, bytesOf, AllBytes}
 use Rattle.rules.specs.Limits.{mostJobs, mostCap}
-use Rattle.rules.specs.Book.{Job, Flow, Book, flowCount, jobCount, noFlow, noJob, flowIn, jobOf, JobInRange, FlowInRange, InRange}
+use Rattle.rules.specs.Calendar.{Calendar, calendarOf, calendarFault}
+use Rattle.rules.specs.Book.{Job, Flow, Book, withCalendar, flowCount, jobCount, noFlow, noJob, flowIn, jobOf, JobInRange, FlowInRange, InRange}
 use Rattle.rules.specs.Reading.{bookHead, versionOf, releaseSize, flowHead, jobRecord, releaseAt, jobsAt, flowStart, jobStart, jobAt, flowAt, bookOf, bookFault, readBook, jobBytes, flowBytes, flowsBytes, bookBytes}
 use Rattle.rules.specs.Reading.Reading.{read}
 use Rattle.rules.proofs.Sums.{sum-ext, sum-const, sum-le, sum-up}
@@ -298,10 +299,10 @@ module _ (v : ℕ) (b : Book) (r : InRange b) (can : Writable v b) where
     nothing-left = omega (arith, ap (flowStart (bookBytes v b)) flow-count-read, flow-start-read (flowCount b) (omega arith), book-length v b, flows-length v b);
   })
 
-  -- the bytes hold the same values
-  pub written-values : bookOf (bookBytes v b) ≡ b
+  -- the bytes hold the same values, but for the calendar, which is not in them
+  pub written-values : bookOf (bookBytes v b) ≡ withCalendar [] b
   unfolding bookOf flowIn
-  written-values = λ x. record { processors = processors-read x; flows = flows-read x }
+  written-values = λ x. record { processors = processors-read x; flows = flows-read x; calendar = [] }
     where
       s : List ℕ
       s = bookBytes v b
@@ -333,6 +334,10 @@ book-all-bytes v b =
     (bytes-append _ _ (bytes-append _ _ (bytes-append _ _ (bytes-of 4 _) (bytes-of 1 v)) (bytes-of 2 (b .processors))) (bytes-of 1 (flowCount b)))
     (bytes-join (λ f. flowBytes v (flowIn b f)) (flowCount b) 0 (λ f. flow-all-bytes v (flowIn b f)))
 
--- the encoding of values in range is a book that reads back
-pub read-written : (v : ℕ) (b : Book) → InRange b → Writable v b → readBook (bookBytes v b) ≡ read b
-read-written v b r can = pass-reads (bookBytes v b) (written-passes v b r can) ∙ ap read (written-values v b r can)
+-- the encoding of values in range is a book that reads back, with the bytes of its calendar
+pub read-written : (v : ℕ) (b : Book) (calendar : List ℕ) → InRange b → Writable v b → calendarFault calendar ≡ Pass → calendarOf calendar ≡ b .calendar →
+    readBook (bookBytes v b) calendar ≡ read b
+read-written v b calendar r can passes same =
+    pass-reads (bookBytes v b) calendar (written-passes v b r can) passes
+    ∙ ap (λ (k : Book). read (withCalendar (calendarOf calendar) k)) (written-values v b r can)
+    ∙ ap (λ (c : Calendar). read (withCalendar c b)) same

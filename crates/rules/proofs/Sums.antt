@@ -1,12 +1,12 @@
 -- Laws of sums over slots.
 -- Assumes nothing.
 use mathlib.Core.Path.{_≡_, refl, ap, sym, _∙_}
-use Prim.Native.Nat.{ℕ, zero, suc, _+_, _*_, _-_, _≤_, _<_, min}
-use native.Mathlib.Nat.{add-zero, zero-add, add-suc, add-sub-of-le, sub-add-cancel, min-zero, min-eq-left, min-eq-right, le-of-lt, le-step, not-suc-le-zero, eq-or-lt-of-le, le-of-suc-le-suc}
-use mathlib.Core.Bool.{Bool, true, false, _&&_, _||_}
-use lib.Dec.{leb, ltb, eqb}
+use Prim.Native.Nat.{ℕ, zero, suc, _+_, _*_, _-_, _≤_, _<_}
+use native.Mathlib.Nat.{add-zero, zero-add, add-suc, add-sub-of-le, sub-add-cancel, le-of-lt, not-suc-le-zero, eq-or-lt-of-le, le-of-suc-le-suc}
+use mathlib.Core.Bool.{Bool, true, false, _||_}
+use lib.Dec.{ltb, eqb}
 use mathlib.Core.Logic.{_⊎_, inl, inr}
-use borrow.Author.Tests.{leb-true, leb-false, le-leb, lt-leb, lt-ltb, le-ltb, eqb-true, eq-eqb, ne-eqb}
+use borrow.Author.Tests.{lt-ltb, le-ltb, eqb-true, eq-eqb, ne-eqb}
 use native.Mathlib.Omega.{arith}
 use Rattle.rules.specs.Walks.{if_then_else_, sumTo, bit, countTo}
 use Rattle.rules.proofs.Division.{lt-or-ge}
@@ -57,19 +57,6 @@ sum-swap f (suc m) n = omega (arith, sum-swap f m n, sum-add (λ t. sumTo (λ i.
 pub sum-up : (f : ℕ → ℕ) {m n : ℕ} → m ≤ n → sumTo f m ≤ sumTo f n
 sum-up f {m} {n} h = rw (← add-sub-of-le h) (omega (arith, sum-split f m (n - m)))
 
-pub count-all : (n : ℕ) → countTo (λ t. true) n ≡ n
-count-all n = omega (arith, sum-const 1 n)
-
--- the slots from R on
-pub count-from : (R n : ℕ) → countTo (λ t. leb R t) n ≡ n - R
-unfolding sumTo
-count-from R zero = omega arith
-count-from R (suc n) = go (leb R n) refl (count-from R n)
-  where
-    go : (b : Bool) → leb R n ≡ b → countTo (λ t. leb R t) n ≡ n - R → countTo (λ t. leb R t) n + bit (leb R n) ≡ suc n - R
-    go true e ih = rw e (omega (arith, leb-true R n e))
-    go false e ih = rw e (omega (arith, leb-false R n e))
-
 -- one term is at most the sumTo
 pub le-sum : (f : ℕ → ℕ) (n k : ℕ) → k < n → f k ≤ sumTo f n
 unfolding sumTo
@@ -109,19 +96,6 @@ count-once p (suc n) h = go (p n) refl (count-once p n h)
 
 pub sum-sub : (f g : ℕ → ℕ) (n : ℕ) → ((t : ℕ) → t < n → f t ≤ g t) → sumTo (λ t. g t - f t) n ≡ sumTo g n - sumTo f n
 sum-sub f g n h = omega (arith, sum-add (λ t. g t - f t) f n, sum-ext (λ t. g t - f t + f t) g n (λ t l. sub-add-cancel (h t l)))
-
--- the open slots from R on
-pub count-open : (o : ℕ → Bool) (R n : ℕ) → countTo (λ t. leb R t && o t) n + countTo o (min R n) ≡ countTo o n
-unfolding sumTo
-count-open o R zero = rw (min-zero R) refl
-count-open o R (suc n) = go (lt-or-ge n R) (count-open o R n)
-  where
-    go : (n < R) ⊎ (R ≤ n) → countTo (λ t. leb R t && o t) n + countTo o (min R n) ≡ countTo o n →
-        countTo (λ t. leb R t && o t) n + bit (leb R n && o n) + countTo o (min R (suc n)) ≡ countTo o n + bit (o n)
-    go (inl l) ih =
-        omega (arith, ap (λ (c : Bool). bit (c && o n)) (lt-leb R n l), ap (countTo o) (min-eq-right (le-of-lt l)), ap (countTo o) (min-eq-right l))
-    go (inr l) ih =
-        omega (arith, ap (λ (c : Bool). bit (c && o n)) (le-leb R n l), ap (countTo o) (min-eq-left l), ap (countTo o) (min-eq-left (le-step l)))
 
 -- nothing from D on
 pub sum-quiet : (f : ℕ → ℕ) (D N : ℕ) → ((t : ℕ) → D ≤ t → f t ≡ 0) → sumTo f N ≤ sumTo f D

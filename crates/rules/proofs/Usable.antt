@@ -1,43 +1,94 @@
--- The slots that a flow can use, those from its release on, and the processors that are free for it there. Assumes nothing.
-use mathlib.Core.Path.{_≡_, refl}
-use Prim.Native.Nat.{ℕ, _-_, _≤_, _<_}
-use mathlib.Core.Bool.{Bool, true, false}
-use mathlib.Core.List.{List}
+-- The slots that a flow can use, the open ones from its release on, and the processors that are free for it there. Assumes nothing.
+use mathlib.Core.Path.{_≡_, refl, sym, _∙_}
+use Prim.Native.Nat.{ℕ, zero, suc, _+_, _-_, _≤_, _<_}
+use mathlib.Core.Bool.{Bool, true, false, _&&_, true≢false}
+use mathlib.Core.List.{List, []}
+use mathlib.Core.Logic.{_⊎_, inl, inr}
 use native.Mathlib.Omega.{arith}
+use lib.Dec.{leb}
 use borrow.Author.Tests.{leb-true, le-leb, lt-leb}
-use Rattle.rules.specs.Walks.{if_then_else_, countTo}
-use Rattle.rules.specs.Book.{Flow, Book, flowOf}
+use Rattle.rules.specs.Walks.{if_then_else_, sumTo, bit, countTo}
+use Rattle.rules.specs.Calendar.{isOpen, openBefore}
+use Rattle.rules.specs.Book.{Flow, Book, flowOf, usable}
 use Rattle.rules.specs.Rows.{Row, usedIn}
-use Rattle.rules.specs.Placing.{usable, freeProcessors}
-use Rattle.rules.proofs.Sums.{count-from}
+use Rattle.rules.specs.Placing.{freeProcessors}
+use Rattle.rules.proofs.Division.{lt-or-ge}
+use Rattle.rules.proofs.OpenSlots.{open-none, open-next, open-mono}
 
-pub released : (w : Flow) (t : ℕ) → usable w t ≡ true → w .release ≤ t
-unfolding usable
-released w t e = leb-true (w .release) t e
+both-true : (x y : Bool) → (x && y) ≡ true → (x ≡ true) × (y ≡ true)
+both-true true y e = (refl, e)
+both-true false y e = absurd (true≢false (sym e))
 
-pub usable-from : (w : Flow) (t : ℕ) → w .release ≤ t → usable w t ≡ true
-unfolding usable
-usable-from w t h = le-leb (w .release) t h
+-- in a book without windows every slot is open
+pub always-open : (b : Book) (t : ℕ) → b .calendar ≡ [] → isOpen (b .calendar) t ≡ true
+always-open b t e = rw e (unfold isOpen in refl)
 
--- how many of the slots before t it can use
-pub count-usable : (w : Flow) (t : ℕ) → countTo (usable w) t ≡ t - w .release
-unfolding usable
-count-usable w t = count-from (w .release) t
+module _ (b : Book) (w : Flow) (t : ℕ) where
+  pub usable-open : usable b w t ≡ true → isOpen (b .calendar) t ≡ true
+  unfolding usable
+  usable-open e = both-true _ _ e .0
+
+  pub released : usable b w t ≡ true → w .release ≤ t
+  unfolding usable
+  released e = leb-true (w .release) t (both-true (isOpen (b .calendar) t) (leb (w .release) t) e .1)
+
+  -- from the release on the usable slots are the open ones
+  pub usable-released : w .release ≤ t → usable b w t ≡ isOpen (b .calendar) t
+  unfolding usable
+  usable-released h = rw (le-leb (w .release) t h) (alone (isOpen (b .calendar) t))
+    where
+      alone : (x : Bool) → (x && true) ≡ x
+      alone true = refl
+      alone false = refl
+
+  pub usable-from : isOpen (b .calendar) t ≡ true → w .release ≤ t → usable b w t ≡ true
+  usable-from o h = usable-released h ∙ o
+
+  pub not-released : t < w .release → usable b w t ≡ false
+  unfolding usable
+  not-released h = rw (lt-leb (w .release) t h) (no (isOpen (b .calendar) t))
+    where
+      no : (x : Bool) → (x && false) ≡ false
+      no true = refl
+      no false = refl
+
+  pub shut-unusable : isOpen (b .calendar) t ≡ false → usable b w t ≡ false
+  unfolding usable
+  shut-unusable e = rw e refl
+
+-- how many of the slots before t it can use: the open ones without those before the release
+module _ (b : Book) (w : Flow) where
+  pub count-usable : (t : ℕ) → countTo (usable b w) t ≡ openBefore (b .calendar) t - openBefore (b .calendar) (w .release)
+  unfolding sumTo
+  count-usable zero = omega (arith, open-none (b .calendar))
+  count-usable (suc t) = go (lt-or-ge t (w .release)) (count-usable t)
+    where
+      go : (t < w .release) ⊎ (w .release ≤ t) → countTo (usable b w) t ≡ openBefore (b .calendar) t - openBefore (b .calendar) (w .release) →
+          countTo (usable b w) t + bit (usable b w t) ≡ openBefore (b .calendar) (suc t) - openBefore (b .calendar) (w .release)
+      go (inl l) ih = rw (not-released b w t l) (omega (arith, open-mono (b .calendar) l, open-next (b .calendar) t))
+      go (inr l) ih = rw (usable-released b w t l) (omega (arith, open-next (b .calendar) t, open-mono (b .calendar) l))
 
 module _ (b : Book) (f : ℕ) (rows : List Row) (t : ℕ) where
   -- in a slot that the flow can use, all that the rows before leave
-  pub free-from-release : flowOf b f .release ≤ t → freeProcessors b f rows t ≡ b .processors - usedIn rows t
+  pub free-usable : usable b (flowOf b f) t ≡ true → freeProcessors b f rows t ≡ b .processors - usedIn rows t
   unfolding freeProcessors
-  free-from-release h = rw (usable-from (flowOf b f) t h) refl
+  free-usable h = rw h refl
+
+  pub none-free : usable b (flowOf b f) t ≡ false → freeProcessors b f rows t ≡ 0
+  unfolding freeProcessors
+  none-free h = rw h refl
+
+  -- .. in a book without windows, from the release on
+  pub free-from-release : b .calendar ≡ [] → flowOf b f .release ≤ t → freeProcessors b f rows t ≡ b .processors - usedIn rows t
+  free-from-release e h = free-usable (usable-from b (flowOf b f) t (always-open b t e) h)
 
   pub none-free-before : t < flowOf b f .release → freeProcessors b f rows t ≡ 0
-  unfolding freeProcessors usable
-  none-free-before h = rw (lt-leb (flowOf b f .release) t h) refl
+  none-free-before h = none-free (not-released b (flowOf b f) t h)
 
   -- in no slot more
   pub free-within : freeProcessors b f rows t ≤ b .processors - usedIn rows t
   unfolding freeProcessors
-  free-within = go (usable (flowOf b f) t)
+  free-within = go (usable b (flowOf b f) t)
     where
       go : (c : Bool) → (if c then b .processors - usedIn rows t else 0) ≤ b .processors - usedIn rows t
       go true = omega arith

@@ -15,8 +15,9 @@ use Rattle.rules.specs.Walks.{if_then_else_}
 use Rattle.rules.specs.Fields.{byte, field}
 use Rattle.rules.specs.Answers.{none}
 use Rattle.rules.specs.Limits.{outside, mostDeadline, mostJobs}
-use Rattle.rules.specs.Book.{Book, flowCount, flowIn, lowerCaps, flowOf}
-use Rattle.rules.specs.Reading.{versionOf, releaseSize, releaseAt, jobsAt, flowStart, flowHeadFault, bookOf, read, readBook, bookBytes}
+use Rattle.rules.specs.Calendar.{calendarOf}
+use Rattle.rules.specs.Book.{Book, flowCount, flowIn, lowerCaps, flowOf, InRange}
+use Rattle.rules.specs.Reading.{versionOf, releaseSize, releaseAt, jobsAt, flowStart, flowHeadFault, bookWith, read, readBook, bookBytes}
 use Rattle.rules.specs.Planner.{planCall}
 use Rattle.rules.specs.Check.{checkCall}
 use Rattle.rules.specs.Demands.{Version1Kept}
@@ -50,11 +51,11 @@ head-fault-one s f at e = rw (release-at-zero s at e, jobs-at-two s at e, e) (go
     go zero = refl
     go (suc d) = rw (lt-leb (suc d) 0 (omega arith)) refl
 
-module _ (book : List ℕ) (b : Book) (e : readBook book ≡ read b) where
+module _ (book calendar : List ℕ) (b : Book) (e : readBook book calendar ≡ read b) where
   pub read-release-zero : versionOf book ≡ 1 → (f : ℕ) → f < flowCount b → flowOf b f .release ≡ 0
-  unfolding lowerCaps flowOf
+  unfolding lowerCaps flowOf flowIn
   read-release-zero one f l =
-      let same : b ≡ bookOf book = read-passes book b e .1 in
+      let same : b ≡ bookWith book calendar = read-passes book calendar b e .is-book in
       ap (λ (c : Book). flowIn c f .release) same
       ∙ ap (λ w. w .release) (flow-in-book book f (omega (arith, ap flowCount same, flow-count book)))
       ∙ release-of-flow book (flowStart book f) ∙ release-at-zero book (flowStart book f) one
@@ -65,21 +66,32 @@ module _ (book : List ℕ) (b : Book) (e : readBook book ≡ read b) where
   read-writable = record { version-known = known; release-fits = fits known }
     where
       known : Known (versionOf book)
-      known = book-passes book (read-passes book b e .0) .version-known
+      known = book-passes book (read-passes book calendar b e .book-passes) .version-known
 
       fits : Known (versionOf book) → (f : ℕ) → f < flowCount b → flowIn b f .release < 256 ^ releaseSize (versionOf book)
       fits (inl one) f l = rw one (omega (arith, read-release-zero one f l))
-      fits (inr two) f l = rw two (writable-two b (read-in-range book b e) .release-fits f l)
+      fits (inr two) f l = rw two (writable-two b (read-in-range book calendar b e) .release-fits f l)
+
+  -- the calendar is that of the bytes beside the book
+  pub read-calendar : calendarOf calendar ≡ b .calendar
+  read-calendar = sym (ap (λ (c : Book). c .calendar) (read-passes book calendar b e .is-book))
+
+  -- another book with this calendar reads back beside the same bytes
+  pub read-beside : (v : ℕ) (c : Book) → InRange c → Writable v c → c .calendar ≡ b .calendar → readBook (bookBytes v c) calendar ≡ read c
+  read-beside v c r can same = read-written v c calendar r can (read-passes book calendar b e .calendar-passes) (read-calendar ∙ sym same)
 
   -- the version 2 book with these values reads alike
-  pub same-reading : readBook book ≡ readBook (bookBytes 2 b)
-  same-reading = let r = read-in-range book b e in e ∙ sym (read-written 2 b r (writable-two b r))
+  pub version-2-reads : readBook (bookBytes 2 b) calendar ≡ read b
+  version-2-reads = let r = read-in-range book calendar b e in read-beside 2 b r (writable-two b r) refl
+
+  pub same-reading : readBook book calendar ≡ readBook (bookBytes 2 b) calendar
+  same-reading = e ∙ sym version-2-reads
 
 -- a version 1 book has every former result: that of the version 2 book with every release 0
 pub version-1-kept : Version1Kept
 unfolding Version1Kept planCall checkCall
-version-1-kept book b e one = record {
-  release-zero = read-release-zero book b e one;
-  same-plan = λ out area. rw (same-reading book b e) refl;
-  same-check = λ table area. rw (same-reading book b e) refl;
+version-1-kept book calendar b e one = record {
+  release-zero = read-release-zero book calendar b e one;
+  same-plan = λ out area. rw (same-reading book calendar b e) refl;
+  same-check = λ table area. rw (same-reading book calendar b e) refl;
 }

@@ -17,17 +17,17 @@ use Rattle.rules.proofs.Walks.{join-ext, join-length, join-split}
 use Rattle.rules.proofs.Fields.{bytes-length, field-between}
 
 -- the pairs of n slots from s on, with g t in slot t
-abbrev pairs : (ℕ → ℕ) → ℕ → ℕ → List ℕ
+abbrev pub pairs : (ℕ → ℕ) → ℕ → ℕ → List ℕ
 pairs g n s = joinFrom (λ t. bytesOf 2 (g t)) n s
 
-pairs-length : (g : ℕ → ℕ) (n s : ℕ) → length (pairs g n s) ≡ 2 * n
+pub pairs-length : (g : ℕ → ℕ) (n s : ℕ) → length (pairs g n s) ≡ 2 * n
 pairs-length g n s =
     join-length (λ t. bytesOf 2 (g t)) n s
     ∙ sum-ext (λ k. length (bytesOf 2 (g (s + k)))) (λ k. 2) n (λ k l. bytes-length 2 (g (s + k)))
     ∙ sum-const 2 n
 
 -- a slot's pair between those before it and those after it
-pairs-around : (g : ℕ → ℕ) (n t : ℕ) → t < n → pairs g n 0 ≡ pairs g t 0 ++ bytesOf 2 (g t) ++ pairs g (n - suc t) (suc t)
+pub pairs-around : (g : ℕ → ℕ) (n t : ℕ) → t < n → pairs g n 0 ≡ pairs g t 0 ++ bytesOf 2 (g t) ++ pairs g (n - suc t) (suc t)
 unfolding joinFrom
 pairs-around g n t l =
     let e : n ≡ t + suc (n - suc t) = omega arith in

@@ -85,9 +85,9 @@ schedule-late-means b range σ v s f l =
 
 pub write-back : WriteBack
 write-back = record {
-  of-plans = λ book b reads rows e f l.
-      let range = read-in-range book b reads in
+  of-plans = λ book calendar b reads rows e f l.
+      let range = read-in-range book calendar b reads in
       subst (λ r. LateMeans b (scheduleOf rows) f (finishOf r f)) (sym (planned-rows-are-schedule-rows b range rows e))
       (schedule-late-means b range (scheduleOf rows) (planned-valid b range rows e) (planned-in-slots b range rows e) f l);
-  of-schedules = λ book b reads. schedule-late-means b (read-in-range book b reads);
+  of-schedules = λ book calendar b reads. schedule-late-means b (read-in-range book calendar b reads);
 }

@@ -1,10 +1,11 @@
 -- The values of an order book ("book" is document 01's word). Assumes nothing.
-use Prim.Native.Nat.{ℕ, _/_, _%_, _^_, _<_, _≤_, min}
-use mathlib.Core.Bool.{Bool}
+use Prim.Native.Nat.{ℕ, _*_, _/_, _%_, _^_, _<_, _≤_, min}
+use mathlib.Core.Bool.{Bool, _&&_}
 use mathlib.Core.List.{List, [], map}
 use lib.ListN.{length, getD}
-use lib.Dec.{eqb}
+use lib.Dec.{leb, eqb}
 use Rattle.rules.specs.Limits.{mostProcessors, mostFlows, mostDeadline, mostJobs, mostSize, mostCap}
+use Rattle.rules.specs.Calendar.{Calendar, isOpen, openBefore, CalendarInRange}
 
 -- "each job: size in processor-slots (4), cap (2), predecessors (8)"
 pub record Job : Type 0 where
@@ -19,10 +20,16 @@ pub record Flow : Type 0 where
   pub release : ℕ
   pub jobs : List Job
 
--- "processors P (2), flows (1); then each flow"
+-- "processors P (2), flows (1); then each flow"; "A calendar goes with the book" (02, Req 07): its bytes are not the book's, and a book that is read
+-- from its own bytes alone has no windows
 pub record Book : Type 0 where
   pub processors : ℕ
   pub flows : List Flow
+  pub calendar : Calendar
+
+-- the same book with another calendar
+abbrev pub withCalendar : Calendar → Book → Book
+withCalendar c b = record { processors = b .processors; flows = b .flows; calendar = c }
 
 abbrev pub flowCount : Book → ℕ
 flowCount b = length (b .flows)
@@ -59,7 +66,7 @@ flowOf b f = lowerCaps (b .processors) (flowIn b f)
 
 -- the same book with each cap lowered to P
 unfoldable pub lowered : Book → Book
-lowered b = record { processors = b .processors; flows = map (lowerCaps (b .processors)) (b .flows) }
+lowered b = record { processors = b .processors; flows = map (lowerCaps (b .processors)) (b .flows); calendar = b .calendar }
 
 -- ---- precedence
 -- "Bit k of the predecessor field, bit 0 the lowest, says that job k of the same flow must be complete first."
@@ -70,7 +77,15 @@ hasBit p k = eqb (p / 2 ^ k % 2) 1
 abbrev pub precedes : Flow → ℕ → ℕ → Bool
 precedes w k i = hasBit (jobOf w i .predecessors) k
 
--- ---- the ranges: what the tests 3, 4, 6 to 10 and 22 leave. A cap reaches from 1 to 65,535 as it stands, and to P as it is used.
+-- ---- the slots that a flow may use: "Placing starts at the release" (02, Req 01), and "Shut slots are passed over" (02, Req 07)
+unfoldable pub usable : Book → Flow → ℕ → Bool
+usable b w t = isOpen (b .calendar) t && leb (w .release) t
+
+-- "Twice the deadline now means twice the number of open slots before the deadline" (02, Req 07)
+unfoldable pub twiceDeadline : Book → Flow → ℕ
+twiceDeadline b w = 2 * openBefore (b .calendar) (w .deadline)
+
+-- ---- the ranges: what the tests 3, 4, 6 to 10, 22 and 24 leave. A cap reaches from 1 to 65,535 as it stands, and to P as it is used.
 pub record JobInRange (capMost i : ℕ) (j : Job) : Type 0 where
   pub size-least : 1 ≤ j .size
   pub size-most : j .size ≤ mostSize
@@ -92,3 +107,4 @@ pub record InRange (b : Book) : Type 0 where
   pub processors-most : b .processors ≤ mostProcessors
   pub flows-most : flowCount b ≤ mostFlows
   pub each-flow : (f : ℕ) → f < flowCount b → FlowInRange mostCap (flowIn b f)
+  pub calendar-in-range : CalendarInRange (b .calendar)

@@ -1,4 +1,5 @@
--- The table check: refusals 14 to 21 in the order of document 01, and a call's answer and work area for every book, table and work area.
+-- The table check: refusals 14 to 21 and 25 in the order of documents 01 and 02, and a call's answer and work area for every book, calendar, table and
+-- work area.
 -- Assumes nothing.
 use Prim.Native.Nat.{ℕ, zero, suc, _+_, _*_, _-_, _/_, _%_}
 use mathlib.Core.Bool.{Bool, true, not, _&&_, _||_}
@@ -12,6 +13,7 @@ use Rattle.rules.specs.Walks.{if_then_else_, anyTo, listFrom}
 use Rattle.rules.specs.Fields.{byte, field}
 use Rattle.rules.specs.Answers.{none, _andThen_, firstFault, checkAccepted, checkRefused}
 use Rattle.rules.specs.Limits.{slots, workBytes}
+use Rattle.rules.specs.Calendar.{isOpen}
 use Rattle.rules.specs.Book.{Book, flowCount, jobCount, flowOf, jobOf, precedes}
 use Rattle.rules.specs.Reading.{Reading, read, unread, readBook}
 use Rattle.rules.specs.Service.{servedBefore}
@@ -33,7 +35,7 @@ tableHeadFault b s =
     || not (eqb ((length s - tableHead b) % rowLength) 0)
     then Refused 14 none none else Pass
 
--- ---- 15 to 19, for each row
+-- ---- 15 to 19 and 25, for each row
 -- "Rows stand by service order of the flow, then slot, then job, all strictly rising."
 unfoldable pub rowBefore : Book → Row → Row → Bool
 rowBefore b q r =
@@ -59,16 +61,18 @@ lacksPredecessor b soFar r =
 unfoldable pub beforeRelease : Book → Row → Bool
 beforeRelease b r = ltb (r .slot) (flowOf b (r .flow) .release)
 
--- 15: "row's slot above 8,191, flow or job not in the book, or 0 processors"; 16: "row not after the one before it"; 17: "more than the
+-- 15: "row's slot above 8,191, flow or job not in the book, or 0 processors"; "25 when a row uses a shut slot, between 15 and 16, with the row's place"
+-- (02, Req 07), by a test of the slots that are open; 16: "row not after the one before it"; 17: "more than the
 -- cap", lowered to P (02, Req 02); 18: "more than P used in the slot by the rows so far, this one counted"; 19. The place is that of the row.
-unfoldable pub rowFault : Book → List Row → ℕ → Verdict
-rowFault b rows k =
+unfoldable pub rowFault : Book → (ℕ → Bool) → List Row → ℕ → Verdict
+rowFault b opened rows k =
     let r = getD rows k noRow in
     let soFar = take k rows in
     if leb slots (r .slot)
     || leb (flowCount b) (r .flow)
     || leb (jobCount (flowOf b (r .flow))) (r .job)
     || eqb (r .processors) 0 then Refused 15 (r .flow) (r .job)
+    else if not (opened (r .slot)) then Refused 25 (r .flow) (r .job)
     else if not (rises b rows k) then Refused 16 (r .flow) (r .job)
     else if ltb (jobOf (flowOf b (r .flow)) (r .job) .cap) (r .processors) then Refused 17 (r .flow) (r .job)
     else if ltb (b .processors) (usedIn soFar (r .slot) + r .processors) then Refused 18 (r .flow) (r .job)
@@ -88,11 +92,12 @@ statedFinish s f = field 2 s (8 + 2 * f)
 unfoldable pub finishFault : List ℕ → List Row → ℕ → Verdict
 finishFault s rows f = if eqb (statedFinish s f) (finishOf rows f) then Pass else Refused 21 f none
 
--- ---- the check of a table against a book: "14, then 15 to 19 in order for each row, then 20, 21; the first fault met ends the walk"
+-- ---- the check of a table against a book: "14, then 15 to 19 in order for each row, then 20, 21; the first fault met ends the walk", 25
+-- between 15 and 16
 unfoldable pub tableFault : Book → List ℕ → Verdict
 tableFault b s =
     tableHeadFault b s
-    andThen firstFault (rowFault b (tableRows b s)) (length (tableRows b s))
+    andThen firstFault (rowFault b (isOpen (b .calendar)) (tableRows b s)) (length (tableRows b s))
     andThen firstFault (λ f. firstFault (totalFault b (tableRows b s) f) (jobCount (flowOf b f))) (flowCount b)
     andThen firstFault (finishFault s (tableRows b s)) (flowCount b)
 
@@ -105,7 +110,7 @@ unfoldable pub checkOutcome : Book → List ℕ → List ℕ → Verdict → Che
 checkOutcome b s area (Refused n f j) = record { answer = checkRefused n f j; area = workZero slots area }
 checkOutcome b s area Pass = record { answer = checkAccepted (lateFlows b (tableRows b s)); area = workUsed slots (tableRows b s) area }
 
--- 1 to 10 and 22 by the reading, then 11, then the table
+-- 1 to 10, 22 and 24 by the reading, then 11, then the table
 unfoldable pub checkReading : List ℕ → List ℕ → Reading → CheckOutcome
 checkReading s area (unread n f j) = record { answer = checkRefused n f j; area = area }
 checkReading s area (read b) =
@@ -113,5 +118,5 @@ checkReading s area (read b) =
     then record { answer = checkRefused 11 none none; area = area }
     else checkOutcome b s area (tableFault b s)
 
-unfoldable pub checkCall : List ℕ → List ℕ → List ℕ → CheckOutcome
-checkCall book s area = checkReading s area (readBook book)
+unfoldable pub checkCall : List ℕ → List ℕ → List ℕ → List ℕ → CheckOutcome
+checkCall book calendar s area = checkReading s area (readBook book calendar)

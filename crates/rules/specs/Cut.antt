@@ -17,9 +17,10 @@ unfoldable pub keepFlows : (ℕ → Bool) → ℕ → List Flow → List Flow
 keepFlows q f [] = []
 keepFlows q f (w ∷ ws) = if q f then w ∷ keepFlows q (f + 1) ws else keepFlows q (f + 1) ws
 
--- "Cut after its first k flows in service order, k from 0 to all of them, it keeps those flows in book order"
+-- "Cut after its first k flows in service order, k from 0 to all of them, it keeps those flows in book order"; "a book that is cut keeps its calendar"
+-- (02, Req 07)
 unfoldable pub cut : Book → ℕ → Book
-cut b k = record { processors = b .processors; flows = keepFlows (amongFirst b k) 0 (b .flows) }
+cut b k = record { processors = b .processors; flows = keepFlows (amongFirst b k) 0 (b .flows); calendar = b .calendar }
 
 -- the number that flow f of the whole book has in the cut one: so many flows that are kept stand before it in the book
 unfoldable pub numberInCut : Book → ℕ → ℕ → ℕ

@@ -1,5 +1,5 @@
 -- The dispatch list (document 02, Req 03; "dispatch list" is its word): a table's rows in the order in which the dispatcher works, and a call's
--- answer, output and work area for every book, table, output and work area. Assumes nothing.
+-- answer, output and work area for every book, calendar, table, output and work area. Assumes nothing.
 use Prim.Native.Nat.{ℕ, _+_, _*_, _-_, _/_}
 use mathlib.Core.Bool.{Bool, _&&_, _||_}
 use mathlib.Core.List.{List, [], _∷_, _++_}
@@ -69,6 +69,7 @@ dispatchChecked b rows out area o =
     if eqb (o .answer .number) 0 then listOutcome b rows out area (o .area)
     else record { answer = listRefused (o .answer .number) (o .answer .flow) (o .answer .job); output = out; area = o .area }
 
--- "From a book and a table that the check accepts, write a dispatch list"
-unfoldable pub dispatchCall : List ℕ → List ℕ → List ℕ → List ℕ → DispatchOutcome
-dispatchCall book table out area = dispatchChecked (bookOf book) (tableRows (bookOf book) table) out area (checkCall book table area)
+-- "From a book and a table that the check accepts, write a dispatch list". Of the book it states P alone.
+unfoldable pub dispatchCall : List ℕ → List ℕ → List ℕ → List ℕ → List ℕ → DispatchOutcome
+dispatchCall book calendar table out area =
+    dispatchChecked (bookOf book) (tableRows (bookOf book) table) out area (checkCall book calendar table area)

@@ -3,6 +3,7 @@ pub mod Walks
 pub mod Fields
 pub mod Answers
 pub mod Limits
+pub mod Calendar
 pub mod Book
 pub mod Reading
 pub mod Ideal

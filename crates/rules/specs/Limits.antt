@@ -31,6 +31,14 @@ mostSize = 1000000
 abbrev pub mostCap : ℕ
 mostCap = 65535
 
+-- "windows (1, at most 32)" (02, Req 07)
+abbrev pub mostWindows : ℕ
+mostWindows = 32
+
+-- "reopens at slot 4,096 or sooner" (02, Req 07)
+abbrev pub mostReopening : ℕ
+mostReopening = 4096
+
 -- "slots 0 to 8,191"
 abbrev pub slots : ℕ
 slots = 8192

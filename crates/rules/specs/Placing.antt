@@ -1,11 +1,11 @@
 -- Rules 4 to 6: placing slot by slot, rows by units, infeasible books. Assumes nothing.
 use Prim.Native.Nat.{ℕ, zero, suc, _+_, _*_, _-_, min}
-use mathlib.Core.Bool.{Bool}
 use mathlib.Core.List.{List, [], _∷_, _++_}
 use lib.ListN.{take, drop, replicate, getD}
-use lib.Dec.{leb, eqb}
+use lib.Dec.{eqb}
 use Rattle.rules.specs.Walks.{if_then_else_, bit, joinFrom}
-use Rattle.rules.specs.Book.{Flow, Book, flowCount, jobCount, flowOf}
+use Rattle.rules.specs.Calendar.{slotAfter}
+use Rattle.rules.specs.Book.{Flow, Book, flowCount, jobCount, flowOf, usable, twiceDeadline}
 use Rattle.rules.specs.Ideal.{takeOf}
 use Rattle.rules.specs.PseudoJobs.{PseudoJob, chain, rate, work}
 use Rattle.rules.specs.Service.{serviceOrder}
@@ -60,18 +60,15 @@ progress w free (suc t) = let g = progress w free t in afterSlot w (g .left) (g 
 unfoldable pub flowRows : Flow → ℕ → (ℕ → ℕ) → ℕ → List Row
 flowRows w f free n = joinFrom (λ t. let g = progress w free t in slotRows w f t (g .left) (g .done) (free t)) n 0
 
--- "Placing starts at the release" (02, Req 01): the slots that a flow can use
-unfoldable pub usable : Flow → ℕ → Bool
-usable w t = leb (w .release) t
-
--- "the processors still free" in slot t for flow f, beside the rows of the flows before
+-- "the processors still free" in slot t for flow f, beside the rows of the flows before; none in a slot that it may not use
 unfoldable pub freeProcessors : Book → ℕ → List Row → ℕ → ℕ
-freeProcessors b f rows t = if usable (flowOf b f) t then b .processors - usedIn rows t else 0
+freeProcessors b f rows t = if usable b (flowOf b f) t then b .processors - usedIn rows t else 0
 
 -- ---- rule 6
--- the slots in which a flow has to be finished: slot 2 × deadline − 1 is the last
-abbrev pub slotsFor : Flow → ℕ
-slotsFor w = 2 * w .deadline
+-- the slots in which a flow has to be finished: "a flow unfinished when that many open slots from slot 0 have passed is infeasible" (02, Req 07). With no
+-- windows slot 2 × deadline − 1 is the last of them.
+unfoldable pub slotsFor : Book → Flow → ℕ
+slotsFor b w = slotAfter (b .calendar) (twiceDeadline b w)
 
 -- all rows in the order of the table, or the flow that makes the book infeasible
 pub data Plan : Type 0 where
@@ -86,8 +83,8 @@ settled f (p ∷ ps) rows = infeasible f
 -- flow f beside the rows of the flows before
 unfoldable pub placeFlow : Book → ℕ → List Row → Plan
 placeFlow b f rows =
-    settled f (progress (flowOf b f) (freeProcessors b f rows) (slotsFor (flowOf b f)) .left)
-    (rows ++ flowRows (flowOf b f) f (freeProcessors b f rows) (slotsFor (flowOf b f)))
+    settled f (progress (flowOf b f) (freeProcessors b f rows) (slotsFor b (flowOf b f)) .left)
+    (rows ++ flowRows (flowOf b f) f (freeProcessors b f rows) (slotsFor b (flowOf b f)))
 
 abbrev pub thenPlace : Plan → (List Row → Plan) → Plan
 thenPlace (planned rows) next = next rows

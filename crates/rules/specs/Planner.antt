@@ -1,4 +1,4 @@
--- A call of the planner: its answer, and the output and the work area that it leaves, for every book, output and work area. Assumes nothing.
+-- A call of the planner: its answer, and the output and the work area that it leaves, for every book, calendar, output and work area. Assumes nothing.
 use Prim.Native.Nat.{ℕ}
 use mathlib.Core.List.{List, _++_}
 use lib.ListN.{length, drop}
@@ -31,7 +31,7 @@ planOutcome b out area (planned rows) =
       area = workUsed slots rows area;
     }
 
--- 1 to 10 and 22 by the reading; then "work area too short", 11. "A fault found before or by 11 leaves the work area as it was"
+-- 1 to 10, 22 and 24 by the reading; then "work area too short", 11. "A fault found before or by 11 leaves the work area as it was"
 unfoldable pub planReading : List ℕ → List ℕ → Reading → PlanOutcome
 planReading out area (unread n f j) = record { answer = planRefused n f j; output = out; area = area }
 planReading out area (read b) =
@@ -39,5 +39,5 @@ planReading out area (read b) =
     then record { answer = planRefused 11 none none; output = out; area = area }
     else planOutcome b out area (plan b)
 
-unfoldable pub planCall : List ℕ → List ℕ → List ℕ → PlanOutcome
-planCall book out area = planReading out area (readBook book)
+unfoldable pub planCall : List ℕ → List ℕ → List ℕ → List ℕ → PlanOutcome
+planCall book calendar out area = planReading out area (readBook book calendar)

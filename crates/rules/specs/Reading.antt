@@ -1,8 +1,9 @@
--- The bytes of a book: its reading, the refusals 1 to 10 and 22 in the order of documents 01 and 02, and its encoding in either version.
+-- The bytes of a book: its reading, the refusals 1 to 10 and 22 in the order of documents 01 and 02, its encoding in either version, and its reading
+-- together with a calendar.
 -- Assumes nothing.
 use Prim.Native.Nat.{ℕ, zero, suc, _+_, _*_, _^_}
 use mathlib.Core.Bool.{not, _||_}
-use mathlib.Core.List.{List, _++_}
+use mathlib.Core.List.{List, [], _++_}
 use lib.ListN.{length}
 use lib.Dec.{ltb, leb, eqb}
 use Rattle.rules.specs.declared.Verdict.{Verdict}
@@ -11,7 +12,8 @@ use Rattle.rules.specs.Walks.{if_then_else_, listFrom, joinFrom}
 use Rattle.rules.specs.Fields.{byte, field, bytesOf}
 use Rattle.rules.specs.Answers.{none, _andThen_, firstFault}
 use Rattle.rules.specs.Limits.{outside, mostProcessors, mostFlows, mostDeadline, mostJobs, mostSize, mostCap}
-use Rattle.rules.specs.Book.{Job, Flow, Book, flowCount, jobCount, flowIn, jobOf}
+use Rattle.rules.specs.Calendar.{calendarOf, calendarFault}
+use Rattle.rules.specs.Book.{Job, Flow, Book, withCalendar, flowCount, jobCount, flowIn, jobOf}
 
 -- ---- where the records stand
 -- "length of the whole book in bytes (4 bytes), version = 1 (1), processors P (2), flows (1)"
@@ -63,7 +65,7 @@ flowAt s at = record {
 }
 
 unfoldable pub bookOf : List ℕ → Book
-bookOf s = record { processors = field 2 s 5; flows = listFrom (λ f. flowAt s (flowStart s f)) (byte s 7) 0 }
+bookOf s = record { processors = field 2 s 5; flows = listFrom (λ f. flowAt s (flowStart s f)) (byte s 7) 0; calendar = [] }
 
 -- ---- the faults
 -- "5, 6, 7 for the head": the head of flow f, which starts at `at`, is cut short; deadline out of range; job count out of range. "22 when the
@@ -104,7 +106,7 @@ bookFault s =
     else if ltb mostFlows (byte s 7) then Refused 4 none none
     else firstFault (λ f. flowFault s f (flowStart s f)) (byte s 7) andThen leftoverFault s
 
--- ---- the reading of a book: its values, or the number and place of its first fault
+-- ---- the reading of a book and the calendar that goes with it: its values, or the number and place of the first fault
 pub data Reading : Type 0 where
   read : Book → Reading
   unread : ℕ → ℕ → ℕ → Reading
@@ -113,8 +115,13 @@ abbrev pub readingOf : Verdict → Book → Reading
 readingOf Pass b = read b
 readingOf (Refused n f j) b = unread n f j
 
-unfoldable pub readBook : List ℕ → Reading
-readBook s = readingOf (bookFault s) (bookOf s)
+-- "A calendar goes with the book" (02, Req 07): the book in these bytes, with the calendar in those
+abbrev pub bookWith : List ℕ → List ℕ → Book
+bookWith s calendar = withCalendar (calendarOf calendar) (bookOf s)
+
+-- "24 when the calendar breaks its layout, after the book's checks" (02, Req 07)
+unfoldable pub readBook : List ℕ → List ℕ → Reading
+readBook s calendar = readingOf (bookFault s andThen calendarFault calendar) (bookWith s calendar)
 
 -- ---- the encoding of values in a version: "a book of its own", "under a length and flow count that fit"; caps as they stand
 unfoldable pub jobBytes : Job → List ℕ

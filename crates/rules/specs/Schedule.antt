@@ -1,13 +1,13 @@
 -- Valid schedules, whoever made them, and when a flow ends. Assumes nothing.
 use mathlib.Core.Path.{_≡_}
 use Prim.Native.Nat.{ℕ, _≤_, _<_}
-use mathlib.Core.Bool.{Bool, true, _&&_}
+use mathlib.Core.Bool.{Bool, true, false, _&&_}
 use mathlib.Core.List.{List}
 use lib.ListN.{getD}
 use lib.Dec.{eqb}
 use Rattle.rules.specs.Walks.{sumTo, joinFrom}
 use Rattle.rules.specs.Limits.{slots}
-use Rattle.rules.specs.Book.{Book, flowCount, jobCount, flowOf, jobOf, precedes}
+use Rattle.rules.specs.Book.{Book, flowCount, jobCount, flowOf, jobOf, precedes, usable}
 use Rattle.rules.specs.Service.{serviceOrder}
 use Rattle.rules.specs.Rows.{Row, rowFor, isOf, sumWhere}
 use Rattle.rules.specs.Table.{tableBytes}
@@ -34,7 +34,7 @@ inUse b σ t = sumTo (λ f. sumTo (λ i. σ f i t) (jobCount (flowOf b f))) (flo
 -- "A valid schedule gives each job a whole number of processors from 0 to its cap in each slot, at most P together, its size in total, and
 -- nothing before each predecessor has its full size in earlier slots." "It keeps the rules when it is a valid schedule with their jobs and
 -- no others." "A valid schedule, whoever made it, now has nothing before a flow's release" (02, Req 01); "everything said of schedules uses the
--- lowered cap" (02, Req 02), which is that of `flowOf`.
+-- lowered cap" (02, Req 02), which is that of `flowOf`; "open slots only, as every valid schedule now does" (02, Req 07).
 pub record Valid (b : Book) (among : ℕ → Bool) (σ : Schedule) : Type 0 where
   pub no-others : (f i t : ℕ) → (IsJob b among f i → ⊥) → σ f i t ≡ 0
   pub caps : (f i t : ℕ) → IsJob b among f i → σ f i t ≤ jobOf (flowOf b f) i .cap
@@ -45,7 +45,8 @@ pub record Valid (b : Book) (among : ℕ → Bool) (σ : Schedule) : Type 0 wher
   pub sizes : (f i : ℕ) → IsJob b among f i → sumTo (σ f i) horizon ≡ jobOf (flowOf b f) i .size
   pub precedence : (f i k t : ℕ) → IsJob b among f i → precedes (flowOf b f) k i ≡ true → 0 < σ f i t →
       sumTo (σ f k) t ≡ jobOf (flowOf b f) k .size
-  pub releases : (f i t : ℕ) → IsJob b among f i → t < flowOf b f .release → σ f i t ≡ 0
+  -- nothing before a flow's release, and nothing in a shut slot
+  pub in-usable : (f i t : ℕ) → IsJob b among f i → usable b (flowOf b f) t ≡ false → σ f i t ≡ 0
 
 -- "A flow's finish is its last used slot plus 1 in any schedule. A flow ends by its deadline, or within twice its deadline, when its finish
 -- is at most that." The finish is at most d when nothing is given from slot d on.

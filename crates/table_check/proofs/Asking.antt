@@ -25,10 +25,10 @@ use Rattle.table_check.proofs.Turns.{Going, Turn}
 use Rattle.table_check.proofs.Counting.{unset-lacks, job-few, bits-few, lacks-stops, none-lacks}
 
 -- what holds after j halvings of the bits that are asked
-pub record Asking (book table sizes caps : List ℕ) (c : Current) (from : ℕ) (totals ready work : List ℕ) (bad : Verdict) (least finish at : ℕ)
-    (r : Row) (t : Tested) (bits j : ℕ) : Type 0 where
-  pub going : Going book table sizes caps c from totals ready work bad least finish at (rowsTo (bookOf book) at)
-  pub turn : Turn (bookOf book) table (c .flow) (rowsTo (bookOf book) at) (rowFrom r) t
+pub record Asking (book : List ℕ) (opened : ℕ → Bool) (table sizes caps : List ℕ) (c : Current) (from : ℕ) (totals ready work : List ℕ) (bad : Verdict)
+    (least finish at : ℕ) (r : Row) (t : Tested) (bits j : ℕ) : Type 0 where
+  pub going : Going book opened table sizes caps c from totals ready work bad least finish at (rowsTo (bookOf book) at)
+  pub turn : Turn (bookOf book) opened table (c .flow) (rowsTo (bookOf book) at) (rowFrom r) t
   pub here : at < length table
   pub released : beforeRelease (bookOf book) (rowFrom r) ≡ false
   pub all : ℕ
@@ -41,13 +41,13 @@ lowest-lacks : (p bits j slot ready : ℕ) → bits ≡ p / 2 ^ j → lacksAt bi
 unfolding lacksAt
 lowest-lacks p bits j slot ready e = ap (λ (u : Bool). u && ltb slot ready) (bit-of-left p bits j e)
 
-module _ {book table sizes caps : List ℕ} {c : Current} {from : ℕ} {totals ready work : List ℕ} {bad : Verdict} {least finish at : ℕ} {r : Row} {t : Tested}
-    {bits : ℕ} where
-  pub asking-first : Going book table sizes caps c from totals ready work bad least finish at (rowsTo (bookOf book) at) →
-      Turn (bookOf book) table (c .flow) (rowsTo (bookOf book) at) (rowFrom r) t → at < length table →
+module _ {book : List ℕ} {opened : ℕ → Bool} {table sizes caps : List ℕ} {c : Current} {from : ℕ} {totals ready work : List ℕ} {bad : Verdict}
+    {least finish at : ℕ} {r : Row} {t : Tested} {bits : ℕ} where
+  pub asking-first : Going book opened table sizes caps c from totals ready work bad least finish at (rowsTo (bookOf book) at) →
+      Turn (bookOf book) opened table (c .flow) (rowsTo (bookOf book) at) (rowFrom r) t → at < length table →
       beforeRelease (bookOf book) (rowFrom r) ≡ false →
       bits ≡ asked (getD totals (r .job) 0) (jobOf (flowOf (bookOf book) (c .flow)) (r .job) .predecessors) →
-      Asking book table sizes caps c from totals ready work bad least finish at r t bits 0
+      Asking book opened table sizes caps c from totals ready work bad least finish at r t bits 0
   asking-first going turn here released bits-are = record {
     going = going;
     turn = turn;
@@ -59,7 +59,7 @@ module _ {book table sizes caps : List ℕ} {c : Current} {from : ℕ} {totals r
     none-so-far = λ m h. absurd (omega arith);
   }
 
-  module _ {j : ℕ} (asking : Asking book table sizes caps c from totals ready work bad least finish at r t bits j) where
+  module _ {j : ℕ} (asking : Asking book opened table sizes caps c from totals ready work bad least finish at r t bits j) where
     below-job : (bits ≡ 0 → ⊥) → j < r .job
     below-job some = left-below (asking .all) bits j (asking .left) (r .job) (bits-few (asking .going) (asking .turn) (asking .all) (asking .all-are)) some
 
@@ -70,7 +70,7 @@ module _ {book table sizes caps : List ℕ} {c : Current} {from : ℕ} {totals r
       here : lacking ≡ lacksAt (asking .all) j (r .slot) (getD ready j 0)
       here = is ∙ lowest-lacks (asking .all) bits j (r .slot) (getD ready j 0) (asking .left)
 
-      pub asking-next : lacking ≡ false → Asking book table sizes caps c from totals ready work bad least finish at r t (bits / 2) (j + 1)
+      pub asking-next : lacking ≡ false → Asking book opened table sizes caps c from totals ready work bad least finish at r t (bits / 2) (j + 1)
       asking-next none = record {
         going = asking .going;
         turn = asking .turn;
@@ -83,7 +83,7 @@ module _ {book table sizes caps : List ℕ} {c : Current} {from : ℕ} {totals r
       }
 
       pub asking-stops : (bits ≡ 0 → ⊥) → lacking ≡ true →
-          rowFault (bookOf book) (tableRows (bookOf book) table) (rowsTo (bookOf book) at) ≡ Refused 19 (r .flow) (r .job)
+          rowFault (bookOf book) opened (tableRows (bookOf book) table) (rowsTo (bookOf book) at) ≡ Refused 19 (r .flow) (r .job)
       asking-stops some lacks =
           lacks-stops (asking .going) (asking .turn) (asking .all) (asking .all-are) (asking .released) j (below-job some) (sym here ∙ lacks)
 

@@ -1,4 +1,4 @@
--- A row that has passed 15 to 18: 19 by its release and by the bits of its predecessors, room to count it, and that the next turn begins with the
+-- A row that has passed 15 to 18 and 25: 19 by its release and by the bits of its predecessors, room to count it, and that the next turn begins with the
 -- row counted. Assumes nothing.
 use mathlib.Core.Path.{_≡_, refl, sym, ap, _∙_}
 use Prim.Native.Nat.{ℕ, suc, _+_, _*_, _^_, _≤_, _<_}
@@ -62,15 +62,15 @@ shifted s m p = go (lt-or-ge m p)
     go (inl l) = le-leb (suc (s + m)) (s + p) (omega arith) ∙ sym (le-leb (m + 1) p (omega arith))
     go (inr l) = lt-leb (suc (s + m)) (s + p) (omega arith) ∙ sym (lt-leb (m + 1) p (omega arith))
 
-module _ {book table sizes caps : List ℕ} {c : Current} {from : ℕ} {totals ready work : List ℕ} {bad : Verdict} {least finish at k : ℕ}
-    (going : Going book table sizes caps c from totals ready work bad least finish at k) where
+module _ {book : List ℕ} {opened : ℕ → Bool} {table sizes caps : List ℕ} {c : Current} {from : ℕ} {totals ready work : List ℕ} {bad : Verdict}
+    {least finish at k : ℕ} (going : Going book opened table sizes caps c from totals ready work bad least finish at k) where
   abbrev b : Book
   b = bookOf book
 
   abbrev rows : List rules.Row
   rows = tableRows (bookOf book) table
 
-  module _ {r : Row} {t : Tested} (turn : Turn (bookOf book) table (c .flow) k (rowFrom r) t) where
+  module _ {r : Row} {t : Tested} (turn : Turn (bookOf book) opened table (c .flow) k (rowFrom r) t) where
     pub job-in : r .job < jobCount (flowOf (bookOf book) (c .flow))
     job-in = rw (turn .own) at (in-book-of b (rowFrom r) (turn .early .inside) .2)
 
@@ -97,18 +97,18 @@ module _ {book table sizes caps : List ℕ} {c : Current} {from : ℕ} {totals r
     settled : 0 < getD totals (r .job) 0 →
         (beforeRelease (bookOf book) (rowFrom r) ≡ false) × (lacksPredecessor (bookOf book) (take k (tableRows (bookOf book) table)) (rowFrom r) ≡ false)
     settled some =
-        started b rows k (going .reached .within) (going .reached .passed) (rowFrom r) (rw (turn .own) latest)
+        started b opened rows k (going .reached .within) (going .reached .passed) (rowFrom r) (rw (turn .own) latest)
         (rw (turn .own) (omega (arith, some, going .tally .total (r .job) job-few)))
 
     -- the release, as it is asked
     module _ {unreleased : Bool} (asked-is : unreleased ≡ askedRelease (getD totals (r .job) 0) (flowOf (bookOf book) (c .flow) .release) (r .slot)) where
-      pub unreleased-stops : unreleased ≡ true → rowFault (bookOf book) (tableRows (bookOf book) table) k ≡ Refused 19 (r .flow) (r .job)
+      pub unreleased-stops : unreleased ≡ true → rowFault (bookOf book) opened (tableRows (bookOf book) table) k ≡ Refused 19 (r .flow) (r .job)
       unfolding askedRelease beforeRelease
       unreleased-stops e = go (ltb 0 (getD totals (r .job) 0)) refl
         where
-          go : (u : Bool) → ltb 0 (getD totals (r .job) 0) ≡ u → rowFault (bookOf book) (tableRows (bookOf book) table) k ≡ Refused 19 (r .flow) (r .job)
+          go : (u : Bool) → ltb 0 (getD totals (r .job) 0) ≡ u → rowFault (bookOf book) opened (tableRows (bookOf book) table) k ≡ Refused 19 (r .flow) (r .job)
           go true d = absurd (false≢true (sym (asked-is ∙ rw d refl) ∙ e))
-          go false d = release-fault b rows k (rowFrom r) (turn .row-is) (turn .early) (turn .late) (rw (turn .own) (sym (asked-is ∙ rw d refl) ∙ e))
+          go false d = release-fault b opened rows k (rowFrom r) (turn .row-is) (turn .early) (turn .late) (rw (turn .own) (sym (asked-is ∙ rw d refl) ∙ e))
 
       pub is-released : unreleased ≡ false → beforeRelease (bookOf book) (rowFrom r) ≡ false
       unfolding askedRelease beforeRelease
@@ -138,14 +138,14 @@ module _ {book table sizes caps : List ℕ} {c : Current} {from : ℕ} {totals r
 
       -- a bit that is lacking
       pub lacks-stops : beforeRelease (bookOf book) (rowFrom r) ≡ false → (m : ℕ) → m < r .job → lacksAt bits m (r .slot) (getD ready m 0) ≡ true →
-          rowFault (bookOf book) (tableRows (bookOf book) table) k ≡ Refused 19 (r .flow) (r .job)
+          rowFault (bookOf book) opened (tableRows (bookOf book) table) k ≡ Refused 19 (r .flow) (r .job)
       lacks-stops released m h e = go first-or-none
         where
           go : ((bits ≡ 0) × (0 < getD totals (r .job) 0)) ⊎ (bits ≡ jobOf (flowOf (bookOf book) (c .flow)) (r .job) .predecessors) →
-              rowFault (bookOf book) (tableRows (bookOf book) table) k ≡ Refused 19 (r .flow) (r .job)
+              rowFault (bookOf book) opened (tableRows (bookOf book) table) k ≡ Refused 19 (r .flow) (r .job)
           go (inl none) = absurd (false≢true (sym (unset-lacks bits m (r .slot) (getD ready m 0) (no-bit bits (none .0) m)) ∙ e))
           go (inr all) =
-              lacks-fault b rows k (rowFrom r) (turn .row-is) (turn .early) (turn .late) released
+              lacks-fault b opened rows k (rowFrom r) (turn .row-is) (turn .early) (turn .late) released
               (tests ∙ any-true (λ m. lacksAt predecessors m (r .slot) (getD ready m 0)) (r .job) m h (ap (λ (p : ℕ). lacksAt p m (r .slot) (getD ready m 0)) (sym all) ∙ e))
 
       -- none is lacking: at the job's first row all were asked, and later none lacks since its first row was asked
@@ -202,11 +202,11 @@ module _ {book table sizes caps : List ℕ} {c : Current} {from : ℕ} {totals r
         cleared = ap (workZero slots) work-right ∙ used-cleared slots (soFar ++ rowFrom r ∷ []) work ∙ lent .cleared;
       }
 
-      reached-next : Reached (bookOf book) table (suc k) (at + 6) work′
+      reached-next : Reached (bookOf book) opened table (suc k) (at + 6) work′
       reached-next = record {
         at-is = omega (arith, going .reached .at-is);
         within = turn .more;
-        passed = fault-next (rowFault b rows) k (going .reached .passed) (row-passes b rows k (rowFrom r) (turn .row-is) (turn .early) (turn .late) released none);
+        passed = fault-next (rowFault b opened rows) k (going .reached .passed) (row-passes b opened rows k (rowFrom r) (turn .row-is) (turn .early) (turn .late) released none);
         use-of = rw one (used-self slots (soFar ++ rowFrom r ∷ []) work work′ work-right);
       }
 
@@ -220,7 +220,7 @@ module _ {book table sizes caps : List ℕ} {c : Current} {from : ℕ} {totals r
       least-right = rw (turn .row-is, turn .own) refl
 
       going-at : (v : Verdict) → v ≡ Pass →
-          Going book table sizes caps c from totals′ ready′ work′ v (placeOf (rowFrom r) + 1) (r .slot + 1) (at + 6) (suc k)
+          Going book opened table sizes caps c from totals′ ready′ work′ v (placeOf (rowFrom r) + 1) (r .slot + 1) (at + 6) (suc k)
       going-at v v-is = record {
         current = going .current;
         held = going .held;
@@ -243,5 +243,5 @@ module _ {book table sizes caps : List ℕ} {c : Current} {from : ℕ} {totals r
 
       -- the next turn
       pub going-next : {v : Verdict} {place : ℕ} → v ≡ Pass → place ≡ placeOf (rowFrom r) →
-          Going book table sizes caps c from totals′ ready′ work′ v (place + 1) (r .slot + 1) (at + 6) (rowsTo (bookOf book) (at + 6))
+          Going book opened table sizes caps c from totals′ ready′ work′ v (place + 1) (r .slot + 1) (at + 6) (rowsTo (bookOf book) (at + 6))
       going-next {v} v-is e = rw (e, rows-to b (at + 6) (suc k) (reached-next .at-is)) (going-at v v-is)

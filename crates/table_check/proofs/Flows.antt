@@ -41,11 +41,11 @@ use Rattle.table_check.proofs.RowFaults.{EarlyPassed, flow-unknown, ear
 use Rattle.table_check.proofs.Finals.{none-walked, stopped, flow-totals, off-found}
 
 -- ---- a flow is closed
-pub flow-closed : {book table before after totals : List ℕ} {c : Current} {from off : ℕ} {w : Stop} → CurrentFlow book c →
-    RowsWalked (bookOf book) table (c .flow) from before after totals w →
+pub flow-closed : {book : List ℕ} {opened : ℕ → Bool} {table before after totals : List ℕ} {c : Current} {from off : ℕ} {w : Stop} →
+    CurrentFlow book c → RowsWalked (bookOf book) opened table (c .flow) from before after totals w →
     offFault (c .flow) off ≡ firstFault (totalFaultBy (bookOf book) (c .flow) totals) (jobCount (flowOf (bookOf book) (c .flow))) →
-    FlowWalked (bookOf book) table (c .flow) from before after (record { verdict = w .verdict; next = w .next; finish = w .finish; off = off })
-flow-closed {book} {table} {totals = totals} {c = c} {w = w} current walked off-is = record {
+    FlowWalked (bookOf book) opened table (c .flow) from before after (record { verdict = w .verdict; next = w .next; finish = w .finish; off = off })
+flow-closed {book} {table = table} {totals = totals} {c = c} {w = w} current walked off-is = record {
   cleared = walked .cleared;
   stopped = walked .stopped;
   went = walked .went;
@@ -57,7 +57,8 @@ flow-closed {book} {table} {totals = totals} {c = c} {w = w} current walked off-
 
 -- ---- between two flows
 -- after k rows, all of which pass: every flow is closed, and the next row is another flow's than the last one, whose service key is below `least`
-pub record Between (book table : List ℕ) (x : Index) (flows : ℕ) (work₀ work off finish : List ℕ) (least at k : ℕ) : Type 0 where
+pub record Between (book : List ℕ) (opened : ℕ → Bool) (table : List ℕ) (x : Index) (flows : ℕ) (work₀ work off finish : List ℕ)
+    (least at k : ℕ) : Type 0 where
   pub indexed : Indexed book x
   pub flows-are : flows ≡ flowCount (bookOf book)
   pub headed : tableHeadFault (bookOf book) table ≡ Pass
@@ -66,7 +67,7 @@ pub record Between (book table : List ℕ) (x : Index) (flows : ℕ) (work₀ wo
   pub cleared : workZero slots work ≡ workZero slots work₀
   pub off-long : length off ≡ 64
   pub finish-long : length finish ≡ 64
-  pub reached : Reached (bookOf book) table k at work
+  pub reached : Reached (bookOf book) opened table k at work
   pub closed : Closed (bookOf book) (take k (tableRows (bookOf book) table)) off finish
   pub least-high : leastKey (bookOf book) (tableRows (bookOf book) table) k ≤ least * places
   pub least-low : least * places < leastKey (bookOf book) (tableRows (bookOf book) table) k + places
@@ -94,39 +95,40 @@ module _ {book table entry work : List ℕ} {x : Index} (ready : Ready book tabl
   first-at : 8 + 2 * x .flows ≡ tableHead (bookOf book) + rowLength * 0
   first-at = omega (arith, ready .indexed .flows)
 
-  none-reached : Reached (bookOf book) table 0 (8 + 2 * x .flows) work
-  unfolding firstFault
-  none-reached = record {
-    at-is = first-at;
-    within = omega arith;
-    passed = refl;
-    use-of = sym (used-none slots work ∙ again);
-  }
+  module _ {opened : ℕ → Bool} where
+    none-reached : Reached (bookOf book) opened table 0 (8 + 2 * x .flows) work
+    unfolding firstFault
+    none-reached = record {
+      at-is = first-at;
+      within = omega arith;
+      passed = refl;
+      use-of = sym (used-none slots work ∙ again);
+    }
 
-  between-none : Between book table x (x .flows) work work (replicate 64 0) (replicate 64 0) 0 (8 + 2 * x .flows) 0
-  unfolding leastKey
-  between-none = record {
-    indexed = ready .indexed;
-    flows-are = ready .indexed .flows;
-    headed = ready .headed;
-    room = omega (arith, ready .room, ap length from, cleared-length slots entry (ready .room));
-    work-kept = refl;
-    cleared = refl;
-    off-long = length-replicate {A = ℕ} 64 0;
-    finish-long = length-replicate {A = ℕ} 64 0;
-    reached = none-reached;
-    closed = closed-none (bookOf book) (pass-in-range book (ready .indexed .passes));
-    least-high = omega arith;
-    least-low = omega arith;
-    another = λ g h l e d. omega arith;
-  }
+    between-none : Between book opened table x (x .flows) work work (replicate 64 0) (replicate 64 0) 0 (8 + 2 * x .flows) 0
+    unfolding leastKey
+    between-none = record {
+      indexed = ready .indexed;
+      flows-are = ready .indexed .flows;
+      headed = ready .headed;
+      room = omega (arith, ready .room, ap length from, cleared-length slots entry (ready .room));
+      work-kept = refl;
+      cleared = refl;
+      off-long = length-replicate {A = ℕ} 64 0;
+      finish-long = length-replicate {A = ℕ} 64 0;
+      reached = none-reached;
+      closed = closed-none (bookOf book) (pass-in-range book (ready .indexed .passes));
+      least-high = omega arith;
+      least-low = omega arith;
+      another = λ g h l e d. omega arith;
+    }
 
-  pub between-first :
-      Between book table x (x .flows) work work (replicate 64 0) (replicate 64 0) 0 (8 + 2 * x .flows) (rowsTo (bookOf book) (8 + 2 * x .flows))
-  between-first = rw (rows-to (bookOf book) (8 + 2 * x .flows) 0 first-at) between-none
+    pub between-first :
+        Between book opened table x (x .flows) work work (replicate 64 0) (replicate 64 0) 0 (8 + 2 * x .flows) (rowsTo (bookOf book) (8 + 2 * x .flows))
+    between-first = rw (rows-to (bookOf book) (8 + 2 * x .flows) 0 first-at) between-none
 
-module _ {book table : List ℕ} {x : Index} {flows : ℕ} {work₀ work off finish : List ℕ} {least at k : ℕ}
-    (between : Between book table x flows work₀ work off finish least at k) where
+module _ {book : List ℕ} {opened : ℕ → Bool} {table : List ℕ} {x : Index} {flows : ℕ} {work₀ work off finish : List ℕ} {least at k : ℕ}
+    (between : Between book opened table x flows work₀ work off finish least at k) where
   abbrev b : Book
   b = bookOf book
 
@@ -157,8 +159,8 @@ module _ {book table : List ℕ} {x : Index} {flows : ℕ} {work₀ work off fin
     entry-cleared : (after : List ℕ) → workZero slots after ≡ workZero slots work → workZero slots after ≡ workZero slots entry
     entry-cleared after e = e ∙ between .cleared ∙ ap (workZero slots) from ∙ cleared-twice slots entry
 
-    table-stops : {after : List ℕ} {n fl jb : ℕ} {v : Verdict} → v ≡ Refused n fl jb → v ≡ rowsFault (bookOf book) table →
-        workZero slots after ≡ workZero slots work → TableWalked (bookOf book) table entry after (record { verdict = v; off = off; finish = finish })
+    table-stops : {after : List ℕ} {n fl jb : ℕ} {v : Verdict} → v ≡ Refused n fl jb → v ≡ rowsFault (bookOf book) opened table →
+        workZero slots after ≡ workZero slots work → TableWalked (bookOf book) opened table entry after (record { verdict = v; off = off; finish = finish })
     table-stops {after} {n} {fl} {jb} v-is e c = record {
       verdict = e;
       cleared = entry-cleared after c;
@@ -167,13 +169,13 @@ module _ {book table : List ℕ} {x : Index} {flows : ℕ} {work₀ work off fin
     }
 
     -- no row is left
-    pub table-ends : length table ≤ at → TableWalked (bookOf book) table entry work (record { verdict = Pass; off = off; finish = finish })
+    pub table-ends : length table ≤ at → TableWalked (bookOf book) opened table entry work (record { verdict = Pass; off = off; finish = finish })
     unfolding rowsFault
     table-ends h =
         let all : k ≡ length rows = no-more-rows (between .headed) (between .reached) h in
         let whole : take k rows ≡ rows = take-all k rows (omega arith) in
         record {
-          verdict = sym (ap (firstFault (rowFault b rows)) (sym all) ∙ between .reached .passed);
+          verdict = sym (ap (firstFault (rowFault b opened rows)) (sym all) ∙ between .reached .passed);
           cleared = entry-cleared work refl;
           closed = λ p. rw whole at (between .closed);
           area = λ p.
@@ -189,19 +191,20 @@ module _ {book table : List ℕ} {x : Index} {flows : ℕ} {work₀ work off fin
     row-here : getD (tableRows (bookOf book) table) k noRow ≡ rowFrom r
     row-here = row-read (between .headed) (between .reached) here read
 
-    row-stops : (entry : List ℕ) → work₀ ≡ workZero slots entry → {n fl jb : ℕ} {v : Verdict} → v ≡ Refused n fl jb → rowFault (bookOf book) (tableRows (bookOf book) table) k ≡ Refused n fl jb →
-        TableWalked (bookOf book) table entry work (record { verdict = v; off = off; finish = finish })
+    row-stops : (entry : List ℕ) → work₀ ≡ workZero slots entry → {n fl jb : ℕ} {v : Verdict} → v ≡ Refused n fl jb →
+        rowFault (bookOf book) opened (tableRows (bookOf book) table) k ≡ Refused n fl jb →
+        TableWalked (bookOf book) opened table entry work (record { verdict = v; off = off; finish = finish })
     unfolding rowsFault
     row-stops entry from {n} {fl} {jb} v-is e =
         table-stops entry from v-is
-        (v-is ∙ sym (fault-stop (rowFault b rows) (length rows) k (Refused n fl jb) more (not-pass n fl jb) (between .reached .passed) e)) refl
+        (v-is ∙ sym (fault-stop (rowFault b opened rows) (length rows) k (Refused n fl jb) more (not-pass n fl jb) (between .reached .passed) e)) refl
 
     pub unknown-stops : (entry : List ℕ) → work₀ ≡ workZero slots entry → {v : Verdict} → v ≡ Refused 15 (r .flow) (r .job) → flows ≤ f →
-        TableWalked (bookOf book) table entry work (record { verdict = v; off = off; finish = finish })
-    unknown-stops entry from v-is h = row-stops entry from v-is (flow-unknown b rows k (rowFrom r) row-here (omega (arith, between .flows-are, flow-is)))
+        TableWalked (bookOf book) opened table entry work (record { verdict = v; off = off; finish = finish })
+    unknown-stops entry from v-is h = row-stops entry from v-is (flow-unknown b opened rows k (rowFrom r) row-here (omega (arith, between .flows-are, flow-is)))
 
     module _ (in-book : f < flows) {jobs key n : ℕ} (jobs-read : jobs ≡ getD (x .jobs) f 0) (key-read : key ≡ getD (x .deadlines) f 0 * 64 + r .flow)
-        (n-is : n ≡ earlyNumber jobs least key (rowFrom r)) where
+        (n-is : n ≡ earlyNumber jobs (opened (r .slot)) least key (rowFrom r)) where
       flow-in : r .flow < flowCount (bookOf book)
       flow-in = omega (arith, between .flows-are, flow-is)
 
@@ -226,28 +229,28 @@ module _ {book table : List ℕ} {x : Index} {flows : ℕ} {work₀ work off fin
               go′ (inr m) n = absurd (n (omega arith))
           go (inr l) = le-leb (leastKey b rows k) (serviceKey b (r .flow) * places + placeOf (rowFrom r)) (omega (arith, key-is, between .least-high)) ∙ sym (le-leb least key l)
 
-      n-right : n ≡ earlyNumber (jobCount (flowOf (bookOf book) (r .flow))) least key (rowFrom r)
+      n-right : n ≡ earlyNumber (jobCount (flowOf (bookOf book) (r .flow))) (opened (r .slot)) least key (rowFrom r)
       n-right =
-          n-is ∙ ap (λ (m : ℕ). earlyNumber m least key (rowFrom r))
+          n-is ∙ ap (λ (m : ℕ). earlyNumber m (opened (r .slot)) least key (rowFrom r))
           (jobs-read ∙ between .indexed .jobs f (omega (arith, between .flows-are)) ∙ ap (λ (g : ℕ). jobCount (flowOf (bookOf book) g)) flow-is)
 
       pub early-stops : (entry : List ℕ) → work₀ ≡ workZero slots entry → {v : Verdict} → v ≡ Refused n (r .flow) (r .job) → (n ≡ 0 → ⊥) →
-          TableWalked (bookOf book) table entry work (record { verdict = v; off = off; finish = finish })
+          TableWalked (bookOf book) opened table entry work (record { verdict = v; off = off; finish = finish })
       early-stops entry from v-is h =
           row-stops entry from v-is
-          (early-fault b rows k (rowFrom r) row-here range (between .reached .passed) least key n order flow-in n-right h)
+          (early-fault b opened rows k (rowFrom r) row-here range (between .reached .passed) least key n order flow-in n-right h)
 
       -- the flow's rows come after those so far
       module _ (none : n ≡ 0) where
-        early : EarlyPassed (bookOf book) (tableRows (bookOf book) table) k (rowFrom r)
-        early = early-passed b rows k (rowFrom r) row-here range (between .reached .passed) least key n order flow-in n-right none
+        early : EarlyPassed (bookOf book) opened (tableRows (bookOf book) table) k (rowFrom r)
+        early = early-passed b opened rows k (rowFrom r) row-here range (between .reached .passed) least key n order flow-in n-right none
 
         key-least : least ≤ key
         key-least = leb-true least key (sym (order (early .fits)) ∙ le-leb (leastKey b rows k) (rowKey b (rowFrom r)) (early .after-least))
 
         pub flow-begins : k ≡ rowsTo (bookOf book) at → {records release processors : ℕ} → records ≡ getD (x .records) f 0 →
             release ≡ flowOf (bookOf book) f .release → processors ≡ x .processors →
-            FlowBegins book table work (record { flow = f; records = records; jobs = jobs; release = release; processors = processors }) at
+            FlowBegins book opened table work (record { flow = f; records = records; jobs = jobs; release = release; processors = processors }) at
         flow-begins k-is records-are release-is processors-are = record {
           current = record {
             stands = flow-stands in-book records-are;
@@ -264,9 +267,9 @@ module _ {book table : List ℕ} {x : Index} {flows : ℕ} {work₀ work off fin
         }
 
   -- ---- the flow's rows were walked
-  module _ {f : ℕ} {after : List ℕ} {w : FlowStop} (walked : FlowWalked (bookOf book) table f at work after w) where
+  module _ {f : ℕ} {after : List ℕ} {w : FlowStop} (walked : FlowWalked (bookOf book) opened table f at work after w) where
     pub flow-stops : (entry : List ℕ) → work₀ ≡ workZero slots entry → {n fl jb : ℕ} {v : Verdict} → v ≡ w .verdict → v ≡ Refused n fl jb →
-        TableWalked (bookOf book) table entry after (record { verdict = v; off = off; finish = finish })
+        TableWalked (bookOf book) opened table entry after (record { verdict = v; off = off; finish = finish })
     flow-stops entry from {n} {fl} {jb} v-is e =
         table-stops entry from e (v-is ∙ walked .stopped (λ p. not-pass n fl jb (sym e ∙ v-is ∙ p))) (walked .cleared)
 
@@ -275,7 +278,7 @@ module _ {book table : List ℕ} {x : Index} {flows : ℕ} {work₀ work off fin
       abbrev m : ℕ
       m = rowsTo (bookOf book) (w .next)
 
-      went : WentOn (bookOf book) table f k (rowsTo (bookOf book) (w .next)) (w .next) after (w .finish)
+      went : WentOn (bookOf book) opened table f k (rowsTo (bookOf book) (w .next)) (w .next) after (w .finish)
       went = rw k-is (walked .went pass)
 
       few : f < 64
@@ -316,7 +319,7 @@ module _ {book table : List ℕ} {x : Index} {flows : ℕ} {work₀ work off fin
       another-next g h l e d = service-apart b g f h few (λ same. went .another l (e ∙ same)) d
 
       pub between-next : {key : ℕ} → key ≡ serviceKey (bookOf book) f → length after ≡ length work →
-          Between book table x flows work₀ after (set off f (w .off)) (set finish f (w .finish)) (key + 1) (w .next) (rowsTo (bookOf book) (w .next))
+          Between book opened table x flows work₀ after (set off f (w .off)) (set finish f (w .finish)) (key + 1) (w .next) (rowsTo (bookOf book) (w .next))
       between-next {key} key-is kept = record {
         indexed = between .indexed;
         flows-are = between .flows-are;

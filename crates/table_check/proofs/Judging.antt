@@ -1,7 +1,8 @@
 -- The stages of a table's judgement put together: 14, the walk over the rows, 20, 21. A stage counts where those before it pass, and the first
 -- fault is the table's; where all pass, the work area and the late flows are those of the rows. Assumes nothing.
-use mathlib.Core.Path.{_≡_, refl, sym, ap, _∙_}
+use mathlib.Core.Path.{_≡_, refl, sym, ap, _∙_, subst}
 use Prim.Native.Nat.{ℕ, _+_, _*_, _≤_, _<_}
+use mathlib.Core.Bool.{Bool}
 use mathlib.Core.List.{List}
 use native.Mathlib.Omega.{arith}
 use lib.ListN.{length}
@@ -11,17 +12,19 @@ use Rattle.rules.specs.declared.Verdict.the-variants.{Pass, Refused}
 use Rattle.rules.specs.Answers.{_andThen_, firstFault, checkAccepted, checkRefused}
 use Rattle.rules.specs.Limits.{slots, workBytes}
 use Rattle.rules.specs.Book.{Book, flowCount, jobCount, flowOf, InRange}
-use Rattle.rules.specs.Reading.{bookOf, bookFault, readBook}
+use Rattle.rules.specs.Calendar.{isOpen, calendarOf, calendarFault}
+use Rattle.rules.specs.Reading.{bookOf, bookFault, bookWith, readBook}
 use Rattle.rules.specs.Rows.{workZero}
 use Rattle.rules.specs.Check.{tableRows, tableHeadFault, totalFault, finishFault, tableFault, checkOutcome, checkReading, checkCall}
 use Rattle.rules.proofs.Faults.{not-pass, fault-stands}
-use Rattle.rules.proofs.Passing.{pass-in-range}
+use Rattle.rules.proofs.Passing.{pass-in-range, pass-reads}
+use Rattle.rules.proofs.SameUse.{with-same, faults-same, judged-same}
 use Rattle.book.specs.declared.Index.{Index}
 use Rattle.book.specs.Promise.{Indexed}
 use Rattle.table_check.specs.declared.walk.Walked.{Walked}
 use Rattle.table_check.specs.declared.Judged.{Judged}
 use Rattle.table_check.specs.Tests.{headFault}
-use Rattle.table_check.specs.Walk.{rowsFault, Ready, Closed, TableWalked, offsFault, finishFaultBy, TableJudged}
+use Rattle.table_check.specs.Walk.{rowsFault, flowTotals, Ready, Closed, TableWalked, offsFault, finishFaultBy, faultBy, TableJudged}
 use Rattle.book.specs.Late.{lateCount}
 use Rattle.table_check.proofs.Heads.{head-of-book, head-passes}
 use Rattle.table_check.proofs.Finals.{offs-same, finishes-same, late-same}
@@ -40,10 +43,10 @@ totalsFault b table = firstFault (λ f. firstFault (totalFault b (tableRows b ta
 unfoldable finishesFault : Book → List ℕ → Verdict
 finishesFault b table = firstFault (finishFault table (tableRows b table)) (flowCount b)
 
-by-stages : (b : Book) (table : List ℕ) →
-    tableFault b table ≡ (tableHeadFault b table andThen rowsFault b table andThen totalsFault b table andThen finishesFault b table)
-unfolding tableFault rowsFault totalsFault finishesFault
-by-stages b table = refl
+by-stages : (b : Book) (opened : ℕ → Bool) (table : List ℕ) →
+    faultBy b opened table ≡ (tableHeadFault b table andThen rowsFault b opened table andThen totalsFault b table andThen finishesFault b table)
+unfolding faultBy flowTotals totalsFault finishesFault
+by-stages b opened table = refl
 
 -- ---- 20 and 21 in the values of the code
 pub totals-stop : {t totals : Verdict} {n f j : ℕ} (v : Verdict) → t ≡ totals → t ≡ Refused n f j → t ≡ (totals andThen v)
@@ -58,16 +61,17 @@ module _ {book : List ℕ} {x : Index} (indexed : Indexed book x) (table : List 
   abbrev b : Book
   b = bookOf book
 
-  abbrev rest : Verdict
-  rest = rowsFault (bookOf book) table andThen totalsFault (bookOf book) table andThen finishesFault (bookOf book) table
+  abbrev rest : (ℕ → Bool) → Verdict
+  rest opened = rowsFault (bookOf book) opened table andThen totalsFault (bookOf book) table andThen finishesFault (bookOf book) table
 
   head-right : head ≡ tableHeadFault (bookOf book) table
   head-right = head-is ∙ rw (indexed .processors, indexed .flows) (head-of-book b table)
 
   -- 14
-  pub head-stops : {work : List ℕ} {n f j : ℕ} → head ≡ Refused n f j → TableJudged (bookOf book) table work work (record { verdict = head; late = 0 })
-  head-stops {work} {n} {f} {j} e = record {
-    verdict = sym (by-stages b table ∙ ap (λ (u : Verdict). u andThen rest) (sym head-right) ∙ stop-here head rest n f j e);
+  pub head-stops : {opened : ℕ → Bool} {work : List ℕ} {n f j : ℕ} → head ≡ Refused n f j →
+      TableJudged (bookOf book) opened table work work (record { verdict = head; late = 0 })
+  head-stops {opened} {work} {n} {f} {j} e = record {
+    verdict = sym (by-stages b opened table ∙ ap (λ (u : Verdict). u andThen rest opened) (sym head-right) ∙ stop-here head (rest opened) n f j e);
     cleared = refl;
     area = λ p. not-pass n f j (sym e ∙ p);
     late = λ p. not-pass n f j (sym e ∙ p);
@@ -83,14 +87,15 @@ module _ {book : List ℕ} {x : Index} (indexed : Indexed book x) (table : List 
     pub finishes-inside : 8 + 2 * x .flows ≤ length table
     finishes-inside = omega (arith, indexed .flows, head-passes b table headed .head-inside)
 
-    module _ {before after : List ℕ} {w : Walked} (walked : TableWalked (bookOf book) table before after w) where
-      after-head : tableFault (bookOf book) table ≡ (w .verdict andThen totalsFault (bookOf book) table andThen finishesFault (bookOf book) table)
+    module _ {opened : ℕ → Bool} {before after : List ℕ} {w : Walked} (walked : TableWalked (bookOf book) opened table before after w) where
+      after-head : faultBy (bookOf book) opened table ≡ (w .verdict andThen totalsFault (bookOf book) table andThen finishesFault (bookOf book) table)
       after-head =
-          by-stages b table ∙ go-on (tableHeadFault b table) rest headed
+          by-stages b opened table ∙ go-on (tableHeadFault b table) (rest opened) headed
           ∙ ap (λ (u : Verdict). u andThen totalsFault b table andThen finishesFault b table) (sym (walked .verdict))
 
-      -- 15 to 19
-      pub rows-stop : {n f j : ℕ} → w .verdict ≡ Refused n f j → TableJudged (bookOf book) table before after (record { verdict = w .verdict; late = 0 })
+      -- 15 to 19 and 25
+      pub rows-stop : {n f j : ℕ} → w .verdict ≡ Refused n f j →
+          TableJudged (bookOf book) opened table before after (record { verdict = w .verdict; late = 0 })
       rows-stop {n} {f} {j} e = record {
         verdict = sym (after-head ∙ stop-here (w .verdict) (totalsFault b table andThen finishesFault b table) n f j e);
         cleared = walked .cleared;
@@ -118,7 +123,7 @@ module _ {book : List ℕ} {x : Index} (indexed : Indexed book x) (table : List 
         pub judgement-ends : {v : Verdict} {late : ℕ} →
             v ≡ (offsFault (w .off) (x .flows) andThen firstFault (finishFaultBy table (w .finish)) (x .flows)) →
             late ≡ lateCount (x .deadlines) (w .finish) (x .flows) →
-            TableJudged (bookOf book) table before after (record { verdict = v; late = late })
+            TableJudged (bookOf book) opened table before after (record { verdict = v; late = late })
         judgement-ends {v} v-is late-is = record {
           verdict = v-is ∙ rw (totals-right, finishes-right) (sym (after-head ∙ go-on (w .verdict) (totalsFault b table andThen finishesFault b table) rows-pass));
           cleared = walked .cleared;
@@ -127,28 +132,52 @@ module _ {book : List ℕ} {x : Index} (indexed : Indexed book x) (table : List 
               ∙ late-same b range (tableRows b table) (w .off) (w .finish) closed (x .deadlines) (indexed .deadlines);
         }
 
+-- tests of the open slots that agree judge alike
+pub judged-by : {b : Book} {opened other : ℕ → Bool} {table before after : List ℕ} {j : Judged} → ((t : ℕ) → opened t ≡ other t) →
+    TableJudged b opened table before after j → TableJudged b other table before after j
+judged-by {b} {opened} {other} {table} {before} {after} {j} same judged =
+    let e : opened ≡ other = λ x t. same t x in
+    subst (λ (o : ℕ → Bool). TableJudged b o table before after j) e judged
+
 -- ---- a call
-module _ (book table area : List ℕ) where
+-- the table's first fault, by the book with its calendar
+fault-with : (book calendar table : List ℕ) → faultBy (bookOf book) (isOpen (calendarOf calendar)) table ≡ tableFault (bookWith book calendar) table
+unfolding faultBy rowsFault flowTotals tableFault
+fault-with book calendar table =
+    let opened = isOpen (calendarOf calendar) in
+    sym (faults-same (bookWith book calendar) (bookOf book) (with-same (calendarOf calendar) (bookOf book)) opened opened refl table)
+
+module _ (book calendar table area : List ℕ) where
   pub call-unread : {n f j : ℕ} → bookFault book ≡ Refused n f j →
-      checkCall book table area ≡ record { answer = checkRefused n f j; area = area }
+      checkCall book calendar table area ≡ record { answer = checkRefused n f j; area = area }
   unfolding checkCall readBook checkReading
   call-unread e = rw e refl
 
   module _ (passes : bookFault book ≡ Pass) where
-    pub call-short : length area < workBytes → checkCall book table area ≡ record { answer = checkRefused 11 255 255; area = area }
+    pub call-calendar-unread : {n f j : ℕ} → calendarFault calendar ≡ Refused n f j →
+        checkCall book calendar table area ≡ record { answer = checkRefused n f j; area = area }
     unfolding checkCall readBook checkReading
-    call-short h = rw (passes, lt-ltb (length area) workBytes h) refl
+    call-calendar-unread e = rw (passes, e) refl
 
-    module _ (room : workBytes ≤ length area) {after : List ℕ} {j : Judged} (judged : TableJudged (bookOf book) table area after j) where
-      call-read : checkCall book table area ≡ checkOutcome (bookOf book) table area (j .verdict)
-      unfolding checkCall readBook checkReading
-      call-read = rw (passes, le-ltb (length area) workBytes room, judged .verdict) refl
+    module _ (kept : calendarFault calendar ≡ Pass) where
+      pub call-short : length area < workBytes → checkCall book calendar table area ≡ record { answer = checkRefused 11 255 255; area = area }
+      unfolding checkCall checkReading
+      call-short h = rw (pass-reads book calendar passes kept, lt-ltb (length area) workBytes h) refl
 
-      pub call-refused : {n f k : ℕ} → j .verdict ≡ Refused n f k →
-          checkCall book table area ≡ record { answer = checkRefused n f k; area = workZero slots after }
-      unfolding checkOutcome
-      call-refused e = call-read ∙ rw (e, judged .cleared) refl
+      module _ (room : workBytes ≤ length area) {after : List ℕ} {j : Judged}
+          (judged : TableJudged (bookOf book) (isOpen (calendarOf calendar)) table area after j) where
+        call-read : checkCall book calendar table area ≡ checkOutcome (bookOf book) table area (j .verdict)
+        unfolding checkCall checkReading
+        call-read =
+            rw (pass-reads book calendar passes kept, le-ltb (length area) workBytes room, judged .verdict ∙ fault-with book calendar table)
+            (judged-same (bookWith book calendar) (bookOf book) (with-same (calendarOf calendar) (bookOf book)) table area
+            (tableFault (bookWith book calendar) table))
 
-      pub call-accepted : j .verdict ≡ Pass → checkCall book table area ≡ record { answer = checkAccepted (j .late); area = after }
-      unfolding checkOutcome
-      call-accepted e = call-read ∙ rw (e, judged .area e, judged .late e) refl
+        pub call-refused : {n f k : ℕ} → j .verdict ≡ Refused n f k →
+            checkCall book calendar table area ≡ record { answer = checkRefused n f k; area = workZero slots after }
+        unfolding checkOutcome
+        call-refused e = call-read ∙ rw (e, judged .cleared) refl
+
+        pub call-accepted : j .verdict ≡ Pass → checkCall book calendar table area ≡ record { answer = checkAccepted (j .late); area = after }
+        unfolding checkOutcome
+        call-accepted e = call-read ∙ rw (e, judged .area e, judged .late e) refl

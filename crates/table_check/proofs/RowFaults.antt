@@ -1,4 +1,4 @@
--- A row's verdict, test by test: what the tests in the walk say of it. The tests of 15 and 16, of 17 and 18, of 19 by the release and of 19 by the
+-- A row's verdict, test by test: what the tests in the walk say of it. The tests of 15, 25 and 16, of 17 and 18, of 19 by the release and of 19 by the
 -- predecessors stand one after the other, each group counting where those before it pass. Assumes nothing.
 use mathlib.Core.Path.{_≡_, refl, sym, ap, _∙_, subst}
 use Prim.Native.Nat.{ℕ, _+_, _≤_, _<_}
@@ -25,9 +25,10 @@ use Rattle.table_check.specs.Tally.{FlowTally}
 use Rattle.table_check.proofs.Keys.{KeyFits, rises-key}
 
 -- ---- the verdict by its tests
-abbrev verdictBy : (out falls over crowded early lacks : Bool) → ℕ → ℕ → Verdict
-verdictBy out falls over crowded early lacks f j =
+abbrev verdictBy : (out shut falls over crowded early lacks : Bool) → ℕ → ℕ → Verdict
+verdictBy out shut falls over crowded early lacks f j =
     if out then Refused 15 f j
+    else if shut then Refused 25 f j
     else if falls then Refused 16 f j
     else if over then Refused 17 f j
     else if crowded then Refused 18 f j
@@ -46,11 +47,11 @@ overCap b r = ltb (jobOf (flowOf b (r .flow)) (r .job) .cap) (r .processors)
 abbrev overUse : Book → List Row → Row → Bool
 overUse b soFar r = ltb (b .processors) (usedIn soFar (r .slot) + r .processors)
 
--- of row k, which is r
-abbrev verdictAt : Book → List Row → ℕ → Row → Verdict
-verdictAt b rows k r =
-    verdictBy (outOfBook b r) (not (rises b rows k)) (overCap b r) (overUse b (take k rows) r) (beforeRelease b r) (lacksPredecessor b (take k rows) r)
-    (r .flow) (r .job)
+-- of row k, which is r, with these slots open
+abbrev verdictAt : Book → (ℕ → Bool) → List Row → ℕ → Row → Verdict
+verdictAt b opened rows k r =
+    verdictBy (outOfBook b r) (not (opened (r .slot))) (not (rises b rows k)) (overCap b r) (overUse b (take k rows) r) (beforeRelease b r)
+    (lacksPredecessor b (take k rows) r) (r .flow) (r .job)
 
 -- the tests of a row that is in the book
 or-false : (s : Bool) → (s || false) ≡ s
@@ -87,10 +88,11 @@ key-fits b r h e =
       job-fits = omega (arith, used-in-range h (r .flow) (i .1) .jobs-most, i .2);
     }
 
--- what 15 and 16 leave of row k, which is r
-pub record EarlyPassed (b : Book) (rows : List Row) (k : ℕ) (r : Row) : Type 0 where
+-- what 15, 25 and 16 leave of row k, which is r
+pub record EarlyPassed (b : Book) (opened : ℕ → Bool) (rows : List Row) (k : ℕ) (r : Row) : Type 0 where
   pub fits : KeyFits r
   pub inside : outOfBook b r ≡ false
+  pub in-open : opened (r .slot) ≡ true
   pub rising : rises b rows k ≡ true
   pub after-least : leastKey b rows k ≤ rowKey b r
 
@@ -99,81 +101,85 @@ pub record LatePassed (b : Book) (soFar : List Row) (r : Row) : Type 0 where
   pub cap-kept : overCap b r ≡ false
   pub room-kept : overUse b soFar r ≡ false
 
-module _ (b : Book) (rows : List Row) (k : ℕ) (r : Row) (at-k : getD rows k noRow ≡ r) where
-  by-tests : rowFault b rows k ≡ verdictAt b rows k r
+module _ (b : Book) (opened : ℕ → Bool) (rows : List Row) (k : ℕ) (r : Row) (at-k : getD rows k noRow ≡ r) where
+  by-tests : rowFault b opened rows k ≡ verdictAt b opened rows k r
   unfolding rowFault
   by-tests = rw (← at-k) refl
 
   -- a row that passes has a key
-  pub passed-fits : InRange b → rowFault b rows k ≡ Pass → KeyFits r
+  pub passed-fits : InRange b → rowFault b opened rows k ≡ Pass → KeyFits r
   passed-fits h e = key-fits b r h (test-passed _ _ _ _ _ (sym by-tests ∙ e) .0)
 
-module _ (b : Book) (rows : List Row) (k : ℕ) (r : Row) (at-k : getD rows k noRow ≡ r) where
-  tests : rowFault b rows k ≡ verdictAt b rows k r
-  tests = by-tests b rows k r at-k
+module _ (b : Book) (opened : ℕ → Bool) (rows : List Row) (k : ℕ) (r : Row) (at-k : getD rows k noRow ≡ r) where
+  tests : rowFault b opened rows k ≡ verdictAt b opened rows k r
+  tests = by-tests b opened rows k r at-k
 
-  pub flow-unknown : flowCount b ≤ r .flow → rowFault b rows k ≡ Refused 15 (r .flow) (r .job)
+  pub flow-unknown : flowCount b ≤ r .flow → rowFault b opened rows k ≡ Refused 15 (r .flow) (r .job)
   flow-unknown h =
       let out : outOfBook b r ≡ true =
       rw (le-leb (flowCount b) (r .flow) h) (or-true (leb slots (r .slot)) (leb (jobCount (flowOf b (r .flow))) (r .job)) (eqb (r .processors) 0)) in
       tests ∙ rw out refl
 
-  -- 15 and 16, by a key that tells whether the row rises
-  module _ (range : InRange b) (passed : firstFault (rowFault b rows) k ≡ Pass) (least key n : ℕ)
+  -- 15, 25 and 16, by a key that tells whether the row rises
+  module _ (range : InRange b) (passed : firstFault (rowFault b opened rows) k ≡ Pass) (least key n : ℕ)
       (order : KeyFits r → leb (leastKey b rows k) (rowKey b r) ≡ leb least key) (known : r .flow < flowCount b)
-      (n-is : n ≡ earlyNumber (jobCount (flowOf b (r .flow))) least key r) where
-    n-by-tests : n ≡ (if outOfBook b r then 15 else if ltb key least then 16 else 0)
+      (n-is : n ≡ earlyNumber (jobCount (flowOf b (r .flow))) (opened (r .slot)) least key r) where
+    n-by-tests : n ≡ (if outOfBook b r then 15 else if not (opened (r .slot)) then 25 else if ltb key least then 16 else 0)
     unfolding earlyNumber
-    n-by-tests = n-is ∙ ap (λ (t : Bool). if t then 15 else if ltb key least then 16 else 0) (sym (out-of-known b r known))
+    n-by-tests = n-is ∙ ap (λ (t : Bool). if t then 15 else if not (opened (r .slot)) then 25 else if ltb key least then 16 else 0) (sym (out-of-known b r known))
 
     rises-by-key : outOfBook b r ≡ false → rises b rows k ≡ leb least key
     rises-by-key e = rises-at-key ∙ rw at-k (order (key-fits b r range e))
       where
         rises-at-key : rises b rows k ≡ leb (leastKey b rows k) (rowKey b (getD rows k noRow))
         rises-at-key =
-            rises-key b rows k (λ j h. earlier j (fault-pass (rowFault b rows) k passed j h)) (subst KeyFits (sym at-k) (key-fits b r range e))
+            rises-key b rows k (λ j h. earlier j (fault-pass (rowFault b opened rows) k passed j h)) (subst KeyFits (sym at-k) (key-fits b r range e))
           where
-            earlier : (j : ℕ) → rowFault b rows j ≡ Pass → KeyFits (getD rows j noRow)
-            earlier j d = passed-fits b rows j (getD rows j noRow) refl range d
+            earlier : (j : ℕ) → rowFault b opened rows j ≡ Pass → KeyFits (getD rows j noRow)
+            earlier j d = passed-fits b opened rows j (getD rows j noRow) refl range d
 
-    pub early-fault : (n ≡ 0 → ⊥) → rowFault b rows k ≡ Refused n (r .flow) (r .job)
-    early-fault h = go (outOfBook b r) refl (ltb key least) refl
+    pub early-fault : (n ≡ 0 → ⊥) → rowFault b opened rows k ≡ Refused n (r .flow) (r .job)
+    early-fault h = go (outOfBook b r) refl (opened (r .slot)) refl (ltb key least) refl
       where
-        go : (t : Bool) → outOfBook b r ≡ t → (u : Bool) → ltb key least ≡ u → rowFault b rows k ≡ Refused n (r .flow) (r .job)
-        go true e u d = tests ∙ rw (e, n-by-tests, e) refl
-        go false e true d =
+        go : (t : Bool) → outOfBook b r ≡ t → (o : Bool) → opened (r .slot) ≡ o → (u : Bool) → ltb key least ≡ u →
+            rowFault b opened rows k ≡ Refused n (r .flow) (r .job)
+        go true e o s u d = tests ∙ rw (e, n-by-tests, e) refl
+        go false e false s u d = tests ∙ rw (e, s, n-by-tests, e, s) refl
+        go false e true s true d =
             let falls : rises b rows k ≡ false = rises-by-key e ∙ lt-leb least key (ltb-true key least d) in
-            tests ∙ rw (e, falls, n-by-tests, e, d) refl
-        go false e false d = absurd (h (n-by-tests ∙ rw (e, d) refl))
+            tests ∙ rw (e, s, falls, n-by-tests, e, s, d) refl
+        go false e true s false d = absurd (h (n-by-tests ∙ rw (e, s, d) refl))
 
-    pub early-passed : n ≡ 0 → EarlyPassed b rows k r
-    early-passed h = go (outOfBook b r) refl (ltb key least) refl
+    pub early-passed : n ≡ 0 → EarlyPassed b opened rows k r
+    early-passed h = go (outOfBook b r) refl (opened (r .slot)) refl (ltb key least) refl
       where
-        go : (t : Bool) → outOfBook b r ≡ t → (u : Bool) → ltb key least ≡ u → EarlyPassed b rows k r
-        go true e u d = absurd (let z : n ≡ 15 = n-by-tests ∙ rw e refl in omega arith)
-        go false e true d = absurd (let z : n ≡ 16 = n-by-tests ∙ rw (e, d) refl in omega arith)
-        go false e false d =
+        go : (t : Bool) → outOfBook b r ≡ t → (o : Bool) → opened (r .slot) ≡ o → (u : Bool) → ltb key least ≡ u → EarlyPassed b opened rows k r
+        go true e o s u d = absurd (let z : n ≡ 15 = n-by-tests ∙ rw e refl in omega arith)
+        go false e false s u d = absurd (let z : n ≡ 25 = n-by-tests ∙ rw (e, s) refl in omega arith)
+        go false e true s true d = absurd (let z : n ≡ 16 = n-by-tests ∙ rw (e, s, d) refl in omega arith)
+        go false e true s false d =
             let at-least : leb least key ≡ true = le-leb least key (ltb-false key least d) in
             record {
               fits = key-fits b r range e;
               inside = e;
+              in-open = s;
               rising = rises-by-key e ∙ at-least;
               after-least = leb-true (leastKey b rows k) (rowKey b r) (order (key-fits b r range e) ∙ at-least);
             }
 
   -- 17 and 18
-  module _ (early : EarlyPassed b rows k r) (used cap n : ℕ) (used-is : used ≡ usedIn (take k rows) (r .slot))
+  module _ (early : EarlyPassed b opened rows k r) (used cap n : ℕ) (used-is : used ≡ usedIn (take k rows) (r .slot))
       (cap-is : cap ≡ jobOf (flowOf b (r .flow)) (r .job) .cap) (n-is : n ≡ lateNumber cap used (b .processors) r) where
     n-by-late : n ≡ (if overCap b r then 17 else if overUse b (take k rows) r then 18 else 0)
     unfolding lateNumber
     n-by-late = n-is ∙ rw (used-is, cap-is) refl
 
-    pub late-fault : (n ≡ 0 → ⊥) → rowFault b rows k ≡ Refused n (r .flow) (r .job)
+    pub late-fault : (n ≡ 0 → ⊥) → rowFault b opened rows k ≡ Refused n (r .flow) (r .job)
     late-fault h = go (overCap b r) refl (overUse b (take k rows) r) refl
       where
-        go : (t : Bool) → overCap b r ≡ t → (u : Bool) → overUse b (take k rows) r ≡ u → rowFault b rows k ≡ Refused n (r .flow) (r .job)
-        go true e u d = tests ∙ rw (early .inside, early .rising, e, n-by-late, e) refl
-        go false e true d = tests ∙ rw (early .inside, early .rising, e, d, n-by-late, e, d) refl
+        go : (t : Bool) → overCap b r ≡ t → (u : Bool) → overUse b (take k rows) r ≡ u → rowFault b opened rows k ≡ Refused n (r .flow) (r .job)
+        go true e u d = tests ∙ rw (early .inside, early .in-open, early .rising, e, n-by-late, e) refl
+        go false e true d = tests ∙ rw (early .inside, early .in-open, early .rising, e, d, n-by-late, e, d) refl
         go false e false d = absurd (h (n-by-late ∙ rw (e, d) refl))
 
     pub late-passed : n ≡ 0 → LatePassed b (take k rows) r
@@ -185,16 +191,16 @@ module _ (b : Book) (rows : List Row) (k : ℕ) (r : Row) (at-k : getD rows k no
         go false e false d = record { cap-kept = e; room-kept = d }
 
   -- 19 by the release, then by the predecessors
-  module _ (early : EarlyPassed b rows k r) (late : LatePassed b (take k rows) r) where
-    pub release-fault : beforeRelease b r ≡ true → rowFault b rows k ≡ Refused 19 (r .flow) (r .job)
-    release-fault e = tests ∙ rw (early .inside, early .rising, late .cap-kept, late .room-kept, e) refl
+  module _ (early : EarlyPassed b opened rows k r) (late : LatePassed b (take k rows) r) where
+    pub release-fault : beforeRelease b r ≡ true → rowFault b opened rows k ≡ Refused 19 (r .flow) (r .job)
+    release-fault e = tests ∙ rw (early .inside, early .in-open, early .rising, late .cap-kept, late .room-kept, e) refl
 
     module _ (released : beforeRelease b r ≡ false) where
-      pub lacks-fault : lacksPredecessor b (take k rows) r ≡ true → rowFault b rows k ≡ Refused 19 (r .flow) (r .job)
-      lacks-fault e = tests ∙ rw (early .inside, early .rising, late .cap-kept, late .room-kept, released, e) refl
+      pub lacks-fault : lacksPredecessor b (take k rows) r ≡ true → rowFault b opened rows k ≡ Refused 19 (r .flow) (r .job)
+      lacks-fault e = tests ∙ rw (early .inside, early .in-open, early .rising, late .cap-kept, late .room-kept, released, e) refl
 
-      pub row-passes : lacksPredecessor b (take k rows) r ≡ false → rowFault b rows k ≡ Pass
-      row-passes e = tests ∙ rw (early .inside, early .rising, late .cap-kept, late .room-kept, released, e) refl
+      pub row-passes : lacksPredecessor b (take k rows) r ≡ false → rowFault b opened rows k ≡ Pass
+      row-passes e = tests ∙ rw (early .inside, early .in-open, early .rising, late .cap-kept, late .room-kept, released, e) refl
 
 -- 19 as the walk tests it: by the slots from which jobs are complete
 pub lacks-by-ready : (b : Book) (f : ℕ) (soFar : List Row) (totals ready : List ℕ) (r : Row) → FlowTally b f soFar totals ready → r .flow ≡ f →

@@ -43,8 +43,8 @@ pub record SoFar (b : Book) (rows : List Row) (k : ℕ) : Type 0 where
   -- a flow whose rows may all come next has none yet
   pub fresh : (f : ℕ) → leastKey b rows k ≤ serviceKey b f * places → finishOf (take k rows) f ≡ 0
 
-module _ (b : Book) (range : InRange b) (rows : List Row) where
-  fits : (k : ℕ) → RowPasses b rows k → KeyFits (getD rows k noRow)
+module _ (b : Book) (opened : ℕ → Bool) (range : InRange b) (rows : List Row) where
+  fits : (k : ℕ) → RowPasses b opened rows k → KeyFits (getD rows k noRow)
   fits k p = record {
     flow-fits = omega (arith, range .flows-most, p .flow-in);
     slot-fits = p .slot-in;
@@ -52,12 +52,12 @@ module _ (b : Book) (range : InRange b) (rows : List Row) where
   }
 
   -- the rows that pass rise by their keys
-  key-least : (k : ℕ) → firstFault (rowFault b rows) k ≡ Pass → RowPasses b rows k → leastKey b rows k ≤ rowKey b (getD rows k noRow)
+  key-least : (k : ℕ) → firstFault (rowFault b opened rows) k ≡ Pass → RowPasses b opened rows k → leastKey b rows k ≤ rowKey b (getD rows k noRow)
   key-least k e p =
       leb-true (leastKey b rows k) (rowKey b (getD rows k noRow))
-      (sym (rises-key b rows k (λ j h. fits j (row-passes b rows j (fault-pass (rowFault b rows) k e j h))) (fits k p)) ∙ p .comes-after)
+      (sym (rises-key b rows k (λ j h. fits j (row-passes b opened rows j (fault-pass (rowFault b opened rows) k e j h))) (fits k p)) ∙ p .comes-after)
 
-  module _ (k : ℕ) (more : k < length rows) (p : RowPasses b rows k) (after : leastKey b rows k ≤ rowKey b (getD rows k noRow)) (was : SoFar b rows k) where
+  module _ (k : ℕ) (more : k < length rows) (p : RowPasses b opened rows k) (after : leastKey b rows k ≤ rowKey b (getD rows k noRow)) (was : SoFar b rows k) where
     abbrev r : Row
     r = getD rows k noRow
 
@@ -127,7 +127,7 @@ module _ (b : Book) (range : InRange b) (rows : List Row) where
         rw one
         (finish-there (take k rows) r f (λ e. omega (arith, ap (λ g. serviceKey b g * places) e)) ∙ was .fresh f (omega arith))
 
-  pub so-far : (k : ℕ) → k ≤ length rows → firstFault (rowFault b rows) k ≡ Pass → SoFar b rows k
+  pub so-far : (k : ℕ) → k ≤ length rows → firstFault (rowFault b opened rows) k ≡ Pass → SoFar b rows k
   unfolding firstFault leastKey usedIn totalOf doneBefore finishOf sumWhere
   so-far zero h e = record {
     used = λ t. omega arith;
@@ -137,8 +137,8 @@ module _ (b : Book) (range : InRange b) (rows : List Row) where
     fresh = λ f l. refl;
   }
   so-far (suc k) h e =
-      let both = both-pass (firstFault (rowFault b rows) k) (rowFault b rows k) e in
-      let p = row-passes b rows k (both .1) in
+      let both = both-pass (firstFault (rowFault b opened rows) k) (rowFault b opened rows k) e in
+      let p = row-passes b opened rows k (both .1) in
       let was = so-far k (omega arith) (both .0) in
       let after = key-least k (both .0) p in
       record {

@@ -38,12 +38,12 @@ done-grows rows j f k s t h =
         go false e = omega arith
         go true e = rw (lt-ltb u t (omega (arith, ltb-true u s e))) (omega arith)
 
-module _ (b : Book) (rows : List Row) (row : ℕ) (within : row ≤ length rows) (passed : firstFault (rowFault b rows) row ≡ Pass) (r : Row)
-    (latest : finishOf (take row rows) (r .flow) ≤ r .slot + 1) where
+module _ (b : Book) (opened : ℕ → Bool) (rows : List Row) (row : ℕ) (within : row ≤ length rows) (passed : firstFault (rowFault b opened rows) row ≡ Pass)
+    (r : Row) (latest : finishOf (take row rows) (r .flow) ≤ r .slot + 1) where
   -- from an earlier row of the job
   module _ (q : Row) (j : ℕ) (below : j < row) (is-q : getD rows j noRow ≡ q) (same-flow : q .flow ≡ r .flow) (slot : q .slot ≤ r .slot) where
-    q-passes : RowPasses b rows j
-    q-passes = row-passes b rows j (fault-pass (rowFault b rows) row passed j below)
+    q-passes : RowPasses b opened rows j
+    q-passes = row-passes b opened rows j (fault-pass (rowFault b opened rows) row passed j below)
 
     by-earlier-release : beforeRelease b r ≡ false
     unfolding beforeRelease

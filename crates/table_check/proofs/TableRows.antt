@@ -1,6 +1,7 @@
 -- The rows of a table that passes 14, by their place in its bytes. Assumes nothing.
 use mathlib.Core.Path.{_≡_, sym, ap, _∙_}
 use Prim.Native.Nat.{ℕ, _+_, _*_, _-_, _/_, _≤_, _<_}
+use mathlib.Core.Bool.{Bool}
 use mathlib.Core.List.{List}
 use native.Mathlib.Omega.{arith}
 use lib.ListN.{length, getD}
@@ -33,7 +34,8 @@ unfolding rowsTo
 rows-to b at k e = omega arith
 
 -- ---- the row behind the first k rows
-module _ {b : Book} {table work : List ℕ} {k at : ℕ} (headed : tableHeadFault b table ≡ Pass) (reached : Reached b table k at work) where
+module _ {b : Book} {opened : ℕ → Bool} {table work : List ℕ} {k at : ℕ} (headed : tableHeadFault b table ≡ Pass)
+    (reached : Reached b opened table k at work) where
   module _ (here : at < length table) where
     pub row-inside : at + 6 ≤ length table
     row-inside = omega (arith, table-length b table headed, reached .at-is)

@@ -1,4 +1,4 @@
--- One turn of the walk over a flow's rows: what holds as it begins, that it holds at the flow's first row, and what the tests 15 to 18 leave of the
+-- One turn of the walk over a flow's rows: what holds as it begins, that it holds at the flow's first row, and what the tests 15 to 18 and 25 leave of the
 -- row that is read. Assumes nothing.
 use mathlib.Core.Path.{_≡_, refl, sym, _∙_}
 use Prim.Native.Nat.{ℕ, _+_, _*_, _≤_, _<_}
@@ -34,7 +34,8 @@ use Rattle.table_check.proofs.Tallies.{tally-none}
 use Rattle.table_check.proofs.RowFaults.{EarlyPassed, LatePassed, early-fault, early-passed, late-fault, late-passed}
 
 -- what holds as a turn begins, after k rows; the walk over the rows of the flow began at `from`
-pub record Going (book table sizes caps : List ℕ) (c : Current) (from : ℕ) (totals ready work : List ℕ) (bad : Verdict) (least finish at k : ℕ) : Type 0 where
+pub record Going (book : List ℕ) (opened : ℕ → Bool) (table sizes caps : List ℕ) (c : Current) (from : ℕ) (totals ready work : List ℕ) (bad : Verdict)
+    (least finish at k : ℕ) : Type 0 where
   pub current : CurrentFlow book c
   pub held : JobsHeld (bookOf book) (c .flow) (c .jobs) sizes caps
   pub table-fits : length table < 18446744073709551616
@@ -44,7 +45,7 @@ pub record Going (book table sizes caps : List ℕ) (c : Current) (from : ℕ) (
   pub first-more : rowsTo (bookOf book) from < length (tableRows (bookOf book) table)
   pub first-own : getD (tableRows (bookOf book) table) (rowsTo (bookOf book) from) noRow .flow ≡ c .flow
   pub since : rowsTo (bookOf book) from ≤ k
-  pub reached : Reached (bookOf book) table k at work
+  pub reached : Reached (bookOf book) opened table k at work
   pub tally : FlowTally (bookOf book) (c .flow) (take k (tableRows (bookOf book) table)) totals ready
   -- places compare as keys do
   pub order : (p : ℕ) → leb (leastKey (bookOf book) (tableRows (bookOf book) table) k) (serviceKey (bookOf book) (c .flow) * places + p) ≡ leb least p
@@ -66,25 +67,25 @@ pub record Lent (totals₀ ready₀ work₀ totals ready work : List ℕ) : Type
 pub lent-first : (totals ready work : List ℕ) → Lent totals ready work totals ready work
 lent-first totals ready work = record { totals-kept = refl; ready-kept = refl; work-kept = refl; cleared = refl }
 
--- what is known of row k, which is r, once 15 to 18 have passed
-pub record Turn (b : Book) (table : List ℕ) (f k : ℕ) (r : rules.Row) (t : Tested) : Type 0 where
+-- what is known of row k, which is r, once 15 to 18 and 25 have passed
+pub record Turn (b : Book) (opened : ℕ → Bool) (table : List ℕ) (f k : ℕ) (r : rules.Row) (t : Tested) : Type 0 where
   pub more : k < length (tableRows b table)
   pub row-is : getD (tableRows b table) k noRow ≡ r
   pub own : r .flow ≡ f
-  pub early : EarlyPassed b (tableRows b table) k r
+  pub early : EarlyPassed b opened (tableRows b table) k r
   pub late : LatePassed b (take k (tableRows b table)) r
   pub used-is : t .used ≡ usedIn (take k (tableRows b table)) (r .slot)
   pub size-is : t .size ≡ jobOf (flowOf b f) (r .job) .size
 
 -- ---- the first turn
-pub going-first : {book table sizes caps totals ready work : List ℕ} {c : Current} {from : ℕ} → FlowBegins book table work c from →
-    JobsHeld (bookOf book) (c .flow) (c .jobs) sizes caps → length table < 18446744073709551616 →
+pub going-first : {book : List ℕ} {opened : ℕ → Bool} {table sizes caps totals ready work : List ℕ} {c : Current} {from : ℕ} →
+    FlowBegins book opened table work c from → JobsHeld (bookOf book) (c .flow) (c .jobs) sizes caps → length table < 18446744073709551616 →
     totals ≡ replicate 64 0 → ready ≡ replicate 64 65535 →
-    Going book table sizes caps c from totals ready work Pass 0 0 from (rowsTo (bookOf book) from)
-going-first {book} {table} {c = c} {from = from} begins held fits t-is r-is =
+    Going book opened table sizes caps c from totals ready work Pass 0 0 from (rowsTo (bookOf book) from)
+going-first {book} {opened} {table} {c = c} {from = from} begins held fits t-is r-is =
     let range = pass-in-range book (begins .current .stands .passes) in
     let k = rowsTo (bookOf book) from in
-    let known = so-far (bookOf book) range (tableRows (bookOf book) table) k (begins .reached .within) (begins .reached .passed) in
+    let known = so-far (bookOf book) opened range (tableRows (bookOf book) table) k (begins .reached .within) (begins .reached .passed) in
     let none = known .fresh (c .flow) (begins .ahead) in
     record {
       current = begins .current;
@@ -108,8 +109,8 @@ going-first {book} {table} {c = c} {from = from} begins held fits t-is r-is =
       last-high = omega (arith, begins .ahead);
     }
 
-module _ {book table sizes caps : List ℕ} {c : Current} {from : ℕ} {totals ready work : List ℕ} {bad : Verdict} {least finish at k : ℕ}
-    (going : Going book table sizes caps c from totals ready work bad least finish at k) where
+module _ {book : List ℕ} {opened : ℕ → Bool} {table sizes caps : List ℕ} {c : Current} {from : ℕ} {totals ready work : List ℕ} {bad : Verdict}
+    {least finish at k : ℕ} (going : Going book opened table sizes caps c from totals ready work bad least finish at k) where
   abbrev b : Book
   b = bookOf book
 
@@ -120,14 +121,14 @@ module _ {book table sizes caps : List ℕ} {c : Current} {from : ℕ} {totals r
   range = pass-in-range book (going .current .stands .passes)
 
   pub known : SoFar (bookOf book) (tableRows (bookOf book) table) k
-  known = so-far b range rows k (going .reached .within) (going .reached .passed)
+  known = so-far b opened range rows k (going .reached .within) (going .reached .passed)
 
   -- ---- the row that was read
   module _ (here : at < length table) (r : Row) (read : rowFrom r ≡ rowAt table at) where
     pub row-here : getD (tableRows (bookOf book) table) k noRow ≡ rowFrom r
     row-here = row-read (going .headed) (going .reached) here read
 
-    module _ (own : r .flow ≡ c .flow) {t : Tested} (tested : RowTested (bookOf book) (c .flow) work least (rowFrom r) t) where
+    module _ (own : r .flow ≡ c .flow) {t : Tested} (tested : RowTested (bookOf book) opened (c .flow) work least (rowFrom r) t) where
       flow-in : r .flow < flowCount (bookOf book)
       flow-in = omega (arith, own, going .current .stands .flow-in)
 
@@ -136,22 +137,23 @@ module _ {book table sizes caps : List ℕ} {c : Current} {from : ℕ} {totals r
       by-place fit = rw own (going .order (placeOf (rowFrom r)))
 
       abbrev first : ℕ
-      first = earlyNumber (jobCount (flowOf (bookOf book) (c .flow))) least (placeOf (rowFrom r)) (rowFrom r)
+      first = earlyNumber (jobCount (flowOf (bookOf book) (c .flow))) (opened (r .slot)) least (placeOf (rowFrom r)) (rowFrom r)
 
       abbrev second : ℕ
       second = lateNumber (jobOf (flowOf (bookOf book) (c .flow)) (r .job) .cap) (field 2 work (2 * r .slot)) (bookOf book .processors) (rowFrom r)
 
-      first-right : earlyNumber (jobCount (flowOf (bookOf book) (c .flow))) least (placeOf (rowFrom r)) (rowFrom r)
-          ≡ earlyNumber (jobCount (flowOf (bookOf book) (r .flow))) least (placeOf (rowFrom r)) (rowFrom r)
+      first-right : earlyNumber (jobCount (flowOf (bookOf book) (c .flow))) (opened (r .slot)) least (placeOf (rowFrom r)) (rowFrom r)
+          ≡ earlyNumber (jobCount (flowOf (bookOf book) (r .flow))) (opened (r .slot)) least (placeOf (rowFrom r)) (rowFrom r)
       first-right = rw own refl
 
-      number-is : t .number ≡ testNumber (bookOf book) (c .flow) (field 2 work (2 * r .slot)) least (rowFrom r)
+      number-is : t .number ≡ testNumber (bookOf book) opened (c .flow) (field 2 work (2 * r .slot)) least (rowFrom r)
       number-is = tested .number
 
-      -- 15 and 16 have passed
-      module _ (none : earlyNumber (jobCount (flowOf (bookOf book) (c .flow))) least (placeOf (rowFrom r)) (rowFrom r) ≡ 0) where
-        early-row : EarlyPassed (bookOf book) (tableRows (bookOf book) table) k (rowFrom r)
-        early-row = early-passed b rows k (rowFrom r) row-here range (going .reached .passed) least (placeOf (rowFrom r)) first by-place flow-in first-right none
+      -- 15, 25 and 16 have passed
+      module _ (none : earlyNumber (jobCount (flowOf (bookOf book) (c .flow))) (opened (r .slot)) least (placeOf (rowFrom r)) (rowFrom r) ≡ 0) where
+        early-row : EarlyPassed (bookOf book) opened (tableRows (bookOf book) table) k (rowFrom r)
+        early-row =
+            early-passed b opened rows k (rowFrom r) row-here range (going .reached .passed) least (placeOf (rowFrom r)) first by-place flow-in first-right none
 
         used-right : field 2 work (2 * r .slot) ≡ usedIn (take k (tableRows (bookOf book) table)) (r .slot)
         used-right =
@@ -161,20 +163,20 @@ module _ {book table sizes caps : List ℕ} {c : Current} {from : ℕ} {totals r
         cap-right : jobOf (flowOf (bookOf book) (c .flow)) (r .job) .cap ≡ jobOf (flowOf (bookOf book) (r .flow)) (r .job) .cap
         cap-right = rw own refl
 
-      pub test-stops : (t .number ≡ 0 → ⊥) → rowFault (bookOf book) (tableRows (bookOf book) table) k ≡ Refused (t .number) (r .flow) (r .job)
+      pub test-stops : (t .number ≡ 0 → ⊥) → rowFault (bookOf book) opened (tableRows (bookOf book) table) k ≡ Refused (t .number) (r .flow) (r .job)
       unfolding testNumber
       test-stops n = go (eqb first 0) refl
         where
-          go : (u : Bool) → eqb first 0 ≡ u → rowFault (bookOf book) (tableRows (bookOf book) table) k ≡ Refused (t .number) (r .flow) (r .job)
+          go : (u : Bool) → eqb first 0 ≡ u → rowFault (bookOf book) opened (tableRows (bookOf book) table) k ≡ Refused (t .number) (r .flow) (r .job)
           go true e =
               let none : first ≡ 0 = eqb-true first 0 e in
-              late-fault b rows k (rowFrom r) row-here (early-row none) (field 2 work (2 * r .slot)) (jobOf (flowOf (bookOf book) (c .flow)) (r .job) .cap)
+              late-fault b opened rows k (rowFrom r) row-here (early-row none) (field 2 work (2 * r .slot)) (jobOf (flowOf (bookOf book) (c .flow)) (r .job) .cap)
               (t .number) (used-right none) (cap-right none) (number-is ∙ first-passes first second none) n
           go false e =
-              early-fault b rows k (rowFrom r) row-here range (going .reached .passed) least (placeOf (rowFrom r)) (t .number) by-place flow-in
+              early-fault b opened rows k (rowFrom r) row-here range (going .reached .passed) least (placeOf (rowFrom r)) (t .number) by-place flow-in
               (number-is ∙ first-stands first second (eqb-false first 0 e) ∙ first-right) n
 
-      pub turn-of : t .number ≡ 0 → Turn (bookOf book) table (c .flow) k (rowFrom r) t
+      pub turn-of : t .number ≡ 0 → Turn (bookOf book) opened table (c .flow) k (rowFrom r) t
       unfolding testNumber
       turn-of e =
           let both = first-none first second (sym number-is ∙ e) in
@@ -183,7 +185,7 @@ module _ {book table sizes caps : List ℕ} {c : Current} {from : ℕ} {totals r
             row-is = row-here;
             own = own;
             early = early-row (both .0);
-            late = late-passed b rows k (rowFrom r) row-here (early-row (both .0)) (field 2 work (2 * r .slot))
+            late = late-passed b opened rows k (rowFrom r) row-here (early-row (both .0)) (field 2 work (2 * r .slot))
                 (jobOf (flowOf (bookOf book) (c .flow)) (r .job) .cap) second (used-right (both .0)) (cap-right (both .0)) refl (both .1);
             used-is = tested .used e ∙ used-right (both .0);
             size-is = tested .size e;

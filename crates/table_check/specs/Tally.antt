@@ -2,6 +2,7 @@
 -- the slot from which it is complete; the use of each slot in the work area. Assumes nothing.
 use mathlib.Core.Path.{_≡_}
 use Prim.Native.Nat.{ℕ, _+_, _*_, _-_, _/_, _≤_, _<_}
+use mathlib.Core.Bool.{Bool}
 use mathlib.Core.List.{List}
 use lib.ListN.{length, getD, take, set}
 use lib.Seq.{sets}
@@ -37,9 +38,9 @@ pub record JobsHeld (b : Book) (f n : ℕ) (sizes caps : List ℕ) : Type 0 wher
   pub cap-of : (i : ℕ) → i < n → getD caps i 0 ≡ jobOf (flowOf b f) i .cap
 
 -- ---- one row
--- 15 to 18 of a row of flow f, and what counting it needs
-pub record RowTested (b : Book) (f : ℕ) (work : List ℕ) (least : ℕ) (r : rules.Row) (t : Tested) : Type 0 where
-  pub number : t .number ≡ testNumber b f (field 2 work (2 * r .slot)) least r
+-- 15 to 18 and 25 of a row of flow f, and what counting it needs
+pub record RowTested (b : Book) (opened : ℕ → Bool) (f : ℕ) (work : List ℕ) (least : ℕ) (r : rules.Row) (t : Tested) : Type 0 where
+  pub number : t .number ≡ testNumber b opened f (field 2 work (2 * r .slot)) least r
   pub used : t .number ≡ 0 → t .used ≡ field 2 work (2 * r .slot)
   pub size : t .number ≡ 0 → t .size ≡ jobOf (flowOf b f) (r .job) .size
 
@@ -70,11 +71,11 @@ pub record RowCounted (t : Tested) (r : rules.Row) (totals ready work totals′ 
 unfoldable pub rowsTo : Book → ℕ → ℕ
 rowsTo b at = (at - tableHead b) / rowLength
 
--- the first k rows end at `at`, they pass, and the work area holds the use of each slot by them
-pub record Reached (b : Book) (table : List ℕ) (k at : ℕ) (work : List ℕ) : Type 0 where
+-- the first k rows end at `at`, they pass with these slots open, and the work area holds the use of each slot by them
+pub record Reached (b : Book) (opened : ℕ → Bool) (table : List ℕ) (k at : ℕ) (work : List ℕ) : Type 0 where
   pub at-is : at ≡ tableHead b + rowLength * k
   pub within : k ≤ length (tableRows b table)
-  pub passed : firstFault (rowFault b (tableRows b table)) k ≡ Pass
+  pub passed : firstFault (rowFault b opened (tableRows b table)) k ≡ Pass
   pub use-of : work ≡ workUsed slots (take k (tableRows b table)) work
 
 -- each job's total, and whether it is complete before a slot that the flow's rows have not passed

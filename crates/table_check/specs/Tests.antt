@@ -1,4 +1,4 @@
--- What the code tests of a row, in the numbers that it holds: where the row stands in the order, the tests 15 to 18 by their number, and 19 by
+-- What the code tests of a row, in the numbers that it holds: where the row stands in the order, the tests 15 to 18 and 25 by their number, and 19 by
 -- the release and by the slot from which a predecessor is complete. Assumes nothing.
 use Prim.Native.Nat.{ℕ, zero, suc, _+_, _*_, _-_, _%_}
 use mathlib.Core.Bool.{Bool, false, not, _&&_, _||_}
@@ -54,10 +54,11 @@ headFault processors flows s =
     then Refused 14 none none else Pass
 
 -- ---- a row, by numbers; 0 where it passes
--- 15 and 16 of a row whose flow is in the book, by the flow's count of jobs, a key of the row and the least one
-unfoldable pub earlyNumber : ℕ → ℕ → ℕ → rules.Row → ℕ
-earlyNumber jobs least key r =
+-- 15, 25 and 16 of a row whose flow is in the book, by the flow's count of jobs, whether the row's slot is open, a key of the row and the least one
+unfoldable pub earlyNumber : ℕ → Bool → ℕ → ℕ → rules.Row → ℕ
+earlyNumber jobs opened least key r =
     if leb slots (r .slot) || leb jobs (r .job) || eqb (r .processors) 0 then 15
+    else if not opened then 25
     else if ltb key least then 16 else 0
 
 -- 17 and 18, by the job's cap, the processors in use in the slot, and P
@@ -70,10 +71,10 @@ lateNumber cap used processors r =
 unfoldable pub firstNumber : ℕ → ℕ → ℕ
 firstNumber m n = if eqb m 0 then n else m
 
--- 15 to 18 of a row of flow f, by the least place that it may have and the processors in use in its slot
-unfoldable pub testNumber : Book → ℕ → ℕ → ℕ → rules.Row → ℕ
-testNumber b f used least r =
-    firstNumber (earlyNumber (jobCount (flowOf b f)) least (placeOf r) r)
+-- 15 to 18 and 25 of a row of flow f, by a test of the open slots, the processors in use in the row's slot, and the least place that it may have
+unfoldable pub testNumber : Book → (ℕ → Bool) → ℕ → ℕ → ℕ → rules.Row → ℕ
+testNumber b opened f used least r =
+    firstNumber (earlyNumber (jobCount (flowOf b f)) (opened (r .slot)) least (placeOf r) r)
     (lateNumber (jobOf (flowOf b f) (r .job) .cap) used (b .processors) r)
 
 -- 19 at one job k: it is a predecessor, and it is complete only from a later slot on

@@ -1,13 +1,15 @@
-// The check of a table against a book.
+// The check of a table against a book and its calendar.
 ghost use mathlib.Core.Path.{_≡_};
 ghost use Prim.Native.Nat.{_+_, _*_, _≤_};
 ghost use lib.ListN.{length};
-ghost use Rattle.rules.specs.declared.Verdict.the-variants.{Refused};
+ghost use Rattle.rules.specs.declared.Verdict.the-variants.{Pass, Refused};
 ghost use Rattle.rules.specs.Limits.{workBytes};
 ghost use Rattle.rules.specs.Answers.{_andThen_, firstFault, checkRefused};
-ghost use Rattle.rules.specs.Reading.{bookOf};
+ghost use Rattle.rules.specs.Calendar.{isOpen, calendarOf, calendarFault};
+ghost use Rattle.rules.specs.Reading.{bookOf, bookFault};
 ghost use Rattle.rules.specs.Check.{checkCall};
 ghost use Rattle.book.specs.Promise.{Indexed};
+ghost use Rattle.calendar.specs.Area.{openBy};
 ghost use Rattle.table_check.specs.Tests.{headFault};
 ghost use Rattle.table_check.specs.Walk.{offsFault, finishFaultBy, TableJudged};
 use book::Index;
@@ -104,16 +106,16 @@ pub fn ends_verdict(table: &[u8], off: [u8; 64], finish: [u16; 64], flows: usize
     finishes_verdict(table, flows, finish)
 }
 
-// What a table comes to: the first fault of 14 to 21, and the late flows where there is none.
+// What a table comes to: the first fault of 14 to 21 and 25, and the late flows where there is none.
 pub struct Judged {
     pub verdict: Verdict,
     pub late: u8,
 }
 
-// 14 to 21, in order.
-pub fn judge_table(book: &[u8], table: &[u8], x: Index, work: &mut [u8]) -> Judged
+// 14 to 21 and 25, in order, with these slots shut.
+pub fn judge_table(book: &[u8], shut: &[u8], table: &[u8], x: Index, work: &mut [u8]) -> Judged
     requires { ⌜ Indexed (now book) x × (workBytes ≤ length (now work)) ⌝ }
-    ensures { λ j. ⌜ TableJudged (bookOf (now (book .entry))) (now (table .entry)) (now (work .entry)) (now (work .exit)) j ⌝ }
+    ensures { λ j. ⌜ TableJudged (bookOf (now (book .entry))) (openBy (now (shut .entry))) (now (table .entry)) (now (work .entry)) (now (work .exit)) j ⌝ }
 {
     let flows = x.flows;
     let head = head_verdict(table, x.processors, flows);
@@ -123,7 +125,7 @@ pub fn judge_table(book: &[u8], table: &[u8], x: Index, work: &mut [u8]) -> Judg
             late: 0,
         };
     };
-    let w = walk::walk_flows(book, table, x, work);
+    let w = walk::walk_flows(book, shut, table, x, work);
     let rows = w.verdict;
     let Verdict::Pass = rows else {
         return Judged {
@@ -140,6 +142,16 @@ pub fn judge_table(book: &[u8], table: &[u8], x: Index, work: &mut [u8]) -> Judg
     }
 }
 
+// The same, with the slots shut that the calendar shuts.
+pub fn judge_with(book: &[u8], calendar: &[u8], table: &[u8], work: &mut [u8]) -> Judged
+    requires { ⌜ (bookFault (now book) ≡ Pass) × (calendarFault (now calendar) ≡ Pass) × (workBytes ≤ length (now work)) ⌝ }
+    ensures { λ j. ⌜ TableJudged (bookOf (now (book .entry))) (isOpen (calendarOf (now (calendar .entry)))) (now (table .entry)) (now (work .entry)) (now (work .exit)) j ⌝ }
+{
+    let mut shut = [0u8; 4096];
+    calendar::set_flags(&mut shut, calendar::calendar_of(calendar));
+    judge_table(book, &shut, table, book::index_of(book), work)
+}
+
 // A refusal's answer.
 pub fn refusal(number: u8, flow: u8, job: u8) -> CheckAnswer
     ensures { λ a. ⌜ a ≡ checkRefused number flow job ⌝ }
@@ -152,19 +164,23 @@ pub fn refusal(number: u8, flow: u8, job: u8) -> CheckAnswer
     }
 }
 
-// The check of a table against a book.
-pub fn check_table(book: &[u8], table: &[u8], work: &mut [u8]) -> CheckAnswer
-    ensures answer { λ a. ⌜ a ≡ checkCall (now (book .entry)) (now (table .entry)) (now (work .entry)) .answer ⌝ }
-    ensures area { λ a. ⌜ now (work .exit) ≡ checkCall (now (book .entry)) (now (table .entry)) (now (work .entry)) .area ⌝ }
+// The check of a table against a book and its calendar.
+pub fn check_table(book: &[u8], calendar: &[u8], table: &[u8], work: &mut [u8]) -> CheckAnswer
+    ensures answer { λ a. ⌜ a ≡ checkCall (now (book .entry)) (now (calendar .entry)) (now (table .entry)) (now (work .entry)) .answer ⌝ }
+    ensures area { λ a. ⌜ now (work .exit) ≡ checkCall (now (book .entry)) (now (calendar .entry)) (now (table .entry)) (now (work .entry)) .area ⌝ }
 {
     let v = book::verdict_of(book);
     if let Verdict::Refused { number, flow, job } = v {
         return refusal(number, flow, job);
     }
+    let d = calendar::verdict_of(calendar);
+    if let Verdict::Refused { number, flow, job } = d {
+        return refusal(number, flow, job);
+    }
     if work.len() < 16384 {
         return refusal(11, 255, 255);
     }
-    let j = judge_table(book, table, book::index_of(book), work);
+    let j = judge_with(book, calendar, table, work);
     let w = j.verdict;
     if let Verdict::Refused { number, flow, job } = w {
         bytes::clear(work);

@@ -1,4 +1,4 @@
-// One row of a table: read, tested by 15 to 18, asked for its release and predecessors, counted.
+// One row of a table: read, tested by 15 to 18 and 25, asked for its release and predecessors, counted.
 ghost use mathlib.Core.Path.{_≡_};
 ghost use Prim.Native.Nat.{_+_, _<_, _≤_};
 ghost use lib.ListN.{length, getD, set};
@@ -7,6 +7,7 @@ ghost use Rattle.rules.specs.Limits.{slots, workBytes};
 ghost use Rattle.rules.specs.Book.{jobCount, flowOf};
 ghost use Rattle.rules.specs.Reading.{bookOf};
 ghost use Rattle.rules.specs.Table.{rowAt};
+ghost use Rattle.calendar.specs.Area.{openBy};
 ghost use Rattle.table_check.specs.Tests.{rowFrom, placeOf, earlyNumber, lateNumber, lacksAt, readyAfter};
 ghost use Rattle.table_check.specs.Tally.{CurrentFlow, JobsHeld, RowTested, AskedAt, Countable, RowCounted};
 use book::bytes;
@@ -82,10 +83,10 @@ pub fn place_of(r: Row) -> u32
     r.slot as u32 * 64 + r.job as u32
 }
 
-// 15 and 16 of a row whose flow is in the book; 0 where it passes. Once the job is in range, the row's place tells whether the slot is.
-pub fn early_fault(jobs: u8, least: u32, key: u32, r: Row) -> u8
+// 15, 25 and 16 of a row whose flow is in the book; 0 where it passes. Once the job is in range, the row's place tells whether the slot is.
+pub fn early_fault(shut: &[u8], jobs: u8, least: u32, key: u32, r: Row) -> u8
     requires { ⌜ jobs ≤ 64 ⌝ }
-    ensures { λ n. ⌜ n ≡ earlyNumber jobs least key (rowFrom r) ⌝ }
+    ensures { λ n. ⌜ n ≡ earlyNumber jobs (openBy (now (shut .entry)) (r .slot)) least key (rowFrom r) ⌝ }
 {
     if jobs <= r.job {
         return 15;
@@ -95,6 +96,9 @@ pub fn early_fault(jobs: u8, least: u32, key: u32, r: Row) -> u8
     }
     if r.processors == 0 {
         return 15;
+    }
+    if !calendar::is_open(shut, bytes::wide16(r.slot)) {
+        return 25;
     }
     if key < least {
         return 16;
@@ -115,9 +119,10 @@ pub fn late_fault(cap: u16, used: u16, processors: u16, r: Row) -> u8
     0
 }
 
-// 15 to 18 of a row of the current flow, whose place is to be at least `least`.
+// 15 to 18 and 25 of a row of the current flow, whose place is to be at least `least`.
 pub fn test_row(
     book: &[u8],
+    shut: &[u8],
     sizes: &[u32],
     caps: &[u16],
     work: &[u8],
@@ -126,9 +131,9 @@ pub fn test_row(
     r: Row,
 ) -> Tested
     requires { ⌜ CurrentFlow (now book) c × JobsHeld (bookOf (now book)) (c .flow) (c .jobs) (now sizes) (now caps) × (workBytes ≤ length (now work)) ⌝ }
-    ensures { λ t. ⌜ RowTested (bookOf (now (book .entry))) (c .flow) (now (work .entry)) least (rowFrom r) t ⌝ }
+    ensures { λ t. ⌜ RowTested (bookOf (now (book .entry))) (openBy (now (shut .entry))) (c .flow) (now (work .entry)) least (rowFrom r) t ⌝ }
 {
-    let early = early_fault(c.jobs, least, place_of(r), r);
+    let early = early_fault(shut, c.jobs, least, place_of(r), r);
     if early != 0 {
         return Tested {
             number: early,

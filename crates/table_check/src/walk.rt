@@ -6,6 +6,7 @@ ghost use lib.ListN.{length, getD, replicate};
 ghost use Rattle.rules.specs.Answers.{firstFault};
 ghost use Rattle.rules.specs.Book.{jobCount, flowOf, jobOf};
 ghost use Rattle.rules.specs.Reading.{bookOf};
+ghost use Rattle.calendar.specs.Area.{openBy};
 ghost use Rattle.table_check.specs.Tests.{offFault};
 ghost use Rattle.table_check.specs.Tally.{CurrentFlow, JobsHeld};
 ghost use Rattle.table_check.specs.Walk.{FlowBegins, RowsWalked, totalFaultBy, FlowWalked, Ready, TableWalked};
@@ -37,9 +38,10 @@ pub struct Walked {
     pub finish: [u16; 64],
 }
 
-// 15 to 19, for each row of the current flow in order; the first fault met ends the walk.
+// 15 to 19 and 25, for each row of the current flow in order; the first fault met ends the walk.
 pub fn walk_rows(
     book: &[u8],
+    shut: &[u8],
     table: &[u8],
     sizes: &[u32],
     caps: &[u16],
@@ -49,8 +51,8 @@ pub fn walk_rows(
     c: Current,
     from: usize,
 ) -> Stop
-    requires { ⌜ FlowBegins (now book) (now table) (now work) c from × JobsHeld (bookOf (now book)) (c .flow) (c .jobs) (now sizes) (now caps) × (now totals ≡ replicate 64 0) × (now ready ≡ replicate 64 65535) ⌝ }
-    ensures { λ w. ⌜ RowsWalked (bookOf (now (book .entry))) (now (table .entry)) (c .flow) from (now (work .entry)) (now (work .exit)) (now (totals .exit)) w ⌝ }
+    requires { ⌜ FlowBegins (now book) (openBy (now shut)) (now table) (now work) c from × JobsHeld (bookOf (now book)) (c .flow) (c .jobs) (now sizes) (now caps) × (now totals ≡ replicate 64 0) × (now ready ≡ replicate 64 65535) ⌝ }
+    ensures { λ w. ⌜ RowsWalked (bookOf (now (book .entry))) (openBy (now (shut .entry))) (now (table .entry)) (c .flow) from (now (work .entry)) (now (work .exit)) (now (totals .exit)) w ⌝ }
 {
     let mut bad = Verdict::Pass;
     let mut least: u32 = 0;
@@ -61,7 +63,7 @@ pub fn walk_rows(
         if bytes::wide(r.flow) != c.flow {
             break 'rows;
         }
-        let t = row::test_row(book, sizes, caps, work, c, least, r);
+        let t = row::test_row(book, shut, sizes, caps, work, c, least, r);
         if t.number != 0 {
             bad = row::refused(t.number, r);
             break 'rows;
@@ -110,9 +112,16 @@ pub fn first_off(book: &[u8], sizes: &[u32], totals: &[u32], c: Current) -> u8
 }
 
 // The rows of the current flow, from its first one at `from` on.
-pub fn walk_flow(book: &[u8], table: &[u8], work: &mut [u8], c: Current, from: usize) -> FlowStop
-    requires { ⌜ FlowBegins (now book) (now table) (now work) c from ⌝ }
-    ensures { λ w. ⌜ FlowWalked (bookOf (now (book .entry))) (now (table .entry)) (c .flow) from (now (work .entry)) (now (work .exit)) w ⌝ }
+pub fn walk_flow(
+    book: &[u8],
+    shut: &[u8],
+    table: &[u8],
+    work: &mut [u8],
+    c: Current,
+    from: usize,
+) -> FlowStop
+    requires { ⌜ FlowBegins (now book) (openBy (now shut)) (now table) (now work) c from ⌝ }
+    ensures { λ w. ⌜ FlowWalked (bookOf (now (book .entry))) (openBy (now (shut .entry))) (now (table .entry)) (c .flow) from (now (work .entry)) (now (work .exit)) w ⌝ }
 {
     let mut sizes = [0u32; 64];
     let mut caps = [0u16; 64];
@@ -121,6 +130,7 @@ pub fn walk_flow(book: &[u8], table: &[u8], work: &mut [u8], c: Current, from: u
     let mut ready = [65535u16; 64];
     let w = walk_rows(
         book,
+        shut,
         table,
         &sizes,
         &caps,
@@ -146,10 +156,10 @@ pub fn service_key(deadline: u16, flow: u8) -> u32
     deadline as u32 * 64 + flow as u32
 }
 
-// 15 to 19 of all rows, flow by flow. A flow without rows is off at job 0.
-pub fn walk_flows(book: &[u8], table: &[u8], x: Index, work: &mut [u8]) -> Walked
+// 15 to 19 and 25 of all rows, flow by flow. A flow without rows is off at job 0.
+pub fn walk_flows(book: &[u8], shut: &[u8], table: &[u8], x: Index, work: &mut [u8]) -> Walked
     requires { ⌜ Ready (now book) (now table) (now work) x ⌝ }
-    ensures { λ w. ⌜ TableWalked (bookOf (now (book .entry))) (now (table .entry)) (now (work .entry)) (now (work .exit)) w ⌝ }
+    ensures { λ w. ⌜ TableWalked (bookOf (now (book .entry))) (openBy (now (shut .entry))) (now (table .entry)) (now (work .entry)) (now (work .exit)) w ⌝ }
 {
     bytes::clear(work);
     let flows = x.flows;
@@ -169,7 +179,7 @@ pub fn walk_flows(book: &[u8], table: &[u8], x: Index, work: &mut [u8]) -> Walke
         }
         let jobs = x.jobs[f];
         let key = service_key(x.deadlines[f], r.flow);
-        let early = row::early_fault(jobs, least, key, r);
+        let early = row::early_fault(shut, jobs, least, key, r);
         if early != 0 {
             return Walked {
                 verdict: row::refused(early, r),
@@ -186,7 +196,7 @@ pub fn walk_flows(book: &[u8], table: &[u8], x: Index, work: &mut [u8]) -> Walke
             release: head.release,
             processors: x.processors,
         };
-        let w = walk_flow(book, table, work, c, at);
+        let w = walk_flow(book, shut, table, work, c, at);
         let v = w.verdict;
         let Verdict::Pass = v else {
             return Walked {

@@ -2,10 +2,14 @@
 //! books of the benchmarks, called in turn in one process with the same buffers.
 //! It judges nothing.
 //!
-//! usage: bench_between BEFORE.so AFTER.so [RUNS]
+//! usage: bench_between BEFORE.so AFTER.so [RUNS] [--before-calendars]
+//!
+//! With the flag the first library is one from before Req 07, whose calls take no
+//! calendar. Cases with windows are left out.
 
 use flowplan_tests::answer::{CheckAnswer, PlanAnswer, WORK_BYTES};
 use flowplan_tests::books::encode_book;
+use flowplan_tests::calendar::{Calendar, NO_WINDOWS};
 use flowplan_tests::cases::{check_cases, plan_cases, Case};
 use flowplan_tests::fast_planner;
 use flowplan_tests::measure::Rounds;
@@ -22,19 +26,47 @@ extern "C" {
 /// Every name is bound as the library is opened.
 const NOW: c_int = 2;
 
-type PlanCall =
+type PlanCall = unsafe extern "C" fn(
+    *const u8,
+    usize,
+    *const u8,
+    usize,
+    *mut u8,
+    usize,
+    *mut u8,
+    usize,
+) -> PlanAnswer;
+type CheckCall = unsafe extern "C" fn(
+    *const u8,
+    usize,
+    *const u8,
+    usize,
+    *const u8,
+    usize,
+    *mut u8,
+    usize,
+) -> CheckAnswer;
+
+/// The calls as they were before Req 07.
+type FormerPlan =
     unsafe extern "C" fn(*const u8, usize, *mut u8, usize, *mut u8, usize) -> PlanAnswer;
-type CheckCall =
+type FormerCheck =
     unsafe extern "C" fn(*const u8, usize, *const u8, usize, *mut u8, usize) -> CheckAnswer;
 
 /// The calls of a library.
-struct Library {
-    plan: PlanCall,
-    check: CheckCall,
+enum Library {
+    Former {
+        plan: FormerPlan,
+        check: FormerCheck,
+    },
+    Now {
+        plan: PlanCall,
+        check: CheckCall,
+    },
 }
 
 impl Library {
-    fn open(file: &str) -> Library {
+    fn open(file: &str, former: bool) -> Library {
         let path = CString::new(file).expect("a path without a zero byte");
         // SAFETY: the library runs nothing as it is opened.
         let library = unsafe { dlopen(path.as_ptr(), NOW) };
@@ -46,42 +78,54 @@ impl Library {
             assert!(!found.is_null(), "{file} has {name}");
             found
         };
-        // SAFETY: the calls as include/flowplan.h declares them.
+        let (plan, check) = (find("flowplan_plan"), find("flowplan_check"));
+        // SAFETY: the calls as include/flowplan.h of the library declares them.
         unsafe {
-            Library {
-                plan: transmute::<*mut c_void, PlanCall>(find("flowplan_plan")),
-                check: transmute::<*mut c_void, CheckCall>(find("flowplan_check")),
+            if former {
+                Library::Former {
+                    plan: transmute::<*mut c_void, FormerPlan>(plan),
+                    check: transmute::<*mut c_void, FormerCheck>(check),
+                }
+            } else {
+                Library::Now {
+                    plan: transmute::<*mut c_void, PlanCall>(plan),
+                    check: transmute::<*mut c_void, CheckCall>(check),
+                }
             }
         }
     }
 
+    /// Without windows.
     fn plan(&self, book: &[u8], output: &mut [u8], work: &mut [u8]) -> PlanAnswer {
-        let (bytes, area) = (output.as_mut_ptr(), work.as_mut_ptr());
-        // SAFETY: three slices that do not overlap.
+        let (from, length) = (book.as_ptr(), book.len());
+        let (bytes, room) = (output.as_mut_ptr(), output.len());
+        let (area, size) = (work.as_mut_ptr(), work.len());
+        let (calendar, of) = (NO_WINDOWS.as_ptr(), NO_WINDOWS.len());
+        // SAFETY: slices that do not overlap.
         unsafe {
-            (self.plan)(
-                book.as_ptr(),
-                book.len(),
-                bytes,
-                output.len(),
-                area,
-                work.len(),
-            )
+            match self {
+                Library::Former { plan, .. } => plan(from, length, bytes, room, area, size),
+                Library::Now { plan, .. } => {
+                    plan(from, length, calendar, of, bytes, room, area, size)
+                }
+            }
         }
     }
 
+    /// Without windows.
     fn check(&self, book: &[u8], table: &[u8], work: &mut [u8]) -> CheckAnswer {
-        let (bytes, area) = (table.as_ptr(), work.as_mut_ptr());
-        // SAFETY: three slices that do not overlap.
+        let (from, length) = (book.as_ptr(), book.len());
+        let (bytes, room) = (table.as_ptr(), table.len());
+        let (area, size) = (work.as_mut_ptr(), work.len());
+        let (calendar, of) = (NO_WINDOWS.as_ptr(), NO_WINDOWS.len());
+        // SAFETY: slices that do not overlap.
         unsafe {
-            (self.check)(
-                book.as_ptr(),
-                book.len(),
-                bytes,
-                table.len(),
-                area,
-                work.len(),
-            )
+            match self {
+                Library::Former { check, .. } => check(from, length, bytes, room, area, size),
+                Library::Now { check, .. } => {
+                    check(from, length, calendar, of, bytes, room, area, size)
+                }
+            }
         }
     }
 }
@@ -147,8 +191,11 @@ fn show(case: &Case, runs: Option<Vec<Run>>) {
 }
 
 fn main() {
-    let arguments: Vec<String> = std::env::args().collect();
-    let [before, after] = [1, 2].map(|k| Library::open(&arguments[k]));
+    let mut arguments: Vec<String> = std::env::args().collect();
+    let given = arguments.len();
+    arguments.retain(|argument| argument != "--before-calendars");
+    let before = Library::open(&arguments[1], arguments.len() < given);
+    let after = Library::open(&arguments[2], false);
     let runs = arguments
         .get(3)
         .map_or(6, |runs| runs.parse().expect("a number of runs"));
@@ -156,8 +203,9 @@ fn main() {
     println!("median of {runs} runs, least and most; buffers are not cleared between calls");
     let work = RefCell::new(vec![0x5a; WORK_BYTES]);
     let output = RefCell::new(vec![0; 201_326_728]);
+    let without = |case: &Case| case.calendar == Calendar::default();
     println!("planner:");
-    for case in plan_cases() {
+    for case in plan_cases().into_iter().filter(without) {
         let book = encode_book(&case.book);
         let plan = |library: &Library| {
             let answer = library.plan(
@@ -171,11 +219,11 @@ fn main() {
         show(&case, found);
     }
     println!("check:");
-    for case in check_cases() {
+    for case in check_cases().into_iter().filter(without) {
         let book = encode_book(&case.book);
         let planned = {
             let (mut output, mut work) = (output.borrow_mut(), work.borrow_mut());
-            fast_planner::plan(&book, &mut output, &mut work)
+            fast_planner::plan(&book, &NO_WINDOWS, &mut output, &mut work)
         };
         let table = output.borrow()[..planned.length as usize].to_vec();
         let check = |library: &Library| {

@@ -14,9 +14,10 @@ use std::time::Duration;
 
 fn measure(case: &Case) {
     let book = encode_book(&case.book);
+    let calendar = case.calendar.encode();
     let mut table = vec![0; 210_000_000];
     let mut work = vec![0x5a; WORK_BYTES];
-    let planned = fast_planner::plan(&book, &mut table, &mut work);
+    let planned = fast_planner::plan(&book, &calendar, &mut table, &mut work);
     assert_eq!(planned.number, 0, "the book of a benchmark is planned");
     table.truncate(planned.length as usize);
     table.shrink_to_fit();
@@ -29,11 +30,13 @@ fn measure(case: &Case) {
         case.rounds,
         case.calls,
         &mut || {
-            let answer = linked::check(black_box(&book), black_box(&table), of_proved);
+            let (book, table) = (black_box(&book), black_box(&table));
+            let answer = linked::check(book, black_box(&calendar), table, of_proved);
             assert_eq!(answer, accepted);
         },
         &mut || {
-            let answer = second_check::check(black_box(&book), black_box(&table), of_second);
+            let (book, table) = (black_box(&book), black_box(&table));
+            let answer = second_check::check(book, black_box(&calendar), table, of_second);
             assert_eq!(answer, accepted);
         },
     );

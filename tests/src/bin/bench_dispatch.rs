@@ -29,6 +29,7 @@ const SORT: List = |table, _, output| sort(table, output);
 /// A book and its plan, with what is lent to each call and what must be answered.
 struct Calls {
     book: Vec<u8>,
+    calendar: Vec<u8>,
     table: Vec<u8>,
     output: Vec<u8>,
     work: Vec<u8>,
@@ -39,14 +40,16 @@ struct Calls {
 impl Calls {
     fn of(case: &Case) -> Calls {
         let book = encode_book(&case.book);
+        let calendar = case.calendar.encode();
         let mut table = vec![0; 201_326_728];
-        let planned = fast_planner::plan(&book, &mut table, &mut [0; WORK_BYTES]);
+        let planned = fast_planner::plan(&book, &calendar, &mut table, &mut [0; WORK_BYTES]);
         assert_eq!(planned.number, 0, "the book of a benchmark is planned");
         table.truncate(planned.length as usize);
         table.shrink_to_fit();
         let length = lists::length_for(&table);
         Calls {
             book,
+            calendar,
             table,
             output: vec![0; length],
             work: vec![0x5a; WORK_BYTES],
@@ -57,13 +60,14 @@ impl Calls {
 
     fn check(&mut self) {
         let (book, table) = (black_box(&self.book), black_box(&self.table));
-        let answer = linked::check(book, table, &mut self.work);
+        let answer = linked::check(book, &self.calendar, table, &mut self.work);
         assert_eq!(answer, self.checked);
     }
 
     fn dispatch(&mut self) {
         let (book, table) = (black_box(&self.book), black_box(&self.table));
-        let answer = linked_dispatch::dispatch(book, table, &mut self.output, &mut self.work);
+        let (output, work) = (&mut self.output, &mut self.work);
+        let answer = linked_dispatch::dispatch(book, &self.calendar, table, output, work);
         assert_eq!(answer, self.listed);
     }
 
@@ -80,7 +84,7 @@ impl Calls {
 
     fn second(&mut self) {
         let (book, table) = (black_box(&self.book), black_box(&self.table));
-        let answer = second_check::check(book, table, &mut self.work);
+        let answer = second_check::check(book, &self.calendar, table, &mut self.work);
         assert_eq!(answer, self.checked);
         self.list(BY_SLOTS);
     }

@@ -16,6 +16,7 @@ use std::hint::black_box;
 /// A book with what is lent to each call and what must be answered.
 struct Calls<'a> {
     book: &'a [u8],
+    calendar: &'a [u8],
     flow: u32,
     output: &'a mut [u8],
     work: Vec<u8>,
@@ -25,27 +26,32 @@ struct Calls<'a> {
 
 impl Calls<'_> {
     fn proved(&mut self) {
-        let answer = linked_finish::finish(black_box(self.book), self.flow, &mut self.work);
+        let (book, calendar) = (black_box(self.book), self.calendar);
+        let answer = linked_finish::finish(book, calendar, self.flow, &mut self.work);
         assert_eq!(answer, self.finished);
     }
 
     fn plain(&mut self) {
-        let answer = fast_finish::finish(black_box(self.book), self.flow, &mut self.work);
+        let (book, calendar) = (black_box(self.book), self.calendar);
+        let answer = fast_finish::finish(book, calendar, self.flow, &mut self.work);
         assert_eq!(answer, self.finished);
     }
 
     fn sorted(&mut self) {
-        let answer = fast_finish::finish_sorted(black_box(self.book), self.flow, &mut self.work);
+        let (book, calendar) = (black_box(self.book), self.calendar);
+        let answer = fast_finish::finish_sorted(book, calendar, self.flow, &mut self.work);
         assert_eq!(answer, self.finished);
     }
 
     fn second(&mut self) {
-        let answer = second_finish::finish(black_box(self.book), self.flow, &mut self.work);
+        let (book, calendar) = (black_box(self.book), self.calendar);
+        let answer = second_finish::finish(book, calendar, self.flow, &mut self.work);
         assert_eq!(answer, self.finished);
     }
 
     fn plan(&mut self) {
-        let answer = linked_plan::plan(black_box(self.book), self.output, &mut self.work);
+        let (book, calendar) = (black_box(self.book), self.calendar);
+        let answer = linked_plan::plan(book, calendar, self.output, &mut self.work);
         assert_eq!(answer, self.planned);
     }
 
@@ -63,8 +69,9 @@ impl Calls<'_> {
 
 fn measure(output: &mut [u8], case: &Case) {
     let book = encode_book(&case.book);
+    let calendar = case.calendar.encode();
     let mut work = vec![0x5a; WORK_BYTES];
-    let planned = fast_planner::plan(&book, output, &mut work);
+    let planned = fast_planner::plan(&book, &calendar, output, &mut work);
     assert_eq!(planned.number, 0, "the book of a benchmark is planned");
     let rows = (planned.length as usize - 8 - 2 * book[7] as usize) / 6;
     println!("  {}, {rows} rows:", case.name);
@@ -72,9 +79,10 @@ fn measure(output: &mut [u8], case: &Case) {
     let places = [0, (order.len() - 1) / 2, order.len() - 1];
     for (name, place) in ["first", "middle", "last"].into_iter().zip(places) {
         let flow = order[place] as u32;
-        let finished = fast_finish::finish(&book, flow, &mut work);
+        let finished = fast_finish::finish(&book, &calendar, flow, &mut work);
         let mut calls = Calls {
             book: &book,
+            calendar: &calendar,
             flow,
             output: &mut *output,
             work: work.clone(),

@@ -15,20 +15,23 @@ struct Outputs([Vec<u8>; 2]);
 
 fn measure(outputs: &mut Outputs, case: &Case) {
     let book = encode_book(&case.book);
+    let calendar = case.calendar.encode();
     let mut works = [vec![0x5a; WORK_BYTES], vec![0x5a; WORK_BYTES]];
     let [of_proved, of_fast] = &mut outputs.0;
-    let expected = fast_planner::plan(&book, of_fast, &mut works[1]);
+    let expected = fast_planner::plan(&book, &calendar, of_fast, &mut works[1]);
     let length = expected.length as usize;
     let [work_proved, work_fast] = &mut works;
     let medians = in_turn(
         case.rounds,
         case.calls,
         &mut || {
-            let answer = linked_plan::plan(black_box(&book), of_proved, work_proved);
+            let (book, calendar) = (black_box(&book), black_box(&calendar));
+            let answer = linked_plan::plan(book, calendar, of_proved, work_proved);
             assert_eq!(answer, expected);
         },
         &mut || {
-            let answer = fast_planner::plan(black_box(&book), of_fast, work_fast);
+            let (book, calendar) = (black_box(&book), black_box(&calendar));
+            let answer = fast_planner::plan(book, calendar, of_fast, work_fast);
             assert_eq!(answer, expected);
         },
     );

@@ -24,11 +24,11 @@ same-length c = search needs
 
 returns : tie.Need-returns
 returns c =
-    let s = c .before .before .before .before .before .before .before .before .before .before .before in
+    let s = c .before .before .before .before .before .before .before .before .before .before .before .before in
     let a = s .args in
     let check = c .before .before .before .before .before .check-table in
     let same = ap (λ (x : CheckAnswer). x .number) (check .ensures .0) in
-    let q = call-refused (a .book .now) (a .table .now) (a .output .now) (a .work .now) (omega (arith, same, positive (check .result .number) (c .before .if1 .taken))) in
+    let q = call-refused (a .book .now) (a .calendar .now) (a .table .now) (a .output .now) (a .work .now) (omega (arith, same, positive (check .result .number) (c .before .if1 .taken))) in
     record {
       answers = c .refusal .ensures ∙ ap (λ (x : CheckAnswer). listRefused (x .number) (x .flow) (x .job)) (check .ensures .0) ∙ sym (ap (λ (o : DispatchOutcome). o .answer) q);
       output-left = sym (ap (λ (o : DispatchOutcome). o .output) q);
@@ -37,11 +37,11 @@ returns c =
 
 list-accepted-requires : tie.Need-list-accepted-requires
 list-accepted-requires c κs =
-    let s = c .before .before .before .before .before .before .before .before .before .before .before .before in
+    let s = c .before .before .before .before .before .before .before .before .before .before .before .before .before in
     let a = s .args in
     let check = c .before .before .before .before .before .before .check-table in
     let accepts = sym (ap (λ (x : CheckAnswer). x .number) (check .ensures .0)) ∙ c .before .before .if1 .left in
-    (number-accepts (a .book .now) (a .table .now) (a .work .now) accepts, left-in-use (a .book .now) (a .table .now) (a .work .now) accepts (check .ensures .1))
+    (number-accepts (a .book .now) (a .calendar .now) (a .table .now) (a .work .now) accepts, left-in-use (a .book .now) (a .calendar .now) (a .table .now) (a .work .now) accepts (check .ensures .1))
 
 same-length-2 : tie.Need-same-length-2
 same-length-2 c = search needs
@@ -51,14 +51,14 @@ same-length-3 c = search needs
 
 returns-2 : tie.Need-returns-2
 returns-2 c =
-    let s = c .before .before .before .before .before .before .before .before .before .before .before .before .before .before .before .before .before in
+    let s = c .before .before .before .before .before .before .before .before .before .before .before .before .before .before .before .before .before .before in
     let a = s .args in
     let check = c .before .before .before .before .before .before .before .before .before .before .before .check-table in
     let accepts = sym (ap (λ (x : CheckAnswer). x .number) (check .ensures .0)) ∙ c .before .before .before .before .before .before .before .if1 .left in
     let listed = c .before .before .before .before .list-accepted .ensures in
     let q =
     ap (λ (w : List ℕ). listOutcome (bookOf (a .book .now)) (rowsOf (a .book .now) (a .table .now)) (a .output .now) w w) (check .ensures .1)
-    ∙ sym (call-listed (a .book .now) (a .table .now) (a .output .now) (a .work .now) accepts) in
+    ∙ sym (call-listed (a .book .now) (a .calendar .now) (a .table .now) (a .output .now) (a .work .now) accepts) in
     record {
       answers = listed .answers ∙ ap (λ (o : DispatchOutcome). o .answer) q;
       output-left = listed .output-left ∙ ap (λ (o : DispatchOutcome). o .output) q;

@@ -41,7 +41,6 @@ use denote.Triple.Clauses.{ensured, lasts}
 use denote.Triple.Table.{entered, cited}
 use denote.Triple.Walked.{says, needs, Stays, stay-ref, stay-dropped, gave-slice, walkOf, AllGo, goes-ref, goes-dropped, goes-gave-slice, Walks, ends-at, walked, walk-meets}
 use denote.Exit.{yes}
-use Rattle.rules.specs.Reading.{bookOf}
 use Rattle.finish.specs.Flows.{NextAsked, NextPlaced}
 use Rattle.finish.specs.declared.Placement.{Placement}
 use Rattle.finish.proofs.Placement as T
@@ -56,25 +55,25 @@ use Rattle.finish.proofs.step.Statement as stated
 use Rattle.finish.proofs.step.Code as code
 
 abbrev stayed : Stays (f.ended .signature .params) (f.ended .kept)
-stayed = (stay-ref (0 ∷ []) tt (plain (λ _. T.the-row)), (stay-dropped (shrSliceOf (1 ∷ []) tt (plain (λ _. u8))) yes, (gave-slice (2 ∷ []) tt (plain (λ _. u8)), (stay-dropped (plain (λ _. usize)) yes, (stay-dropped (plain (λ _. usize)) yes, (stay-dropped (plain (λ _. u16)) yes, tt))))))
+stayed = (stay-ref (0 ∷ []) tt (plain (λ _. T.the-row)), (stay-dropped (shrSliceOf (1 ∷ []) tt (plain (λ _. u8))) yes, (gave-slice (2 ∷ []) tt (plain (λ _. u8)), (stay-dropped (plain (λ _. usize)) yes, (stay-dropped (plain (λ _. usize)) yes, (stay-dropped (plain (λ _. u16)) yes, (stay-dropped (plain (λ _. usize)) yes, tt)))))))
 
 -- the contract that the proof cites
 abbrev PlaceNext : {M : Type 1} (𝓤 : URA M) (H : Heap 𝓤) (A : Atoms 𝓤) (mem : Memory → SProp 𝓤) (run : Routine → Fun 𝓤) → Contract 𝓤
 PlaceNext 𝓤 H A mem run = tripleOf 𝓤 H A place-next.signature (place-next.spec 𝓤 H A mem run)
 
-module _ {M : Type 1} (𝓤 : URA M) (H : Heap 𝓤) (A : Atoms 𝓤) (W : Given 𝓤 H A) (at-mem : Memory → SProp 𝓤) (run : Routine → Fun 𝓤) (κ κ₁ κ₂ : Lft) (q q₁ q₂ : Share) (b o : ℕ) (γ : GName) (h : Placement) (x₁ x₂ : RefT (List ℕ)) (records flow processors : ℕ) where
+module _ {M : Type 1} (𝓤 : URA M) (H : Heap 𝓤) (A : Atoms 𝓤) (W : Given 𝓤 H A) (at-mem : Memory → SProp 𝓤) (run : Routine → Fun 𝓤) (κ κ₁ κ₂ : Lft) (q q₁ q₂ : Share) (b o : ℕ) (γ : GName) (h : Placement) (x₁ x₂ : RefT (List ℕ)) (records flow processors limit : ℕ) where
   -- the numbers, which `place_next` has last too, their machine values, and what they own
-  abbrev ns : ℕ × (ℕ × (ℕ × Unit {0}))
-  ns = (records, (flow, (processors, tt)))
+  abbrev ns : ℕ × (ℕ × (ℕ × (ℕ × Unit {0})))
+  ns = (records, (flow, (processors, (limit, tt))))
 
-  abbrev ms : List Val × (List Val × (List Val × Unit {0}))
-  ms = (vint w64 records ∷ [], (vint w64 flow ∷ [], (vint w16 processors ∷ [], tt)))
+  abbrev ms : List Val × (List Val × (List Val × (List Val × Unit {0})))
+  ms = (vint w64 records ∷ [], (vint w64 flow ∷ [], (vint w16 processors ∷ [], (vint w64 limit ∷ [], tt))))
 
   abbrev Last : Fml
-  Last = owns (usize ∷ usize ∷ u16 ∷ []) ns ms
+  Last = owns (usize ∷ usize ∷ u16 ∷ usize ∷ []) ns ms
 
   -- the parameters, the machine values of the slices, those of the parameters, and what the slices own
-  abbrev a : RefT Placement × (RefT (List ℕ) × (RefT (List ℕ) × (ℕ × (ℕ × (ℕ × Unit {0})))))
+  abbrev a : RefT Placement × (RefT (List ℕ) × (RefT (List ℕ) × (ℕ × (ℕ × (ℕ × (ℕ × Unit {0}))))))
   a = (record { ptr = (b, o); name = γ; now = h }, (x₁, (x₂, ns)))
 
   abbrev s₁ : Val
@@ -83,7 +82,7 @@ module _ {M : Type 1} (𝓤 : URA M) (H : Heap 𝓤) (A : Atoms 𝓤) (W : Given
   abbrev s₂ : Val
   s₂ = sliceVal (x₂ .ptr) (length (x₂ .now))
 
-  abbrev vals : List Val × (List Val × (List Val × (List Val × (List Val × (List Val × Unit {0})))))
+  abbrev vals : List Val × (List Val × (List Val × (List Val × (List Val × (List Val × (List Val × Unit {0}))))))
   vals = (vptr b o ∷ [], (s₁ ∷ [], (s₂ ∷ [], ms)))
 
   abbrev Book : Fml
@@ -100,13 +99,13 @@ module _ {M : Type 1} (𝓤 : URA M) (H : Heap 𝓤) (A : Atoms 𝓤) (W : Given
 
   -- what is asked of `step`, and what it ensures: the same that `place_next` asks and ensures
   abbrev Asked : Type 0
-  Asked = NextAsked (x₁ .now) (x₂ .now) h records flow processors
+  Asked = NextAsked (x₁ .now) (x₂ .now) h records flow processors limit
 
   abbrev Said : Placement → List ℕ → Type 0
-  Said r ys = NextPlaced (bookOf (x₁ .now)) h (x₂ .now) ys r
+  Said r ys = NextPlaced (x₁ .now) flow limit h (x₂ .now) ys r
 
   -- what `place_next`'s triple binds outside: the slices' own lifetimes, shares and values, the state, and the numbers
-  abbrev passed : RefT (List ℕ) × (RefT (List ℕ) × (Placement × (ℕ × (ℕ × (ℕ × Unit {0})))))
+  abbrev passed : RefT (List ℕ) × (RefT (List ℕ) × (Placement × (ℕ × (ℕ × (ℕ × (ℕ × Unit {0}))))))
   passed = (x₁, (x₂, (h, ns)))
 
   abbrev to-place : PlaceNext 𝓤 H A at-mem run .Ghost
@@ -125,64 +124,64 @@ module _ {M : Type 1} (𝓤 : URA M) (H : Heap 𝓤) (A : Atoms 𝓤) (W : Given
 
   exits : (r : Placement) (ys : List ℕ) → Said r ys → length ys ≡ length (x₂ .now) → ent 𝓤 (⋆ 𝓤 H A (had r ys)) (Post vunit)
   exits r ys e l =
-      qed W (had r ys) ∵ suffices ! _ (ends-at 𝓤 H A f.ended stayed (f.clauses 𝓤 H A at-mem run) W (((κ, (κ₁, (κ₂, tt))), (q, (q₁, (q₂, tt))), tt, a, vals), tt) vunit tt (r, (tt, (ys, (tt, (tt, (tt, tt)))))) (tt, (tt, (l, (tt, (tt, (tt, tt))))))) $
+      qed W (had r ys) ∵ suffices ! _ (ends-at 𝓤 H A f.ended stayed (f.clauses 𝓤 H A at-mem run) W (((κ, (κ₁, (κ₂, tt))), (q, (q₁, (q₂, tt))), tt, a, vals), tt) vunit tt (r, (tt, (ys, (tt, (tt, (tt, (tt, tt))))))) (tt, (tt, (l, (tt, (tt, (tt, (tt, tt)))))))) $
       says ! e $
       -- the tokens
       move ! (2 ∷ 3 ∷ []) $ join ! $ frame ! $
       -- what is had of the parameters: the state's borrow, nothing of the book, what says the last area, nothing of the numbers
-      feqI ! (List Val) (vptr b o ∷ []) (vptr b o ∷ []) refl $ fjoin3 ! $ nothing ! $ nothing ! $ fjoin ! $ nothing ! $ fjoin ! $ nothing ! $ fjoin ! $ move ! (2 ∷ 0 ∷ []) $ fjoin ! $ nothing ! $ fjoin ! $ move ! (1 ∷ 0 ∷ []) $ fjoin ! $ frame ! $
+      feqI ! (List Val) (vptr b o ∷ []) (vptr b o ∷ []) refl $ fjoin3 ! $ nothing ! $ nothing ! $ fjoin ! $ nothing ! $ fjoin ! $ nothing ! $ fjoin ! $ nothing ! $ fjoin ! $ move ! (2 ∷ 0 ∷ []) $ fjoin ! $ nothing ! $ fjoin ! $ move ! (1 ∷ 0 ∷ []) $ fjoin ! $ frame ! $
       -- the result
       feqI ! (List Val) (vunit ∷ []) (vunit ∷ []) refl $ done !
 
   module _ (C : Calls 𝓤 H) (Λ : Loops 𝓤 H) (fm : FmC 𝓤 H (W .laws) C) (known : Triple 𝓤 (C #finish·place-next) (PlaceNext 𝓤 H A at-mem run)) where
     abbrev args : List Val
-    args = vptr b o ∷ s₁ ∷ s₂ ∷ vint w64 records ∷ vint w64 flow ∷ vint w16 processors ∷ []
+    args = vptr b o ∷ s₁ ∷ s₂ ∷ vint w64 records ∷ vint w64 flow ∷ vint w16 processors ∷ vint w64 limit ∷ []
 
-    walk : Room u8 (length (x₁ .now)) → Room u8 (length (x₂ .now)) → Is usize records (vint w64 records ∷ []) → Is usize flow (vint w64 flow ∷ []) → Is u16 processors (vint w16 processors ∷ []) → Asked
+    walk : Room u8 (length (x₁ .now)) → Room u8 (length (x₂ .now)) → Is usize records (vint w64 records ∷ []) → Is usize flow (vint w64 flow ∷ []) → Is u16 processors (vint w16 processors ∷ []) → Is usize limit (vint w64 limit ∷ []) → Asked
         → ent 𝓤 (onEntry 𝓤 H A f.signature (κ, (κ₁, (κ₂, tt))) (q, (q₁, (q₂, tt))) a vals) (WpFn 𝓤 H C Λ code.function args Post)
-    walk room₁ room₂ records-is flow-is processors-is ok =
-        qed W ((‵ (flft κ q) ⊛ Tokens) ∷ ‵ (owns (MutRef (named 0) κ T.the-row ∷ ShrSlice (named 1) κ₁ u8 ∷ MutSlice (named 2) κ₂ u8 ∷ usize ∷ usize ∷ u16 ∷ []) a vals) ∷ []) ∵ enter ! C Λ code.function args _ $
-        alloc1 ! (λ l₀. alloc1 ! (λ l₁. alloc1 ! (λ l₂. alloc1 ! (λ l₃. alloc1 ! (λ l₄. alloc1 ! (λ l₅. alloc1 ! (λ l₆. alloc1 ! (λ l₇. alloc1 ! (λ l₈. alloc1 ! (λ l₉. alloc1 ! (λ l₁₀. alloc0 ! $ params1 ! $
-        pass1 ! (init ! 18 refl (tt, tt)) $ pass1 ! (init ! 16 refl (tt, (tt, (record { fits = room₁ .0 }, tt)))) $ pass1 ! (init ! 14 refl (tt, (tt, (record { fits = room₂ .0 }, tt)))) $
-        pass1 ! (init ! 12 refl (uint-lawful 𝓤 H A W w64 .typed records _ records-is .0)) $ pass1 ! (init ! 10 refl (uint-lawful 𝓤 H A W w64 .typed flow _ flow-is .0)) $ pass1 ! (init ! 8 refl (uint-lawful 𝓤 H A W w16 .typed processors _ processors-is .0)) $ pass0 ! $
+    walk room₁ room₂ records-is flow-is processors-is limit-is ok =
+        qed W ((‵ (flft κ q) ⊛ Tokens) ∷ ‵ (owns (MutRef (named 0) κ T.the-row ∷ ShrSlice (named 1) κ₁ u8 ∷ MutSlice (named 2) κ₂ u8 ∷ usize ∷ usize ∷ u16 ∷ usize ∷ []) a vals) ∷ []) ∵ enter ! C Λ code.function args _ $
+        alloc1 ! (λ l₀. alloc1 ! (λ l₁. alloc1 ! (λ l₂. alloc1 ! (λ l₃. alloc1 ! (λ l₄. alloc1 ! (λ l₅. alloc1 ! (λ l₆. alloc1 ! (λ l₇. alloc1 ! (λ l₈. alloc1 ! (λ l₉. alloc1 ! (λ l₁₀. alloc1 ! (λ l₁₁. alloc0 ! $ params1 ! $
+        pass1 ! (init ! 20 refl (tt, tt)) $ pass1 ! (init ! 18 refl (tt, (tt, (record { fits = room₁ .0 }, tt)))) $ pass1 ! (init ! 16 refl (tt, (tt, (record { fits = room₂ .0 }, tt)))) $
+        pass1 ! (init ! 14 refl (uint-lawful 𝓤 H A W w64 .typed records _ records-is .0)) $ pass1 ! (init ! 12 refl (uint-lawful 𝓤 H A W w64 .typed flow _ flow-is .0)) $ pass1 ! (init ! 10 refl (uint-lawful 𝓤 H A W w16 .typed processors _ processors-is .0)) $ pass1 ! (init ! 8 refl (uint-lawful 𝓤 H A W w64 .typed limit _ limit-is .0)) $ pass0 ! $
         -- the state's borrow is opened
-        move ! (23 ∷ []) $ fsplit ! $ fsplit3 ! $ drop ! $ move ! (25 ∷ []) $ split ! $ move ! (2 ∷ 3 ∷ 0 ∷ []) $
+        move ! (25 ∷ []) $ fsplit ! $ fsplit3 ! $ drop ! $ move ! (27 ∷ []) $ split ! $ move ! (2 ∷ 3 ∷ 0 ∷ []) $
         opens ! tt T.the-row {h = h} b o (λ vs. spelt ! T.the-row (Is T.the-row) (shows 𝓤 H A T.the-row) (LL.vals T.the-type T′.the-laws) (LL.tells T.the-type T′.the-laws) fullShare h vs b o $
         move ! (1 ∷ []) $ peeks ! T.the-row (Is T.the-row) (shows 𝓤 H A T.the-row) h (LL.vals T.the-type T′.the-laws h) (λ was. move ! (1 ∷ 0 ∷ []) $
-        -- [the state's cell; what the state owns; the open borrow; obs; auth; the slices' tokens; what the other parameters own; _10; …; _9; …; _8; …; _7; …; _6; …; _5; …; _4; …; _3; …; _2; …; _1; …; room for _0; …]
-        assigns ! (of-opd ! (load ! (from ! (hop ! (look ! 25 refl) (stop !))) (look-raw ! 0 refl))) (from ! (stop !)) (init ! 13 refl (LL.lawful T.the-type T′.the-laws 𝓤 H A W .typed h _ was .0)) $
+        -- [the state's cell; what the state owns; the open borrow; obs; auth; the slices' tokens; what the other parameters own; _11; …; _10; …; _9; …; _8; …; _7; …; _6; …; _5; …; _4; …; _3; …; _2; …; _1; …; room for _0; …]
+        assigns ! (of-opd ! (load ! (from ! (hop ! (look ! 27 refl) (stop !))) (look-raw ! 0 refl))) (from ! (stop !)) (init ! 13 refl (LL.lawful T.the-type T′.the-laws 𝓤 H A W .typed h _ was .0)) $
         -- the work area is lent on
-        assigns ! (addr ! (from ! (fld ! refl (hop ! (look-in ! 21 (sub ! 0 refl (whole !))) (stop !))))) (from ! (stop !)) (init ! 9 refl (tt, tt)) $
-        assigns ! (agg ! (and-then ! (load ! (from ! (stop !)) (look ! 9 refl)) (and-then ! (load ! (from ! (fld ! refl (stop !))) (look-in ! 21 (sub ! 1 refl (whole !)))) (no-more !)))) (from ! (stop !)) (init ! 7 refl (tt, (tt, (record { fits = room₂ .0 }, tt)))) $
-        -- what `place_next` asks is put together: [the area; the numbers; the book; the state's cell; what the state owns; the open borrow; obs; auth; the slices' tokens; _10; …]
+        assigns ! (addr ! (from ! (fld ! refl (hop ! (look-in ! 23 (sub ! 0 refl (whole !))) (stop !))))) (from ! (stop !)) (init ! 9 refl (tt, tt)) $
+        assigns ! (agg ! (and-then ! (load ! (from ! (stop !)) (look ! 9 refl)) (and-then ! (load ! (from ! (fld ! refl (stop !))) (look-in ! 23 (sub ! 1 refl (whole !)))) (no-more !)))) (from ! (stop !)) (init ! 7 refl (tt, (tt, (record { fits = room₂ .0 }, tt)))) $
+        -- what `place_next` asks is put together: [the area; the numbers; the book; the state's cell; what the state owns; the open borrow; obs; auth; the slices' tokens; _11; …]
         move ! (6 ∷ []) $ fsplit ! $ move ! (1 ∷ []) $ fsplit ! $ move ! (8 ∷ 2 ∷ 0 ∷ 4 ∷ 1 ∷ []) $ cut asked (raw (PlaceNext 𝓤 H A at-mem run .pre to-place) ∷ []) _ (goes ok) $
-        -- [what `place_next` asks; the state's cell; the open borrow; obs; auth; _10; …]
-        calls-at ! fm (PlaceNext 𝓤 H A at-mem run) known to-place (and-then ! (load ! (from ! (stop !)) (look ! 21 refl)) (and-then ! (load ! (from ! (stop !)) (look ! 5 refl)) (and-then ! (load ! (from ! (stop !)) (look ! 11 refl)) (and-then ! (load ! (from ! (stop !)) (look ! 17 refl)) (and-then ! (load ! (from ! (stop !)) (look ! 15 refl)) (and-then ! (load ! (from ! (stop !)) (look ! 13 refl)) (no-more !))))))) (λ w.
+        -- [what `place_next` asks; the state's cell; the open borrow; obs; auth; _11; …]
+        calls-at ! fm (PlaceNext 𝓤 H A at-mem run) known to-place (and-then ! (load ! (from ! (stop !)) (look ! 23 refl)) (and-then ! (load ! (from ! (stop !)) (look ! 5 refl)) (and-then ! (load ! (from ! (stop !)) (look ! 11 refl)) (and-then ! (load ! (from ! (stop !)) (look ! 19 refl)) (and-then ! (load ! (from ! (stop !)) (look ! 17 refl)) (and-then ! (load ! (from ! (stop !)) (look ! 15 refl)) (and-then ! (load ! (from ! (stop !)) (look ! 13 refl)) (no-more !)))))))) (λ w.
         use1 W (later (some (λ (r : Placement). (Tokens ⊛ ‵ (T.the-row .own r (w ∷ []))) ⊛ raw (ensured 𝓤 H A place-next.ended (place-next.clauses 𝓤 H A at-mem run) (κ₁, (κ₂, tt)) passed tt r)))) (id⊢ 𝓤 _) $ await ! tt $ pick ! (λ r.
         -- what `place_next` ensures, at some last area
-        split ! $ move ! (1 ∷ []) $ use1 W (some (λ (zs : Unit {0} × (List ℕ × (Unit {0} × (Unit {0} × (Unit {0} × (Unit {0} × Unit {0})))))). ‵ (lasts place-next.ended (κ₁, (κ₂, tt)) passed zs) ⊛ raw (fact 𝓤 (Said r (zs .1 .0))))) (id⊢ 𝓤 _) $ pick ! (λ zs.
+        split ! $ move ! (1 ∷ []) $ use1 W (some (λ (zs : Unit {0} × (List ℕ × (Unit {0} × (Unit {0} × (Unit {0} × (Unit {0} × (Unit {0} × Unit {0}))))))). ‵ (lasts place-next.ended (κ₁, (κ₂, tt)) passed zs) ⊛ raw (fact 𝓤 (Said r (zs .1 .0))))) (id⊢ 𝓤 _) $ pick ! (λ zs.
         split ! $ move ! (1 ∷ []) $ heard ! (Said r (zs .1 .0)) (λ e.
         fsplit ! $ drop ! $ fsplit ! $ fsplit ! $ move ! (1 ∷ []) $ feqL ! (λ k.
         move ! (2 ∷ []) $ split ! $ move ! (1 ∷ []) $ peeks ! T.the-row (Is T.the-row) (shows 𝓤 H A T.the-row) r (w ∷ []) (λ is.
-        -- [what the answer owns; the slices' tokens; the last area; …; the state's cell; the open borrow; obs; auth; _10; …; _9; …; room for _8; …; _7; …; _6; …; _5; …; _4; …; _3; …; _2; …; _1; …; room for _0; …]
+        -- [what the answer owns; the slices' tokens; the last area; …; the state's cell; the open borrow; obs; auth; _11; …; _10; …; room for _9; …; _8; …; _7; …; _6; …; _5; …; _4; …; _3; …; _2; …; _1; …; room for _0; …]
         land ! (from ! (stop !)) (init ! 12 refl (LL.lawful T.the-type T′.the-laws 𝓤 H A W .typed r _ is .0)) $
-        assigns ! (of-opd ! (load ! (from ! (stop !)) (look ! 12 refl))) (from ! (hop ! (look ! 26 refl) (stop !))) (store-raw ! 4 refl (LL.lawful T.the-type T′.the-laws 𝓤 H A W .typed r _ is .0)) $
-        assigns ! (of-opd ! (unit-lit !)) (from ! (stop !)) (init ! 28 refl (tt, tt)) $
+        assigns ! (of-opd ! (load ! (from ! (stop !)) (look ! 12 refl))) (from ! (hop ! (look ! 28 refl) (stop !))) (store-raw ! 4 refl (LL.lawful T.the-type T′.the-laws 𝓤 H A W .typed r _ is .0)) $
+        assigns ! (of-opd ! (unit-lit !)) (from ! (stop !)) (init ! 30 refl (tt, tt)) $
         -- the state's borrow is closed at the answer
         move ! (4 ∷ 0 ∷ 5 ∷ 6 ∷ 7 ∷ []) $ closes ! tt T.the-row r (w ∷ []) b o $
-        -- [obs; the borrow; the state's token; the slices' tokens; the last area; …; _10; …]
-        returns ! (look ! 26 refl) $ forget ! 6 refl $ forget ! 8 refl $ forget ! 10 refl $ forget ! 12 refl $ forget ! 14 refl $ forget ! 16 refl $ forget ! 18 refl $ forget ! 20 refl $ forget ! 22 refl $ forget ! 24 refl $ forget ! 26 refl $
-        move ! (26 ∷ 27 ∷ []) $ free1 ! $ move ! (24 ∷ 25 ∷ []) $ free1 ! $ move ! (22 ∷ 23 ∷ []) $ free1 ! $ move ! (20 ∷ 21 ∷ []) $ free1 ! $ move ! (18 ∷ 19 ∷ []) $ free1 ! $ move ! (16 ∷ 17 ∷ []) $ free1 ! $ move ! (14 ∷ 15 ∷ []) $ free1 ! $ move ! (12 ∷ 13 ∷ []) $ free1 ! $ move ! (10 ∷ 11 ∷ []) $ free1 ! $ move ! (8 ∷ 9 ∷ []) $ free1 ! $ move ! (6 ∷ 7 ∷ []) $ free1 ! $ free0 ! $
-        keep ! (0 ∷ 1 ∷ 2 ∷ 3 ∷ 4 ∷ []) $ by ! (exits r (zs .1 .0) e k))))))))))))))))))))
+        -- [obs; the borrow; the state's token; the slices' tokens; the last area; …; _11; …]
+        returns ! (look ! 28 refl) $ forget ! 6 refl $ forget ! 8 refl $ forget ! 10 refl $ forget ! 12 refl $ forget ! 14 refl $ forget ! 16 refl $ forget ! 18 refl $ forget ! 20 refl $ forget ! 22 refl $ forget ! 24 refl $ forget ! 26 refl $ forget ! 28 refl $
+        move ! (28 ∷ 29 ∷ []) $ free1 ! $ move ! (26 ∷ 27 ∷ []) $ free1 ! $ move ! (24 ∷ 25 ∷ []) $ free1 ! $ move ! (22 ∷ 23 ∷ []) $ free1 ! $ move ! (20 ∷ 21 ∷ []) $ free1 ! $ move ! (18 ∷ 19 ∷ []) $ free1 ! $ move ! (16 ∷ 17 ∷ []) $ free1 ! $ move ! (14 ∷ 15 ∷ []) $ free1 ! $ move ! (12 ∷ 13 ∷ []) $ free1 ! $ move ! (10 ∷ 11 ∷ []) $ free1 ! $ move ! (8 ∷ 9 ∷ []) $ free1 ! $ move ! (6 ∷ 7 ∷ []) $ free1 ! $ free0 ! $
+        keep ! (0 ∷ 1 ∷ 2 ∷ 3 ∷ 4 ∷ []) $ by ! (exits r (zs .1 .0) e k)))))))))))))))))))))
 
 module _ {M : Type 1} (𝓤 : URA M) (H : Heap 𝓤) (A : Atoms 𝓤) (W : Given 𝓤 H A) (mem : Memory → SProp 𝓤) (run : Routine → Fun 𝓤) where
   step-walks : (C : Calls 𝓤 H) (Λ : Loops 𝓤 H) → FmC 𝓤 H (W .laws) C → Triple 𝓤 (C #finish·place-next) (PlaceNext 𝓤 H A mem run) → Walks 𝓤 H A f.ended stayed (WpFn 𝓤 H C Λ code.function) (f.clauses 𝓤 H A mem run)
   step-walks C Λ fm known = walked 𝓤 H A f.ended stayed (f.clauses 𝓤 H A mem run) (WpFn 𝓤 H C Λ code.function)
-      (λ κs. (ptr-vals, (slice-vals, (slice-vals, (uint-vals w64, (uint-vals w64, (uint-vals w16, tt)))))))
-      (λ κs. (mut-tells (named 0) (κs .0) T.the-row, (shr-slice-tells (named 1) (κs .1 .0) u8, (mut-slice-tells (named 2) (κs .1 .1 .0) u8, (uint-tells w64, (uint-tells w64, (uint-tells w16, tt)))))))
-      (λ κs qs bounds a g are. needs 𝓤 (NextAsked (a .1 .0 .now) (a .1 .1 .0 .now) (a .0 .now) (a .1 .1 .1 .0) (a .1 .1 .1 .1 .0) (a .1 .1 .1 .1 .1 .0)) _
-      (walk 𝓤 H A W mem run (κs .0) (κs .1 .0) (κs .1 .1 .0) (qs .0) (qs .1 .0) (qs .1 .1 .0) (a .0 .ptr .0) (a .0 .ptr .1) (a .0 .name) (a .0 .now) (a .1 .0) (a .1 .1 .0) (a .1 .1 .1 .0) (a .1 .1 .1 .1 .0) (a .1 .1 .1 .1 .1 .0) C Λ fm known
-      (are .1 .0 .0 .1) (are .1 .1 .0 .0 .1) (are .1 .1 .1 .0) (are .1 .1 .1 .1 .0) (are .1 .1 .1 .1 .1 .0)))
+      (λ κs. (ptr-vals, (slice-vals, (slice-vals, (uint-vals w64, (uint-vals w64, (uint-vals w16, (uint-vals w64, tt))))))))
+      (λ κs. (mut-tells (named 0) (κs .0) T.the-row, (shr-slice-tells (named 1) (κs .1 .0) u8, (mut-slice-tells (named 2) (κs .1 .1 .0) u8, (uint-tells w64, (uint-tells w64, (uint-tells w16, (uint-tells w64, tt))))))))
+      (λ κs qs bounds a g are. needs 𝓤 (NextAsked (a .1 .0 .now) (a .1 .1 .0 .now) (a .0 .now) (a .1 .1 .1 .0) (a .1 .1 .1 .1 .0) (a .1 .1 .1 .1 .1 .0) (a .1 .1 .1 .1 .1 .1 .0)) _
+      (walk 𝓤 H A W mem run (κs .0) (κs .1 .0) (κs .1 .1 .0) (qs .0) (qs .1 .0) (qs .1 .1 .0) (a .0 .ptr .0) (a .0 .ptr .1) (a .0 .name) (a .0 .now) (a .1 .0) (a .1 .1 .0) (a .1 .1 .1 .0) (a .1 .1 .1 .1 .0) (a .1 .1 .1 .1 .1 .0) (a .1 .1 .1 .1 .1 .1 .0) C Λ fm known
+      (are .1 .0 .0 .1) (are .1 .1 .0 .0 .1) (are .1 .1 .1 .0) (are .1 .1 .1 .1 .0) (are .1 .1 .1 .1 .1 .0) (are .1 .1 .1 .1 .1 .1 .0)))
 
   goes-all : AllGo 𝓤 H A W 3 (f.signature .params) (f.ended .kept) stayed
   goes-all = (
@@ -191,7 +190,7 @@ module _ {M : Type 1} (𝓤 : URA M) (H : Heap 𝓤) (A : Atoms 𝓤) (W : Given
       goes-dropped 𝓤 H A W 3 (shrSliceOf (1 ∷ []) tt (plain (λ _. u8))) yes (λ κs x f. refl),
       (
         goes-gave-slice 𝓤 H A W 3 2 tt (plain (λ _. u8)),
-        (goes-dropped 𝓤 H A W 3 (plain (λ _. usize)) yes (λ κs x f. refl), (goes-dropped 𝓤 H A W 3 (plain (λ _. usize)) yes (λ κs x f. refl), (goes-dropped 𝓤 H A W 3 (plain (λ _. u16)) yes (λ κs x f. refl), tt))),
+        (goes-dropped 𝓤 H A W 3 (plain (λ _. usize)) yes (λ κs x f. refl), (goes-dropped 𝓤 H A W 3 (plain (λ _. usize)) yes (λ κs x f. refl), (goes-dropped 𝓤 H A W 3 (plain (λ _. u16)) yes (λ κs x f. refl), (goes-dropped 𝓤 H A W 3 (plain (λ _. usize)) yes (λ κs x f. refl), tt)))),
       ),
     ),
   )

@@ -5,7 +5,7 @@ use Prim.Native.Nat.{_-_}
 use lib.ListN.{length}
 use Rattle.rules.specs.Reading.{bookOf}
 use Rattle.chain.proofs.Ended.{EndedBelow, ended-none, ended-more, ended-later}
-use Rattle.place.proofs.FlowLoop.{FlowKept, flow-kept-first, flow-kept-next, flow-kept-stops, flow-kept-done, count-few, some-flow, run-here, parts-within, held-at, cut-within, path-held, path-fits, deadline-within}
+use Rattle.place.proofs.FlowLoop.{FlowKept, flow-kept-first, flow-kept-next, flow-kept-stops, flow-kept-done, count-few, some-flow, run-here, parts-within, held-at, cut-within, path-held, path-fits}
 use borrow.Author.Needs.{needs}
 use native.Mathlib.Omega.{arith}
 use Rattle.place.proofs.place_cuts.Statement.{statement}
@@ -39,8 +39,14 @@ told c = c .before .before .before .before .before .before .before .before
 
 loop-holds : tie.Need-loop-holds Inv-loop μ-loop
 loop-holds c =
-    let b = c .before .before .before .before .before .before .before .before .before .before .before in
-    (flow-kept-first (b .pre .0) (b .args .listed) (b .args .at) (b .args .out .now) (b .args .area .now) (b .pre .5) (b .pre .6), ended-none _ _ _, refl, refl, refl)
+    let b = c .before .before .before .before .before .before .before .before .before .before .before in (
+      flow-kept-first (b .pre .0) (b .args .listed) (b .args .at) (b .args .out .now) (b .args .area .now) (omega (arith, b .pre .5, b .pre .6))
+          (b .pre .5),
+      ended-none _ _ _,
+      refl,
+      refl,
+      refl,
+    )
 
 skip-ended-requires : tie.Need-skip-ended-requires Inv-loop μ-loop
 skip-ended-requires c κs = (c .before .loop .inv .1 .within, start (c .before) .pre .0 .ends-whole)
@@ -74,12 +80,12 @@ run-as-requires c κs =
     let few = parts-within (v .0) (m .run-at .ensures) in (
       held-at (v .0) (m .run-at .ensures) (v .4) (omega (arith, v .1, l .inv .2)) (omega (arith, v .2, l .inv .3)),
       omega (arith, v .3, l .inv .4),
-      omega (arith, v .7, k .area-length),
+      omega (arith, v .8, k .area-length),
       k .slot-to,
-      omega (arith, v .5, deadline-within (v .0)),
+      v .7,
       record {
-        places = λ t. omega (arith, v .8 .places t, k .place-if t, k .place-to, k .slot-to, v .5, deadline-within (v .0));
-        nothing-lent = λ t. omega (arith, v .8 .nothing-lent t, k .out-length);
+        places = λ t. omega (arith, v .9 .places t, k .place-if t, k .place-to, k .slot-to, v .7);
+        nothing-lent = λ t. omega (arith, v .9 .nothing-lent t, k .out-length);
       },
     )
 
@@ -109,7 +115,7 @@ returns c rows bytes used within =
     let d = told c in
     let m = made d in
     let v = start (turn m) .pre in
-    flow-kept-stops (v .0) (m .run-at .ensures) _ (v .5) (turn m .loop .inv .0) (d .run-as .ensures) (c .enum-told .given .1) rows bytes used
+    flow-kept-stops (v .0) (m .run-at .ensures) _ (turn m .loop .inv .0) (d .run-as .ensures) (c .enum-told .given .1) rows bytes used
     (λ u. omega (arith, within u, v .4))
 
 add-t : tie.Need-add-t Inv-loop μ-loop
@@ -154,7 +160,7 @@ same-length-10 c = search needs
 returns-2 : tie.Need-returns-2 Inv-loop μ-loop
 returns-2 c rows bytes used within =
     let v = start (c .before) .pre in
-    flow-kept-done (v .0) (v .5) (omega (arith, c .loop-test .left, path-held (v .0))) (c .before .loop .inv .0) rows bytes used
+    flow-kept-done (v .0) (v .7) (omega (arith, c .loop-test .left, path-held (v .0))) (c .before .loop .inv .0) rows bytes used
     (λ u. omega (arith, within u, v .4))
 
 pub place-cuts-spec : {M : Type 1} → statement M

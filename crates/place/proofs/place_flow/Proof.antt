@@ -4,7 +4,7 @@ use native.Mathlib.Omega.{arith}
 use lib.ListN.{length}
 use Rattle.book.specs.Promise.{FlowJobs, flowHeld}
 use Rattle.chain.specs.Runs.{Ideal}
-use Rattle.place.proofs.FlowLoop.{chain-asked, release-held, limit-held, flow-held}
+use Rattle.place.proofs.FlowLoop.{chain-asked, release-held, flow-held, flow-not-begun}
 use borrow.Author.Needs.{needs}
 use Rattle.place.proofs.place_flow.Statement.{statement}
 use Rattle.place.proofs.place_flow.Tie as tie
@@ -20,7 +20,7 @@ jobs c =
 
 -- what its lists hold then
 abbrev loaded : tie.After-firsts → tie.After-load-flow
-loaded c = c .before .before .before .before .before .before .before .before .before .before .before .before
+loaded c = c .before .before .before .before .before .before .before .before .before .before .before
 
 abbrev ideal : tie.After-ideal-of → Ideal
 ideal c =
@@ -64,12 +64,6 @@ load-flow-requires c κs = search needs
 wide16-requires : tie.Need-wide16-requires
 wide16-requires c κs = search needs
 
-mul-limit : tie.Need-mul-limit
-mul-limit c = search needs
-
-wide16-requires-2 : tie.Need-wide16-requires-2
-wide16-requires-2 c κs = search needs
-
 slice-aggregate-ideal-of : tie.Need-slice-aggregate-ideal-of
 slice-aggregate-ideal-of c = search needs
 
@@ -106,6 +100,20 @@ ideal-of-requires c κs =
       few,
     )
 
+wide16-requires-2 : tie.Need-wide16-requires-2
+wide16-requires-2 c κs = search needs
+
+-- no slot from the release on is below the limit
+returns : tie.Need-returns
+returns c rows bytes used within =
+    let i = c .before .before .before .before .before .before .before in
+    let h = loaded i in
+    let b = begun h in
+    let release = release-held (b .args .book .now) (b .args .f) (b .args .records) (jobs h) (b .pre .0) (h .load-flow .ensures) _
+    (i .before .before .before .before .before .before .before .wide16 .ensures .0) in
+    flow-not-begun (b .args .book .now) (b .args .f) (b .args .limit) (b .pre .0 .passes) (b .pre .0 .flow-in)
+    (omega (arith, c .if1 .taken, c .before .wide162 .ensures .0)) rows bytes _ _ used
+
 slice-aggregate-place-cuts : tie.Need-slice-aggregate-place-cuts
 slice-aggregate-place-cuts c = search needs
 
@@ -135,7 +143,8 @@ cast-place-cuts c = search needs
 
 place-cuts-requires : tie.Need-place-cuts-requires
 place-cuts-requires c κs =
-    let i = c .before .before .before .before .before .before .before .before .before .before .before .before .before .before .before in
+    let e = c .before .before .before .before .before .before .before .before .before .before .before in
+    let i = e .before .before .before .before .before .before in
     let h = loaded (i .before) in
     let load = h .load-flow in
     let b = begun h in
@@ -146,10 +155,12 @@ place-cuts-requires c κs =
       few,
       few,
       b .pre .1,
-      limit-held (b .args .book .now) (b .args .f) (b .args .records) (jobs h) (b .pre .0) (load .ensures) _ (i .before .before .before .before .before .before .before .before .before .wide16 .ensures .0),
-      release-held (b .args .book .now) (b .args .f) (b .args .records) (jobs h) (b .pre .0) (load .ensures) _ (i .before .before .before .before .before .before .before .before .wide162 .ensures .0),
-      b .pre .2,
+      release-held (b .args .book .now) (b .args .f) (b .args .records) (jobs h) (b .pre .0) (load .ensures) _
+          (i .before .before .before .before .before .before .before .before .wide16 .ensures .0),
+      omega (arith, e .if1 .left),
+      omega (arith, b .pre .2, e .before .wide162 .ensures .0),
       b .pre .3,
+      b .pre .4,
     )
 
 same-length : tie.Need-same-length
@@ -158,8 +169,8 @@ same-length c = search needs
 same-length-2 : tie.Need-same-length-2
 same-length-2 c = search needs
 
-returns : tie.Need-returns
-returns c = search needs
+returns-2 : tie.Need-returns-2
+returns-2 c = let p = c .before .before .before .before .before .before .before in rw (p .before .before .before .before .before .before .before .before .before .before .before .before .before .wide162 .ensures .0) at (p .place-cuts .ensures)
 
 pub place-flow-spec : {M : Type 1} → statement M
 place-flow-spec =
@@ -170,8 +181,6 @@ place-flow-spec =
     slice-aggregate-load-flow-3
     load-flow-requires
     wide16-requires
-    mul-limit
-    wide16-requires-2
     slice-aggregate-ideal-of
     slice-aggregate-ideal-of-2
     slice-aggregate-ideal-of-3
@@ -180,6 +189,8 @@ place-flow-spec =
     slice-aggregate-ideal-of-6
     slice-aggregate-ideal-of-7
     ideal-of-requires
+    wide16-requires-2
+    returns
     slice-aggregate-place-cuts
     slice-aggregate-place-cuts-2
     slice-aggregate-place-cuts-3
@@ -192,4 +203,4 @@ place-flow-spec =
     place-cuts-requires
     same-length
     same-length-2
-    returns)
+    returns-2)

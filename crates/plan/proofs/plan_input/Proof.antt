@@ -5,6 +5,7 @@ use borrow.Author.Needs.{needs}
 use mathlib.Core.Path.{sym, subst}
 use mathlib.Core.List.{List}
 use Rattle.rules.specs.declared.PlanAnswer.{PlanAnswer}
+use Rattle.rules.specs.Calendar.{noWindows}
 use Rattle.rules.specs.Planner.{planCall}
 use Rattle.plan_text.specs.Printed.{Prints, printed}
 use Rattle.plan_text.proofs.PrintedAnswers.{long-input-prints, call-prints}
@@ -15,6 +16,9 @@ returns : tie.Need-returns
 returns c =
     let a = c .before .before .before .before .args in
     long-input-prints (a .input .now) (a .output .now) (c .if1 .taken)
+
+slice-aggregate-plan-book : tie.Need-slice-aggregate-plan-book
+slice-aggregate-plan-book c = search needs
 
 plan-book-requires : tie.Need-plan-book-requires
 plan-book-requires c κs = search needs
@@ -27,14 +31,14 @@ same-length-2 c = search needs
 
 returns-2 : tie.Need-returns-2
 returns-2 c =
-    let start = c .before .before .before .before .before .before .before .before .before .before .before in
+    let start = c .before .before .before .before .before .before .before .before .before .before .before .before in
     let leaves = c .before .before .before .before .plan-book .ensures in
     let text = printed (start .args .input .now) in
-    let outcome = planCall (start .args .input .now) (start .args .output .now) (start .args .work .now) in
+    let outcome = planCall (start .args .input .now) noWindows (start .args .output .now) (start .args .work .now) in
     subst (λ (o : List ℕ). Prints text o (c .before .before .before .before .plan-book .result)) (sym (leaves .output-left))
     (subst (λ (a : PlanAnswer). Prints text (outcome .output) a) (sym (leaves .answers))
-    (call-prints (start .args .output .now) (start .args .work .now) (start .pre .0) (start .pre .1) (start .args .input .now) (c .before .before .before .before .before .before .before .if1 .left)))
+    (call-prints (start .args .output .now) (start .args .work .now) (start .pre .0) (start .pre .1) (start .args .input .now) (c .before .before .before .before .before .before .before .before .if1 .left)))
 
 pub plan-input-spec : {M : Type 1} → statement M
 plan-input-spec =
-    tie.close (tie.spec returns plan-book-requires same-length same-length-2 returns-2)
+    tie.close (tie.spec returns slice-aggregate-plan-book plan-book-requires same-length same-length-2 returns-2)

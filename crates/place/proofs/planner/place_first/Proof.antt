@@ -1,151 +1,50 @@
--- The first flows in service order, one a turn: the invariant is where the placing stands after k flows. Assumes nothing.
-use mathlib.Core.Path.{_≡_, refl, sym, ap, subst}
-use Prim.Native.Nat.{suc, _+_, _-_, _≤_}
-use mathlib.Core.Bool.{true, false≢true}
-use mathlib.Core.List.{List, [], _++_}
-use lib.ListN.{length}
-use Rattle.rules.specs.Reading.{bookOf}
-use Rattle.rules.specs.Rows.{Row}
-use Rattle.place.specs.declared.Placed.{Placed}
-use Rattle.place.specs.declared.planner.Ended.the-variants.{Infeasible}
-use Rattle.place.specs.Flows.{newRows, FlowPlaced}
-use Rattle.place.proofs.FirstFlows.{NextFlow, Stands, few-flows, next-flow, listed-done, place-most, stands-first, goes-on, infeasible-next, infeasible-stays, ends-planned, ends-infeasible}
-use borrow.Author.Needs.{needs}
+-- The maintenance is put into the area, all flows are placed beside it, and it is taken out again. Assumes nothing.
+use Rattle.place.proofs.FirstFlows.{maintenance-held, asked-beside, first-placed}
 use native.Mathlib.Omega.{arith}
+use borrow.Author.Needs.{needs}
 use Rattle.place.proofs.planner.place_first.Statement.{statement}
 use Rattle.place.proofs.planner.place_first.Tie as tie
 
-abbrev Inv-loop : tie.InvT-loop
-Inv-loop book out₀ work₀ count x order processors finish₀ next₀ k₀ out work finish next k =
-    (k ≤ count) × (length out ≡ length out₀) × (length work ≡ length work₀) × ((rows : List Row) × Stands (bookOf book) k rows out₀ work₀ out work finish next)
-
-abbrev μ-loop : tie.MeasureT-loop
-μ-loop book out₀ work₀ count x order processors finish₀ next₀ k₀ out work finish next k = count - k
-
--- where the function begins, a turn, the flow of the turn, and where it was placed
-abbrev start : tie.At-loop Inv-loop μ-loop → tie.Start Inv-loop μ-loop
+-- where the function begins, where the area holds the maintenance, and where the flows are placed
+abbrev start : tie.After-set-shut-arg → tie.Start
 start c = c .before .before .before .before
 
-abbrev turn : tie.After-wide Inv-loop μ-loop → tie.At-loop Inv-loop μ-loop
-turn c = c .before .before
+abbrev shut : tie.After-place-flows-arg2 → tie.After-set-shut
+shut c = c .before .before .before .before
 
-abbrev served : tie.After-place-flow Inv-loop μ-loop → tie.After-wide Inv-loop μ-loop
-served c = c .before .before .before .before
+abbrev placed : tie.After-set-shut-arg2 → tie.After-place-flows
+placed c = c .before .before .before .before .before
 
--- the flow of the turn is the next in service order
-next : (c : tie.After-wide Inv-loop μ-loop) → NextFlow (start (turn c) .args .book .now) (start (turn c) .args .t4) (turn c .loop .k) (c .wide .result)
-next c = next-flow _ _ _ _ _ (start (turn c) .pre) _ _ (c .before .loop-test .taken) (c .wide .ensures .0)
+set-shut-requires : tie.Need-set-shut-requires
+set-shut-requires c κs = let p = start c .pre in (p .calendar-in-range, p .long-enough)
 
--- it is placed beside the rows so far, whichever way that ends
-abbrev Beside : tie.After-place-flow Inv-loop μ-loop → Placed → Type 0
-Beside c w =
-    let u = turn (served c) in
-    FlowPlaced true (bookOf (start u .args .book .now)) (served c .wide .result) (u .loop .inv .3 .0) (start u .args .work .now) (u .loop .out) (u .loop .next)
-    (c .place-flow .last .1 .1 .0) (c .place-flow .last .1 .1 .1 .0) w
+place-flows-requires : tie.Need-place-flows-requires
+place-flows-requires c κs = let m = shut c in asked-beside (start (m .before) .pre) (m .set-shut .ensures) (search needs)
 
-placed : (c : tie.After-place-flow Inv-loop μ-loop) (w : Placed) → c .place-flow .result ≡ w → Beside c w
-placed c w e =
-    let u = turn (served c) in
-    let st = u .loop .inv .3 .1 in
-    subst (Beside c) e
-    (c .place-flow .ensures (u .loop .inv .3 .0) (start u .args .work .now) (st .first .area-used) (λ t. omega (arith, st .within t, start u .pre .indexed .processors)))
+set-shut-requires-2 : tie.Need-set-shut-requires-2
+set-shut-requires-2 c κs = let p = start (shut (placed c .before) .before) .pre in (p .calendar-in-range, omega (arith, p .long-enough))
 
-mul-next : tie.Need-mul-next Inv-loop μ-loop
-mul-next c = omega (arith, few-flows (c .before .before .before .pre))
-
-add-next : tie.Need-add-next Inv-loop μ-loop
-add-next c = omega (arith, few-flows (c .before .before .before .pre))
-
-loop-holds : tie.Need-loop-holds Inv-loop μ-loop
-loop-holds c =
-    let a = c .before .before .before .args in
-    let p = c .before .before .before .pre in
-    (search needs, refl, refl, ([], stands-first (bookOf (a .book .now)) (a .out .now) (a .work .now) _ 64 (p .zero) (omega (arith, p .indexed .flows)) refl))
-
-array-read-flow : tie.Need-array-read-flow Inv-loop μ-loop
-array-read-flow c = let p = start (c .before) .pre in omega (arith, few-flows p, p .within, p .indexed .flows)
-
-wide-requires : tie.Need-wide-requires Inv-loop μ-loop
-wide-requires c κs = search needs
-
-mul-records : tie.Need-mul-records Inv-loop μ-loop
-mul-records c = omega (arith, next c .flow-below)
-
-element-copy-out-records : tie.Need-element-copy-out-records Inv-loop μ-loop
-element-copy-out-records c = omega (arith, next c .flow-below)
-
-place-flow-requires : tie.Need-place-flow-requires Inv-loop μ-loop
-place-flow-requires c κs =
-    let w = c .before .before .before in
-    let n = next w in
-    let most = place-most _ _ _ _ _ _ _ _ _ (omega arith) (n .few-flows) (turn w .loop .inv .3 .1 .first) in
-    (n .stands, start (turn w) .pre .indexed .processors, omega arith, record { places = λ _. omega (arith, most); nothing-lent = λ t. absurd (false≢true (sym t)) })
-
-enum-known-end : tie.Need-enum-known-end Inv-loop μ-loop
-enum-known-end c = search needs
-
-enum-told : tie.Need-enum-told Inv-loop μ-loop
-enum-told c = search needs
-
-same-length : tie.Need-same-length Inv-loop μ-loop
+same-length : tie.Need-same-length
 same-length c = search needs
 
-same-length-2 : tie.Need-same-length-2 Inv-loop μ-loop
+same-length-2 : tie.Need-same-length-2
 same-length-2 c = search needs
 
-returns : tie.Need-returns Inv-loop μ-loop
+returns : tie.Need-returns
 returns c =
-    let w = served (c .before .before .before .before .before .before) in
-    let a = start (turn w) .args in
-    let l = turn w .loop in
-    let n = next w in
-    let f = w .wide .result in
-    let d = placed (c .before .before .before .before .before .before) _ (c .enum-told .given .1) in
-    let e : suc (l .k) + (a .count - suc (l .k)) ≡ a .count = omega arith in
-    let p = infeasible-stays (bookOf (a .book .now)) (suc (l .k)) (a .count - suc (l .k)) f (infeasible-next _ (l .k) f _ _ _ _ _ _ _ (n .below) (n .served) (l .inv .3 .1) _ _ d) in
-    ends-infeasible _ _ _ _ _ _ _ f (d .others) (rw e at p) (d .area-used) (ap Infeasible (sym (w .wide .ensures .0)))
-
-cast-finish : tie.Need-cast-finish Inv-loop μ-loop
-cast-finish c =
-    let d = placed (c .before .before .before .before .before .before .before) _ (c .before .end .given .1) .2 in
-    omega (arith, d .finish-within, next (served (c .before .before .before .before .before .before .before)) .deadline-most)
-
-mul-finish : tie.Need-mul-finish Inv-loop μ-loop
-mul-finish c = omega (arith, next (served (c .before .before .before .before .before .before .before)) .flow-below)
-
-array-write-finish : tie.Need-array-write-finish Inv-loop μ-loop
-array-write-finish c =
-    let w = served (c .before .before .before .before .before .before .before) in
-    omega (arith, next w .flow-below, turn w .loop .inv .3 .1 .size)
-
-add-k : tie.Need-add-k Inv-loop μ-loop
-add-k c = search needs
-
-loop-less : tie.Need-loop-less Inv-loop μ-loop
-loop-less c = search needs
-
-loop-again : tie.Need-loop-again Inv-loop μ-loop
-loop-again c =
-    let w = served (c .before .before .before .before .before .before .before) in
-    let n = next w in
-    let l = turn w .loop in
-    let rows = l .inv .3 .0 in
-    let d = listed-done (placed (c .before .before .before .before .before .before .before) _ (c .before .end .given .1)) in
-    (omega arith, search needs, search needs, (rows ++ newRows (bookOf (start (turn w) .args .book .now)) (w .wide .result) rows, goes-on _ (l .k) _ rows _ _ _ _ _ _ (n .below) (n .served) (l .inv .3 .1) (n .few-flows) _ _ _ _ d))
-
-same-length-3 : tie.Need-same-length-3 Inv-loop μ-loop
-same-length-3 c = search needs
-
-same-length-4 : tie.Need-same-length-4 Inv-loop μ-loop
-same-length-4 c = search needs
-
-returns-2 : tie.Need-returns-2 Inv-loop μ-loop
-returns-2 c =
-    let l = c .before .loop in
-    ends-planned _ _ _ _ _ _ _ (l .k) (l .inv .3 .0) (l .next) (l .inv .3 .1) (omega arith) refl
+    let o = c .before .before in
+    let d = placed (o .before) in
+    let m = shut (d .before) in
+    let p = start (m .before) .pre in
+    first-placed _ _ _ _ _ _ _ _ _ (p .calendar-in-range) (maintenance-held p (m .set-shut .ensures)) (d .place-flows .ensures) (o .set-shut2 .ensures)
 
 pub place-first-spec : {M : Type 1} → statement M
 place-first-spec =
     tie.close
-    (tie.spec Inv-loop μ-loop mul-next add-next loop-holds array-read-flow wide-requires mul-records element-copy-out-records place-flow-requires enum-known-end enum-told
-    same-length same-length-2 returns cast-finish mul-finish array-write-finish add-k loop-less loop-again same-length-3 same-length-4 returns-2)
+    (tie.spec
+    set-shut-requires
+    place-flows-requires
+    set-shut-requires-2
+    same-length
+    same-length-2
+    returns)

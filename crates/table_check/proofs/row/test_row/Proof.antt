@@ -1,6 +1,7 @@
--- `table_check::row::test_row` meets its contract: where 15 or 16 is met it is the number; otherwise the row's slot and job are in range, and what
+-- `table_check::row::test_row` meets its contract: where 15, 25 or 16 is met it is the number; otherwise the row's slot and job are in range, and what
 -- was read is that of the flow and of the work area. Assumes nothing.
 use native.Mathlib.Omega.{arith}
+use Rattle.calendar.specs.Area.{openBy}
 use Rattle.table_check.proofs.Finals.{few-jobs}
 use Rattle.table_check.proofs.TestNumbers.{tested-early, tested-inside, tested-late}
 use Rattle.table_check.proofs.row.test_row.Statement.{statement}
@@ -10,10 +11,10 @@ place-of-requires : tie.Need-place-of-requires
 place-of-requires c κs = tt
 
 early-fault-requires : tie.Need-early-fault-requires
-early-fault-requires c κs = few-jobs (c .before .before .before .before .before .pre .0)
+early-fault-requires c κs = few-jobs (c .before .before .before .before .before .before .pre .0)
 
 returns : tie.Need-returns
-returns c = tested-early _ _ _ _ _ _ _ (c .before .before .before .before .before .before .before .pre .0 .jobs) (c .before .before .place-of .ensures .0) (c .before .early-fault .ensures) _ (c .if1 .taken)
+returns c = tested-early _ (openBy _) _ _ _ _ _ _ (c .before .before .before .before .before .before .before .before .pre .0 .jobs) (c .before .before .place-of .ensures .0) (c .before .early-fault .ensures) _ (c .if1 .taken)
 
 wide-requires : tie.Need-wide-requires
 wide-requires c κs = tt
@@ -26,34 +27,34 @@ mul-read16 c = omega (arith, c .wide16 .ensures .1)
 
 read16-requires : tie.Need-read16-requires
 read16-requires c κs =
-    let inside = tested-inside _ _ _ _ _ _ _ (c .before .before .before .before .before .before .before .before .before .pre .0 .jobs) (c .before .before .before .before .place-of .ensures .0) (c .before .before .before .early-fault .ensures) (c .before .before .if1 .left) in
-    omega (arith, inside .0, c .wide16 .ensures .0, c .before .before .before .before .before .before .before .before .before .pre .2)
+    let inside = tested-inside _ (openBy _) _ _ _ _ _ _ (c .before .before .before .before .before .before .before .before .before .before .pre .0 .jobs) (c .before .before .before .before .place-of .ensures .0) (c .before .before .before .early-fault .ensures) (c .before .before .if1 .left) in
+    omega (arith, inside .0, c .wide16 .ensures .0, c .before .before .before .before .before .before .before .before .before .before .pre .2)
 
 mul-late-fault : tie.Need-mul-late-fault
 mul-late-fault c = omega (arith, c .before .before .wide .ensures .1)
 
 shared-slice-read-late-fault : tie.Need-shared-slice-read-late-fault
 shared-slice-read-late-fault c =
-    let p = c .before .before .before .before .before .before .before .before .before .before .before .pre in
-    let inside = tested-inside _ _ _ _ _ _ _ (p .0 .jobs) (c .before .before .before .before .before .before .place-of .ensures .0) (c .before .before .before .before .before .early-fault .ensures) (c .before .before .before .before .if1 .left) in
+    let p = c .before .before .before .before .before .before .before .before .before .before .before .before .pre in
+    let inside = tested-inside _ (openBy _) _ _ _ _ _ _ (p .0 .jobs) (c .before .before .before .before .before .before .place-of .ensures .0) (c .before .before .before .before .before .early-fault .ensures) (c .before .before .before .before .if1 .left) in
     omega (arith, inside .1, c .before .before .before .wide .ensures .0, few-jobs (p .0), p .0 .jobs, p .1 .caps-long)
 
 late-fault-requires : tie.Need-late-fault-requires
 late-fault-requires c κs = tt
 
-mul-t14 : tie.Need-mul-t14
-mul-t14 c = omega (arith, c .before .before .before .before .wide .ensures .1)
+mul-t15 : tie.Need-mul-t15
+mul-t15 c = omega (arith, c .before .before .before .before .wide .ensures .1)
 
-shared-slice-read-t11 : tie.Need-shared-slice-read-t11
-shared-slice-read-t11 c =
-    let p = c .before .before .before .before .before .before .before .before .before .before .before .before .before .pre in
-    let inside = tested-inside _ _ _ _ _ _ _ (p .0 .jobs) (c .before .before .before .before .before .before .before .before .place-of .ensures .0) (c .before .before .before .before .before .before .before .early-fault .ensures) (c .before .before .before .before .before .before .if1 .left) in
+shared-slice-read-t12 : tie.Need-shared-slice-read-t12
+shared-slice-read-t12 c =
+    let p = c .before .before .before .before .before .before .before .before .before .before .before .before .before .before .pre in
+    let inside = tested-inside _ (openBy _) _ _ _ _ _ _ (p .0 .jobs) (c .before .before .before .before .before .before .before .before .place-of .ensures .0) (c .before .before .before .before .before .before .before .early-fault .ensures) (c .before .before .before .before .before .before .if1 .left) in
     omega (arith, inside .1, c .before .before .before .before .before .wide .ensures .0, few-jobs (p .0), p .0 .jobs, p .1 .sizes-long)
 
 returns-2 : tie.Need-returns-2
 returns-2 c =
-    let p = c .before .before .before .before .before .before .before .before .before .before .before .before .before .pre in
-    tested-late _ _ _ _ _ _ _ (p .0 .jobs) (c .before .before .before .before .before .before .before .before .place-of .ensures .0) (c .before .before .before .before .before .before .before .early-fault .ensures) (c .before .before .before .before .before .before .if1 .left)
+    let p = c .before .before .before .before .before .before .before .before .before .before .before .before .before .before .pre in
+    tested-late _ (openBy _) _ _ _ _ _ _ (p .0 .jobs) (c .before .before .before .before .before .before .before .before .place-of .ensures .0) (c .before .before .before .before .before .before .before .early-fault .ensures) (c .before .before .before .before .before .before .if1 .left)
     _ _ _ _ _ _ _ _ (p .1) (p .0 .processors) (c .before .before .before .before .before .wide .ensures .0) (c .before .before .before .before .wide16 .ensures .0) (c .before .before .before .read16 .ensures) (c .before .late-fault .ensures)
 
 pub test-row-spec : {M : Type 1} → statement M
@@ -70,6 +71,6 @@ test-row-spec =
     mul-late-fault
     shared-slice-read-late-fault
     late-fault-requires
-    mul-t14
-    shared-slice-read-t11
+    mul-t15
+    shared-slice-read-t12
     returns-2)

@@ -7,6 +7,7 @@ use borrow.Author.Needs.{needs}
 use native.Mathlib.Omega.{arith}
 use Rattle.rules.specs.Book.{flowCount}
 use Rattle.rules.specs.Reading.{bookOf}
+use Rattle.calendar.specs.Area.{openBy}
 use Rattle.table_check.specs.Tally.{rowsTo}
 use Rattle.table_check.proofs.Finals.{index-flows}
 use Rattle.table_check.proofs.TableRows.{row-inside}
@@ -15,11 +16,11 @@ use Rattle.table_check.proofs.walk.walk_flows.Statement.{statement}
 use Rattle.table_check.proofs.walk.walk_flows.Tie as tie
 
 abbrev Inv-loop : tie.InvT-loop
-Inv-loop book table work₀ x flows off₀ finish₀ least₀ at₀ work off finish least at =
-    Between book table x flows work₀ work off finish least at (rowsTo (bookOf book) at)
+Inv-loop book shut table work₀ x flows off₀ finish₀ least₀ at₀ work off finish least at =
+    Between book (openBy shut) table x flows work₀ work off finish least at (rowsTo (bookOf book) at)
 
 abbrev μ-loop : tie.MeasureT-loop
-μ-loop book table work₀ x flows off₀ finish₀ least₀ at₀ work off finish least at = length table - at
+μ-loop book shut table work₀ x flows off₀ finish₀ least₀ at₀ work off finish least at = length table - at
 
 -- where the work area is cleared, a turn, the flow of its row, the tests of that row, and the walk over the flow's rows
 abbrev cleared : tie.At-loop Inv-loop μ-loop → tie.After-clear Inv-loop μ-loop
@@ -35,16 +36,16 @@ abbrev tested : tie.After-walk-flow Inv-loop μ-loop → tie.After-early-fault I
 tested c = c .before .before .before .before .before
 
 clear-requires : tie.Need-clear-requires Inv-loop μ-loop
-clear-requires c κs = c .before .before .before .before .pre .room
+clear-requires c κs = c .before .before .before .before .before .pre .room
 
 mul-at : tie.Need-mul-at Inv-loop μ-loop
-mul-at c = omega (arith, index-flows (c .before .before .before .before .before .before .before .pre .indexed))
+mul-at c = omega (arith, index-flows (c .before .before .before .before .before .before .before .before .pre .indexed))
 
 add-at : tie.Need-add-at Inv-loop μ-loop
-add-at c = omega (arith, index-flows (c .before .before .before .before .before .before .before .pre .indexed))
+add-at c = omega (arith, index-flows (c .before .before .before .before .before .before .before .before .pre .indexed))
 
 loop-holds : tie.Need-loop-holds Inv-loop μ-loop
-loop-holds c = between-first (c .before .before .before .before .before .before .before .pre) (c .before .before .clear .ensures)
+loop-holds c = between-first (c .before .before .before .before .before .before .before .before .pre) (c .before .before .clear .ensures)
 
 read-row-requires : tie.Need-read-row-requires Inv-loop μ-loop
 read-row-requires c κs = let l = c .before .loop .inv in row-inside (l .headed) (l .reached) (c .loop-test .taken)
@@ -121,7 +122,7 @@ same-length-3 : tie.Need-same-length-3 Inv-loop μ-loop
 same-length-3 c =
     let walked = c .before .before .before .before in
     let u = turn (flow (tested walked) .before) in
-    walked .walk-flow .kept .1 .1 .0 ∙ u .loop .inv .work-kept ∙ cleared u .clear .kept .0
+    walked .walk-flow .kept .1 .1 .1 .0 ∙ u .loop .inv .work-kept ∙ cleared u .clear .kept .0
 
 returns-3 : tie.Need-returns-3 Inv-loop μ-loop
 returns-3 c =
@@ -165,10 +166,10 @@ loop-again c =
     let f = flow e .before .wide in
     let u = turn (flow e .before) in
     let l = u .loop .inv in
-    let book = cleared u .before .before .before .before .before .args .book .now in
+    let book = cleared u .before .before .before .before .before .before .args .book .now in
     let inside : f .result < flowCount (bookOf book) = omega (arith, flow e .if1 .left, l .flows-are) in
     between-next l (walked .walk-flow .ensures) (c .enum-told .given .1) refl inside
-    (omega (arith, e .before .service-key .ensures .0, l .indexed .deadlines (f .result) inside, f .ensures .0)) (walked .walk-flow .kept .1 .1 .0)
+    (omega (arith, e .before .service-key .ensures .0, l .indexed .deadlines (f .result) inside, f .ensures .0)) (walked .walk-flow .kept .1 .1 .1 .0)
 
 same-length-4 : tie.Need-same-length-4 Inv-loop μ-loop
 same-length-4 c = c .before .loop .inv .work-kept ∙ cleared (c .before) .clear .kept .0

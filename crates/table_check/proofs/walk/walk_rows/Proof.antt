@@ -4,6 +4,7 @@
 use Prim.Native.Nat.{_-_}
 use lib.ListN.{length}
 use Rattle.rules.specs.Reading.{bookOf}
+use Rattle.calendar.specs.Area.{openBy}
 use Rattle.table_check.specs.Tally.{rowsTo}
 use Rattle.table_check.proofs.Turns.{Going, Lent, going-first, lent-first, test-stops, turn-of}
 use Rattle.table_check.proofs.TableRows.{row-inside, more-rows}
@@ -16,18 +17,18 @@ use Rattle.table_check.proofs.walk.walk_rows.Statement.{statement}
 use Rattle.table_check.proofs.walk.walk_rows.Tie as tie
 
 abbrev Inv-loop : tie.InvT-loop
-Inv-loop book table sizes caps totals ready work c from bad₀ least finish at r t bits₀ k₀ bad bits k =
-    Asking book table sizes caps c from totals ready work bad least finish at r t bits k
+Inv-loop book shut table sizes caps totals ready work c from bad₀ least finish at r t bits₀ k₀ bad bits k =
+    Asking book (openBy shut) table sizes caps c from totals ready work bad least finish at r t bits k
 
 abbrev μ-loop : tie.MeasureT-loop
-μ-loop book table sizes caps totals ready work c from bad₀ least finish at r t bits₀ k₀ bad bits k = bits
+μ-loop book shut table sizes caps totals ready work c from bad₀ least finish at r t bits₀ k₀ bad bits k = bits
 
 abbrev Inv-rows : tie.InvT-rows
-Inv-rows book table sizes caps totals₀ ready₀ work₀ c from bad₀ least₀ finish₀ at₀ totals ready work bad least finish at =
-    Going book table sizes caps c from totals ready work bad least finish at (rowsTo (bookOf book) at) × Lent totals₀ ready₀ work₀ totals ready work
+Inv-rows book shut table sizes caps totals₀ ready₀ work₀ c from bad₀ least₀ finish₀ at₀ totals ready work bad least finish at =
+    Going book (openBy shut) table sizes caps c from totals ready work bad least finish at (rowsTo (bookOf book) at) × Lent totals₀ ready₀ work₀ totals ready work
 
 abbrev μ-rows : tie.MeasureT-rows
-μ-rows book table sizes caps totals₀ ready₀ work₀ c from bad₀ least₀ finish₀ at₀ totals ready work bad least finish at = length table - at
+μ-rows book shut table sizes caps totals₀ ready₀ work₀ c from bad₀ least₀ finish₀ at₀ totals ready work bad least finish at = length table - at
 
 -- where a row is read, where it is tested, and where its predecessors are asked
 abbrev read : tie.After-test-row Inv-loop μ-loop Inv-rows μ-rows → tie.After-read-row Inv-loop μ-loop Inv-rows μ-rows
@@ -44,7 +45,7 @@ asked c = c .before .before .before .before .before .before .before .before .bef
 
 rows-holds : tie.Need-rows-holds Inv-loop μ-loop Inv-rows μ-rows
 rows-holds c =
-    let s = c .before .before .before .before .before .before .before in
+    let s = c .before .before .before .before .before .before .before .before in
     let p = s .pre in
     (going-first (p .0) (p .1) (omega (arith, s .good .1 .0)) (p .2) (p .3), lent-first _ _ _)
 
