@@ -16,17 +16,10 @@ use Rattle.rules.specs.Limits.{mostDeadline, slots}
 use Rattle.rules.specs.Calendar.{Window, isOpen, openBefore, slotAfter, CalendarInRange}
 use Rattle.rules.proofs.Division.{lt-or-ge}
 use Rattle.rules.proofs.Walks.{last-or}
-use Rattle.rules.proofs.OpenSlots.{open-none, open-next, open-all, twice-fits, slot-after-is}
+use Rattle.rules.proofs.OpenSlots.{open-none, open-next, open-on, open-all, twice-fits, slot-after-is}
 use Rattle.calendar.specs.declared.Calendar.{Calendar}
 use Rattle.calendar.specs.Held.{heldWindows}
 use Rattle.calendar.proofs.Windows.{firstWindows, first-none, none-shut, first-next, first-all, shut-first, next-apart}
-
--- a calendar that is open from a slot on
-pub open-on : (c : List Window) (u n : ℕ) → ((t : ℕ) → u ≤ t → isOpen c t ≡ true) → openBefore c (u + n) ≡ openBefore c u + n
-open-on c u zero h = let e : u + 0 ≡ u = omega arith in rw e (omega arith)
-open-on c u (suc n) h =
-    let e : u + suc n ≡ suc (u + n) = omega arith in
-    rw (e, open-next c (u + n), h (u + n) (omega arith)) (omega (arith, open-on c u n h))
 
 -- limit is the first slot before which n slots are open
 pub record Reached (c : List Window) (n limit : ℕ) : Type 0 where

@@ -120,6 +120,13 @@ module _ (c : Calendar) where
       go (inr a) (inl d) = absurd (omega (arith, slot-after-not-yet n u d))
       go (inr a) (inr d) = omega arith
 
+-- where every slot from u on is open, each of them counts
+pub open-on : (c : Calendar) (u n : ℕ) → ((t : ℕ) → u ≤ t → isOpen c t ≡ true) → openBefore c (u + n) ≡ openBefore c u + n
+open-on c u zero h = let e : u + 0 ≡ u = omega arith in rw e (omega arith)
+open-on c u (suc n) h =
+    let e : u + suc n ≡ suc (u + n) = omega arith in
+    rw (e, open-next c (u + n), h (u + n) (omega arith)) (omega (arith, open-on c u n h))
+
 -- ---- windows
 -- a slot of a window is shut, from its first to the one before it reopens
 pub shut-in-window : (c : Calendar) (k t : ℕ) → k < length c → windowOf c k .shut ≤ t → t < windowOf c k .again → isOpen c t ≡ false
@@ -148,16 +155,9 @@ module _ (c : Calendar) (range : CalendarInRange c) where
   pub reopened : (t : ℕ) → mostReopening ≤ t → isOpen c t ≡ true
   reopened t h = open-from c t (λ k l. omega (arith, range .reopens k l))
 
-  -- from there on every slot counts
-  pub open-past : (n : ℕ) → openBefore c (mostReopening + n) ≡ openBefore c mostReopening + n
-  open-past zero = omega arith
-  open-past (suc n) =
-      let e : mostReopening + suc n ≡ suc (mostReopening + n) = omega arith in
-      rw (e, open-next c (mostReopening + n), reopened (mostReopening + n) (omega arith)) (omega (arith, open-past n))
-
   -- twice the open slots before a deadline have passed by the last slot
   pub twice-fits : (d : ℕ) → d ≤ mostDeadline → 2 * openBefore c d ≤ openBefore c slots
-  twice-fits d h = omega (arith, open-past 4096, open-mono c {t = d} {u = mostReopening} h, open-most c mostReopening)
+  twice-fits d h = omega (arith, open-on c mostReopening 4096 reopened, open-mono c {t = d} {u = mostReopening} h, open-most c mostReopening)
 
 -- ---- rule 6
 module _ (b : Book) (w : Flow) where

@@ -1,7 +1,7 @@
 -- The slots that a flow can use, the open ones from its release on, and the processors that are free for it there. Assumes nothing.
 use mathlib.Core.Path.{_≡_, refl, sym, _∙_}
 use Prim.Native.Nat.{ℕ, zero, suc, _+_, _-_, _≤_, _<_}
-use mathlib.Core.Bool.{Bool, true, false, _&&_, true≢false}
+use mathlib.Core.Bool.{Bool, true, false, _&&_, and-eq-true-iff}
 use mathlib.Core.List.{List, []}
 use mathlib.Core.Logic.{_⊎_, inl, inr}
 use native.Mathlib.Omega.{arith}
@@ -13,24 +13,20 @@ use Rattle.rules.specs.Book.{Flow, Book, flowOf, usable}
 use Rattle.rules.specs.Rows.{Row, usedIn}
 use Rattle.rules.specs.Placing.{freeProcessors}
 use Rattle.rules.proofs.Division.{lt-or-ge}
-use Rattle.rules.proofs.OpenSlots.{open-none, open-next, open-mono}
-
-both-true : (x y : Bool) → (x && y) ≡ true → (x ≡ true) × (y ≡ true)
-both-true true y e = (refl, e)
-both-true false y e = absurd (true≢false (sym e))
+use Rattle.rules.proofs.OpenSlots.{open-none, open-next, open-mono, always}
 
 -- in a book without windows every slot is open
 pub always-open : (b : Book) (t : ℕ) → b .calendar ≡ [] → isOpen (b .calendar) t ≡ true
-always-open b t e = rw e (unfold isOpen in refl)
+always-open b t e = rw e (always t)
 
 module _ (b : Book) (w : Flow) (t : ℕ) where
   pub usable-open : usable b w t ≡ true → isOpen (b .calendar) t ≡ true
   unfolding usable
-  usable-open e = both-true _ _ e .0
+  usable-open e = and-eq-true-iff _ _ .0 e .0
 
   pub released : usable b w t ≡ true → w .release ≤ t
   unfolding usable
-  released e = leb-true (w .release) t (both-true (isOpen (b .calendar) t) (leb (w .release) t) e .1)
+  released e = leb-true (w .release) t (and-eq-true-iff (isOpen (b .calendar) t) (leb (w .release) t) .0 e .1)
 
   -- from the release on the usable slots are the open ones
   pub usable-released : w .release ≤ t → usable b w t ≡ isOpen (b .calendar) t

@@ -32,7 +32,7 @@ unfoldable pub finishOutcome : ℕ → List ℕ → Plan → FinishOutcome
 finishOutcome f area (infeasible g) = record { answer = finishRefused 12 g none; area = workZero slots area }
 finishOutcome f area (planned rows) = record { answer = finishAccepted (finishOf rows f); area = workUsed slots rows area }
 
--- then 11; then "place flows only up to the one named". "A fault found before or by 11 leaves the work area as it was"
+-- where the input passes, 11; then "place flows only up to the one named". "A fault found before or by 11 leaves the work area as it was"
 unfoldable pub finishReading : ℕ → List ℕ → Reading → FinishOutcome
 finishReading f area (unread n g j) = record { answer = finishRefused n g j; area = area }
 finishReading f area (read b) =

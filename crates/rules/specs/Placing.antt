@@ -75,7 +75,7 @@ pub data Plan : Type 0 where
   planned : List Row → Plan
   infeasible : ℕ → Plan
 
--- "A flow not finished after slot 2 × deadline − 1 makes the book infeasible."
+-- "A flow not finished after slot 2 × deadline − 1 makes the book infeasible", with twice the deadline in open slots (02, Req 07)
 abbrev pub settled : ℕ → List PseudoJob → List Row → Plan
 settled f [] rows = planned rows
 settled f (p ∷ ps) rows = infeasible f

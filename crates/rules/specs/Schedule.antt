@@ -49,7 +49,7 @@ pub record Valid (b : Book) (among : ℕ → Bool) (σ : Schedule) : Type 0 wher
   pub in-usable : (f i t : ℕ) → IsJob b among f i → usable b (flowOf b f) t ≡ false → σ f i t ≡ 0
 
 -- "A flow's finish is its last used slot plus 1 in any schedule. A flow ends by its deadline, or within twice its deadline, when its finish
--- is at most that." The finish is at most d when nothing is given from slot d on.
+-- is at most that." The finish is at most d when nothing is given from slot d on. (Twice the deadline is counted in open slots since 02, Req 07: `WithinTwice`.)
 unfoldable pub EndsBy : Schedule → ℕ → ℕ → Type 0
 EndsBy σ f d = (i t : ℕ) → d ≤ t → σ f i t ≡ 0
 
