@@ -12,13 +12,13 @@ use Rattle.rules.specs.declared.Verdict.the-variants.{Pass}
 use Rattle.rules.specs.Book.{Flow, Book, flowCount, jobCount, flowOf, jobOf, FlowInRange}
 use Rattle.rules.specs.Reading.{bookOf, bookFault}
 use Rattle.rules.specs.Ideal.{path}
-use Rattle.rules.specs.PseudoJobs.{PseudoJob, runs, chain, rate}
+use Rattle.rules.specs.PseudoJobs.{PseudoJob, runs, chain, rate, sumOver}
 use Rattle.rules.specs.Rows.{Row, usedIn, finishOf, workUsed}
 use Rattle.rules.specs.Placing.{Progress, progress, flowRows, freeProcessors}
 use Rattle.rules.proofs.Caps.{used-in-range}
 use Rattle.rules.proofs.Passing.{pass-in-range}
 use Rattle.rules.proofs.Ideal.{Sized, in-range-sized, end-is-start-plus-duration, end-within-path, duration-positive}
-use Rattle.rules.proofs.PseudoJobs.{sumOver, slot-rate-positive, chain-widths, chain-live}
+use Rattle.rules.proofs.PseudoJobs.{slot-rate-positive, chain-widths, chain-live}
 use Rattle.rules.proofs.Usable.{none-free-before, free-within}
 use Rattle.rules.proofs.Greedy.{not-begun}
 use Rattle.rules.proofs.PlannedRows.{no-rows-yet}

@@ -1,20 +1,18 @@
 -- Demand 3 on values: what a plan of a book in range guarantees, and what its refusal proves. The theorems are stated of the rules' own `plan`;
--- validity is proved in PlannedValid, the refusal and the quote in Infeasible. Assumes nothing.
+-- validity is proved in PlannedValid, the refusal in Infeasible. Assumes nothing.
 use mathlib.Core.Path.{_≡_}
 use Prim.Native.Nat.{ℕ, _^_, _≤_, _<_}
 use mathlib.Core.List.{List}
 use native.Mathlib.Omega.{arith}
-use Rattle.rules.specs.Calendar.{openBefore}
 use Rattle.rules.specs.Book.{Book, flowCount, flowOf, InRange}
 use Rattle.rules.specs.Rows.{Row, finishOf}
 use Rattle.rules.specs.Schedule.{Schedule, everyFlow, Valid, EndsBy, scheduleOf}
-use Rattle.rules.specs.Placing.{planned, infeasible, placeFirst, plan}
+use Rattle.rules.specs.Placing.{planned, infeasible, plan}
 use Rattle.rules.specs.Demands.{PlannedWell, NoneOnTime}
-use Rattle.rules.proofs.Greedy.{unitsLeftAt}
 use Rattle.rules.proofs.RowSums.{finish-ends}
-use Rattle.rules.proofs.PlannedRows.{servedAt, servedFlow, freeFor, placing-stops}
+use Rattle.rules.proofs.PlannedRows.{placing-stops}
 use Rattle.rules.proofs.PlannedValid.{all-placed, planned-valid, planned-in-slots, first-finish-least, first-finish-within-twice, first-finish-in-slots}
-use Rattle.rules.proofs.Infeasible.{stopped-proves, quoteFor, quote-at, first-finish-within-quote}
+use Rattle.rules.proofs.Infeasible.{stopped-proves}
 
 -- "their rows are a valid schedule of them .. and each ends within twice its deadline"
 pub planned-well : (b : Book) → InRange b → (rows : List Row) → plan b ≡ planned rows → PlannedWell b rows
@@ -39,14 +37,3 @@ pub on-time-plan : (b : Book) → InRange b → (rows : List Row) → plan b ≡
     ((f : ℕ) → f < flowCount b → finishOf rows f ≤ flowOf b f .deadline) →
     (σ : Schedule) × Valid b everyFlow σ × ((f : ℕ) → f < flowCount b → EndsBy σ f (flowOf b f .deadline))
 on-time-plan b range rows e h = (scheduleOf rows, planned-valid b range rows e, λ f l. finish-ends rows f (flowOf b f .deadline) (h f l))
-
--- the flow at place n of the service order, while work of it is left: since its release fewer open slots have passed than its path and the area
--- of the flows up to it
-pub quote : (b : Book) → InRange b → (n : ℕ) (earlier : List Row) → n < flowCount b → placeFirst b n ≡ planned earlier → (t : ℕ) →
-    0 < unitsLeftAt (servedFlow b n) (freeFor b n) t → openBefore (b .calendar) t < quoteFor b n
-quote b range = quote-at b range
-
--- so its finish is within that, in open slots
-pub planned-finish-within-quote : (b : Book) → InRange b → (rows : List Row) → plan b ≡ planned rows → (n : ℕ) → n < flowCount b →
-    openBefore (b .calendar) (finishOf rows (servedAt b n)) ≤ quoteFor b n
-planned-finish-within-quote b range rows e n l = first-finish-within-quote b range (flowCount b) rows (omega arith) (all-placed b range rows e) n l

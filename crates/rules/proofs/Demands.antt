@@ -12,6 +12,8 @@ use Rattle.rules.proofs.Dispatches.{dispatches}
 use Rattle.rules.proofs.Finishes.{finishes}
 use Rattle.rules.proofs.WriteBack.{write-back}
 use Rattle.rules.proofs.Calendars.{calendars, no-windows}
+use Rattle.rules.proofs.Quotes.{quotes}
+use Rattle.rules.proofs.Appends.{appends}
 
 pub demands : Demands
 demands = record {
@@ -27,4 +29,6 @@ demands = record {
   write-back = write-back;
   calendars = calendars;
   no-windows = no-windows;
+  quotes = quotes;
+  appends = appends;
 }

@@ -9,7 +9,6 @@ use Prim.Native.Nat.{ℕ, suc, _≤_, _<_}
 use native.Mathlib.Omega.{arith}
 use mathlib.Core.List.{List, _++_}
 use lib.ListN.{length, take, drop, getD}
-use lib.Seq.{take-at}
 use lib.Dec.{eqb}
 use borrow.Author.Tests.{eq-eqb, ne-eqb, lt-ltb, le-ltb}
 use Rattle.rules.specs.declared.Verdict.the-variants.{Pass}
@@ -22,7 +21,7 @@ use Rattle.rules.specs.Reading.{versionOf, Reading, read, unread, bookOf
 use Rattle.rules.specs.Rows.{Row, usedIn, workUsed, workZero}
 use Rattle.rules.specs.Placing.{rowsOf, plan}
 use Rattle.rules.specs.Schedule.{scheduleOf}
-use Rattle.rules.specs.Table.{tableLength, tableBytes}
+use Rattle.rules.specs.Table.{tableBytes}
 use Rattle.rules.specs.Planner.{planCall}
 use Rattle.rules.specs.Check.{noRow, tableRows, tableFault, CheckOutcome, checkOutcome, checkReading, checkCall}
 use Rattle.rules.specs.Dispatch.{listedBefore, listRows, listLength, listBytes, rowsInList, DispatchOutcome, listOutcome, dispatchChecked, dispatchCall}
@@ -33,16 +32,17 @@ use Rattle.rules.proofs.Rising.{_∈_, Rising}
 use Rattle.rules.proofs.RowOrder.{Before}
 use Rattle.rules.proofs.ListOrder.{Listed, list-rising, list-as-often, list-sum, list-injective, listed-next, listed-once}
 use Rattle.rules.proofs.WorkArea.{used-pair}
-use Rattle.rules.proofs.TableBytes.{RowFits, table-rows-fit, table-bytes-length, table-read}
+use Rattle.rules.proofs.TableBytes.{RowFits, table-rows-fit, table-read}
 use Rattle.rules.proofs.ListBytes.{list-rows-written, list-taken, list-past, list-head}
 use Rattle.rules.proofs.TablePasses.{TablePasses, table-passes}
 use Rattle.rules.proofs.AcceptedRows.{passing-rising, passing-use}
 use Rattle.rules.proofs.PlannedValid.{planned-valid, planned-in-slots}
 use Rattle.rules.proofs.PlannedTable.{planned-rows-are-schedule-rows}
 use Rattle.rules.proofs.Refusals.{demand-1}
-use Rattle.rules.proofs.AcceptsExactly.{row-fits, rows-accepted, call-accepts}
+use Rattle.rules.proofs.AcceptsExactly.{row-fits, call-accepts}
 use Rattle.rules.proofs.AcceptsPlans.{unread-number, accepts-plans}
 use Rattle.rules.proofs.PlansByTheRules.{plans-by-the-rules}
+use Rattle.rules.proofs.WrittenPlans.{written-rows}
 use Rattle.rules.proofs.Versions.{version-2-reads, version-1-kept}
 use Rattle.rules.proofs.SameUse.{with-same, dispatch-same}
 use Rattle.rules.proofs.Lowered.{same-use, caps-lowered}
@@ -228,13 +228,10 @@ lists-plan book calendar out area list other b reads z fit long =
     let o = planCall book calendar out area in
     let p = plans-by-the-rules book calendar out area b reads z in
     let table = take (o .answer .length) (o .output) in
-    let written : table ≡ tableBytes b rows =
-    ap (λ n. take n (o .output)) (p .table-length) ∙ ap (take (tableLength b rows)) (p .table)
-    ∙ take-at (tableBytes b rows) (drop (tableLength b rows) out) (tableLength b rows) (table-bytes-length b rows) in
     let same = planned-rows-are-schedule-rows b range rows (p .all-placed) in
     let valid = planned-valid b range rows (p .all-placed) in
     let within = planned-in-slots b range rows (p .all-placed) in
-    let back : tableRows b table ≡ rows = ap (tableRows b) written ∙ rows-accepted b range rows same valid within .1 in
+    let back : tableRows b table ≡ rows = written-rows book calendar out area b reads z in
     let fits : (r : Row) → r ∈ rows → RowFits r =
     subst (λ rs. (r : Row) → r ∈ rs → RowFits r) (sym same) (row-fits b range (scheduleOf rows) valid within) in
     let zero = ap (λ a. a .number) (accepts-plans book calendar out area other z long) in

@@ -4,26 +4,25 @@
 -- them. Assumes nothing.
 use mathlib.Core.Path.{_≡_, refl, sym, ap, subst, _∙_}
 use mathlib.Core.Logic.{_⊎_, inl, inr, ⊎-elim}
-use mathlib.Core.Bool.{Bool, true, false, _||_, true≢false}
+use mathlib.Core.Bool.{true, _||_, true≢false}
 use Prim.Native.Nat.{ℕ, _≤_, _<_}
-use native.Mathlib.Nat.{eq-or-lt-of-le, lt-suc-self}
+use native.Mathlib.Nat.{lt-suc-self}
 use native.Mathlib.Omega.{arith}
 use mathlib.Core.List.{List, _++_, map}
 use lib.ListN.{length, drop}
-use lib.Dec.{ltb, eqb}
+use lib.Dec.{eqb}
 use borrow.Author.Tests.{lt-ltb, le-ltb, lt-leb, le-leb}
 use Rattle.rules.specs.declared.Verdict.{Verdict}
 use Rattle.rules.specs.declared.Verdict.the-variants.{Pass, Refused}
-use Rattle.rules.specs.Walks.{if_then_else_}
-use Rattle.rules.specs.Answers.{none, planAccepted, planRefused, finishAccepted, finishRefused}
+use Rattle.rules.specs.Answers.{none, finishAccepted, finishRefused}
 use Rattle.rules.specs.Limits.{slots, workBytes}
 use Rattle.rules.specs.Calendar.{calendarFault}
 use Rattle.rules.specs.Book.{Book, flowCount, lowered, InRange}
 use Rattle.rules.specs.Reading.{versionOf, bookOf, bookFault, bookWith, read, readBook, bookBytes}
-use Rattle.rules.specs.Rows.{Row, finishOf, lateFlows, workUsed, workZero}
+use Rattle.rules.specs.Rows.{Row, finishOf}
 use Rattle.rules.specs.Placing.{Plan, planned, infeasible, placeFirst, rowsOf, plan}
 use Rattle.rules.specs.Table.{tableLength, tableBytes}
-use Rattle.rules.specs.Planner.{PlanOutcome, planOutcome, planReading, planCall}
+use Rattle.rules.specs.Planner.{planOutcome, planReading, planCall}
 use Rattle.rules.specs.Cut.{cut, numberInCut}
 use Rattle.rules.specs.Service.{position}
 use Rattle.rules.specs.Finish.{upToNamed, FinishOutcome, finishOutcome, finishReading, unknownFlow, inputFault, finishCall}
@@ -36,7 +35,7 @@ use Rattle.rules.proofs.CutBook.{kept, kept-among, among-kept, number-k
 use Rattle.rules.proofs.Position.{position-below, served-position}
 use Rattle.rules.proofs.SameUse.{SameUse, finish-reading-same}
 use Rattle.rules.proofs.Lowered.{same-use, caps-lowered}
-use Rattle.rules.proofs.PlannedRows.{placing-stops, placed-earlier, finish-settled}
+use Rattle.rules.proofs.PlannedRows.{placing-stops, placed-up-to, finish-settled}
 use Rattle.rules.proofs.PlannedValid.{first-finish-within-twice}
 use Rattle.rules.proofs.Infeasible.{up-to-at, stopped-proves}
 use Rattle.rules.proofs.Demand3Values.{planned-finish-fits, infeasible-proves}
@@ -44,6 +43,8 @@ use Rattle.rules.proofs.Demand3.{call-plans, read-cut}
 use Rattle.rules.proofs.CutPlan.{renumber, renumberPlan, work-renumbered, cut-plan, cut-finish}
 use Rattle.rules.proofs.TableBytes.{finish-in-front, finish-written}
 use Rattle.rules.proofs.PlansByTheRules.{plans-by-the-rules}
+use Rattle.rules.proofs.WrittenPlans.{written-finish}
+use Rattle.rules.proofs.PlanNumbers.{planned-too-long, planned-written, infeasible-12, plan-number-12, plan-number-13, plan-read}
 use Rattle.rules.proofs.Refusals.{early-number, book-numbered, calendar-numbered}
 
 -- ---- what a call answers and leaves
@@ -172,64 +173,6 @@ module _ (book calendar : List ℕ) (f : ℕ) (area : List ℕ) where
       go Pass e (inl l) (Refused n g j) d = subst X (sym (call-calendar-refused n g j e l d)) (early n g j (calendar-numbered calendar .among n g j d .1))
       go Pass e (inl l) Pass d = subst X (sym (call-passed e l d)) known
 
--- ---- the planner's number says how its placing ended
-module _ (b : Book) (out area : List ℕ) where
-  abbrev planOf : PlanOutcome
-  planOf = planReading out area (read b)
-
-  -- flows that are planned have a table that is too long or written; 12 is neither
-  planned-too-long : (rows : List Row) → length out < tableLength b rows →
-      planOutcome b out area (planned rows) ≡ record { answer = planRefused 13 none none; output = out; area = workZero slots area }
-  unfolding planOutcome
-  planned-too-long rows h = rw (lt-ltb (length out) (tableLength b rows) h) refl
-
-  planned-written : (rows : List Row) → tableLength b rows ≤ length out →
-      planOutcome b out area (planned rows)
-      ≡ record {
-        answer = planAccepted (lateFlows b rows) (tableLength b rows);
-        output = tableBytes b rows ++ drop (tableLength b rows) out;
-        area = workUsed slots rows area;
-      }
-  unfolding planOutcome
-  planned-written rows h = rw (le-ltb (length out) (tableLength b rows) h) refl
-
-  planned-not-12 : (rows : List Row) → planOutcome b out area (planned rows) .answer .number ≡ 12 → ⊥
-  planned-not-12 rows e =
-      ⊎-elim (λ h. omega (arith, ap (λ o. o .answer .number) (planned-too-long rows h)))
-      (λ h. omega (arith, ap (λ o. o .answer .number) (planned-written rows h))) (lt-or-ge (length out) (tableLength b rows))
-
-  infeasible-12 : (p : Plan) (g : ℕ) → p ≡ infeasible g → planOutcome b out area p .answer .number ≡ 12
-  unfolding planOutcome
-  infeasible-12 p g e = ap (λ q. planOutcome b out area q .answer .number) e
-
-  planned-by : (p : Plan) → (planOutcome b out area p .answer .number ≡ 12 → ⊥) → p ≡ planned (rowsOf p)
-  planned-by (planned rows) ne = refl
-  planned-by (infeasible g) ne = absurd (ne (infeasible-12 (infeasible g) g refl))
-
-  infeasible-by : (p : Plan) → planOutcome b out area p .answer .number ≡ 12 → (g : ℕ) × (p ≡ infeasible g)
-  infeasible-by (planned rows) e = absurd (planned-not-12 rows e)
-  infeasible-by (infeasible g) e = (g, refl)
-
-  -- a number other than 11
-  plan-by : (n : ℕ) → (n ≡ 11 → ⊥) → planOf .answer .number ≡ n → planOf ≡ planOutcome b out area (plan b)
-  unfolding planReading
-  plan-by n ne = go (ltb (length area) workBytes)
-    where
-      at : Bool → PlanOutcome
-      at t = if t then record { answer = planRefused 11 none none; output = out; area = area } else planOutcome b out area (plan b)
-
-      go : (t : Bool) → at t .answer .number ≡ n → at t ≡ planOutcome b out area (plan b)
-      go true e = absurd (ne (sym e))
-      go false e = refl
-
-  plan-number-12 : planOf .answer .number ≡ 12 → (g : ℕ) × (plan b ≡ infeasible g)
-  plan-number-12 z = infeasible-by (plan b) (ap (λ o. o .answer .number) (sym (plan-by 12 (λ e. omega arith) z)) ∙ z)
-
-  plan-number-13 : planOf .answer .number ≡ 13 → plan b ≡ planned (rowsOf (plan b))
-  plan-number-13 z =
-      let same = ap (λ o. o .answer .number) (sym (plan-by 13 (λ e. omega arith) z)) ∙ z in
-      planned-by (plan b) (λ e. omega arith)
-
 -- ---- a flow of a book that is read
 module _ (book calendar : List ℕ) (b : Book) (reads : readBook book calendar ≡ read b) (f : ℕ) where
   range : InRange b
@@ -242,7 +185,7 @@ module _ (book calendar : List ℕ) (b : Book) (reads : readBook book calendar �
   same-count = ap flowCount (passes .is-book)
 
   -- a call goes by the values of the book
-  finish-read : f < flowCount b → (area : List ℕ) → finishCall book calendar f area ≡ finishReading f area (read b)
+  pub finish-read : f < flowCount b → (area : List ℕ) → finishCall book calendar f area ≡ finishReading f area (read b)
   finish-read l area =
       call-passed book calendar f area (passes .book-passes) (omega (arith, l, same-count)) (passes .calendar-passes)
       ∙ ap (λ (c : Book). finishReading f area (read c)) (sym (passes .is-book))
@@ -253,10 +196,6 @@ module _ (book calendar : List ℕ) (b : Book) (reads : readBook book calendar �
   -- a number other than 23 is that of a flow in the book
   flow-known : (n : ℕ) → (n ≡ 23 → ⊥) → (area : List ℕ) → finishCall book calendar f area .answer .number ≡ n → f < flowCount b
   flow-known n ne area z = ⊎-elim (λ l. l) (λ l. absurd (ne (sym z ∙ ap (λ o. o .answer .number) (finish-unknown l area)))) (lt-or-ge f (flowCount b))
-
-  plan-read : (out area : List ℕ) → planCall book calendar out area ≡ planReading out area (read b)
-  unfolding planCall
-  plan-read out area = ap (planReading out area) reads
 
   -- the number of flows up to it
   abbrev many : ℕ
@@ -275,8 +214,7 @@ module _ (book calendar : List ℕ) (b : Book) (reads : readBook book calendar �
         finishCall book calendar f area .answer ≡ finishAccepted (finishOf rows f)
     unfolding finishOutcome plan
     finish-of-plan rows e area h =
-        let w : (first : List Row) × (placeFirst b many ≡ planned first) =
-        ⊎-elim (λ q. (rows, ap (placeFirst b) q ∙ e)) (placed-earlier b (flowCount b) rows e many) (eq-or-lt-of-le fits) in
+        let w = placed-up-to b (flowCount b) rows e many fits in
         ap (λ o. o .answer) (finish-read l area ∙ outcome-ended b f area h)
         ∙ ap (λ p. finishOutcome f area p .answer) (w .1)
         ∙ ap finishAccepted
@@ -286,18 +224,14 @@ module _ (book calendar : List ℕ) (b : Book) (reads : readBook book calendar �
         finishCall book calendar f area .answer ≡ finishAccepted (finishIn (planCall book calendar out other .output) f)
     unfolding PlansByTheRules
     in-table area out other h z =
-        let p = plans-by-the-rules book calendar out other b reads z in
-        let rows = rowsOf (plan b) in
-        finish-of-plan rows (p .all-placed) area h
-        ∙ ap finishAccepted
-        (sym (ap (λ s. finishIn s f) (p .table)
-        ∙ finish-in-front b rows (drop (tableLength b rows) out) f l (planned-finish-fits b range rows (p .all-placed) f l)))
+        finish-of-plan (rowsOf (plan b)) (plans-by-the-rules book calendar out other b reads z .all-placed) area h
+        ∙ ap finishAccepted (sym (written-finish book calendar out other b reads z f l))
 
     in-long-table : (area out other : List ℕ) → workBytes ≤ length area → planCall book calendar out other .answer .number ≡ 13 →
         finishCall book calendar f area .answer ≡ finishAccepted (finishIn (tableBytes b (rowsOf (plan b))) f)
     in-long-table area out other h z =
         let rows = rowsOf (plan b) in
-        let e = plan-number-13 b out other (ap (λ o. o .answer .number) (sym (plan-read out other)) ∙ z) in
+        let e = plan-number-13 b out other (ap (λ o. o .answer .number) (sym (plan-read book calendar b reads out other)) ∙ z) in
         finish-of-plan rows e area h ∙ ap finishAccepted (sym (finish-written b rows f l (planned-finish-fits b range rows e f l)))
 
     -- ---- in the book cut after it
@@ -424,12 +358,17 @@ module _ (book calendar : List ℕ) (b : Book) (reads : readBook book calendar �
       subst (λ o. RefusedFlow b f (o .answer .flow)) (sym same)
       (ending-proves l (finishReading f area (read b) .answer .flow) (number-12 b f area (ap (λ o. o .answer .number) (sym same) ∙ z)))
 
-  within-twice : (area : List ℕ) → finishCall book calendar f area .answer .number ≡ 0 → WithinTwice b f (finishCall book calendar f area .answer .finish)
-  within-twice area z =
+  -- what holds of its finish among the flows placed up to it holds of the finish that is answered
+  pub answered-holds : (X : ℕ → Type 0) → (f < flowCount b → (rows : List Row) → placeFirst b many ≡ planned rows → X (finishOf rows f)) →
+      (area : List ℕ) → finishCall book calendar f area .answer .number ≡ 0 → X (finishCall book calendar f area .answer .finish)
+  answered-holds X holds area z =
       let l = flow-known 0 (λ e. omega arith) area z in
       let same = finish-read l area in
       let w = number-0 b f area (ap (λ o. o .answer .number) (sym same) ∙ z) in
-      rw (same, w .1) (first-finish-within-twice b range many (rowsOf (placeFirst b many)) (fits l) (w .0) f)
+      subst X (sym (ap (λ o. o .answer .finish) same ∙ w .1)) (holds l (rowsOf (placeFirst b many)) (w .0))
+
+  within-twice : (area : List ℕ) → finishCall book calendar f area .answer .number ≡ 0 → WithinTwice b f (finishCall book calendar f area .answer .finish)
+  within-twice = answered-holds (WithinTwice b f) (λ l rows e. first-finish-within-twice b range many rows (fits l) e f)
 
 -- ---- every call
 call-answers : (book calendar area : List ℕ) (f : ℕ) → FinishAnswers area (finishCall book calendar f area)

@@ -14,11 +14,11 @@ use borrow.Author.Tests.{eqb-true, eqb-false, ne-eqb, ltb-true, ltb-false}
 use Rattle.rules.specs.Walks.{if_then_else_, sumTo, bit, countTo}
 use Rattle.rules.specs.Book.{Flow}
 use Rattle.rules.specs.Ideal.{quotientUp}
-use Rattle.rules.specs.PseudoJobs.{PseudoJob, chain, rate, work}
+use Rattle.rules.specs.PseudoJobs.{PseudoJob, chain, rate, work, sumOver}
 use Rattle.rules.specs.Placing.{Progress, given, afterSlot, progress}
 use Rattle.rules.proofs.Division.{lt-or-ge, quotient-up-pos, quotient-up-fall, quotient-up-mono, quotient-up-mul}
 use Rattle.rules.proofs.Sums.{sum-add, sum-mono, sum-scale}
-use Rattle.rules.proofs.PseudoJobs.{Every, sumOver}
+use Rattle.rules.proofs.PseudoJobs.{Every}
 
 -- ---- pseudo-jobs in a row
 -- each has a rate and a width

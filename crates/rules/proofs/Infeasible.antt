@@ -2,12 +2,11 @@
 -- The refusal over sequences of flows is read with the flows in service order; flows that differ share the processors of a slot, so a schedule
 -- of the book is one of the sequence. On time, a flow has its path in the open slots between release and deadline, and the work up to it fits P
 -- processors over the open slots before the deadline; by twice the deadline as many open slots have passed since the release as both take
--- together. The same bound, divided by P, says when a planned flow ends at the latest. Assumes nothing.
+-- together. Assumes nothing.
 use mathlib.Core.Path.{_≡_, refl, ap, _∙_}
-use Prim.Native.Nat.{ℕ, zero, suc, _+_, _-_, _/_, _≤_, _<_}
+use Prim.Native.Nat.{ℕ, suc, _+_, _-_, _≤_, _<_}
 use mathlib.Core.Bool.{Bool, true, false, _||_}
-use mathlib.Core.List.{List, []}
-use mathlib.Core.Logic.{_⊎_, inl, inr}
+use mathlib.Core.List.{List}
 use native.Mathlib.Nat.{le-trans, le-of-lt}
 use native.Mathlib.Omega.{arith}
 use lib.Dec.{eqb}
@@ -15,33 +14,26 @@ use borrow.Author.Tests.{eq-eqb}
 use Rattle.rules.specs.Walks.{sumTo}
 use Rattle.rules.specs.Calendar.{isOpen, openBefore}
 use Rattle.rules.specs.Book.{Book, flowCount, jobCount, flowOf, usable, twiceDeadline, InRange}
-use Rattle.rules.specs.Ideal.{path}
 use Rattle.rules.specs.Service.{servedBefore}
-use Rattle.rules.specs.Rows.{Row, usedIn, finishOf}
-use Rattle.rules.specs.Schedule.{Schedule, IsJob, inUse, Valid, EndsBy, scheduleOf}
-use Rattle.rules.specs.Placing.{progress, slotsFor, planned, placeFirst}
+use Rattle.rules.specs.Rows.{Row, usedIn}
+use Rattle.rules.specs.Schedule.{Schedule, IsJob, inUse, Valid, EndsBy}
+use Rattle.rules.specs.Placing.{slotsFor, planned, placeFirst}
 use Rattle.rules.specs.Demands.{upTo, NoneOnTime}
-use Rattle.rules.proofs.Division.{lt-or-ge}
 use Rattle.rules.proofs.Sums.{sum-quiet, sum-distinct}
 use Rattle.rules.proofs.Walks.{last-or}
 use Rattle.rules.proofs.PseudoJobs.{chain-live}
 use Rattle.rules.proofs.ServiceOrder.{service-below, service-sorted, service-once, service-deadlines}
-use Rattle.rules.proofs.OpenSlots.{open-none, open-step, open-mono, limit-count}
+use Rattle.rules.proofs.OpenSlots.{open-mono, limit-count}
 use Rattle.rules.proofs.Usable.{usable-open, count-usable, free-usable}
-use Rattle.rules.proofs.Greedy.{unitsLeftAt, something-left, nothing-left}
-use Rattle.rules.proofs.Necessity.{Keeps, CompleteBy, worksUpTo, OnTime}
-use Rattle.rules.proofs.Refusal.{refusal, quote-bound}
-use Rattle.rules.proofs.PlacedFlow.{shareTo}
-use Rattle.rules.proofs.PlannedRows.{servedAt, servedFlow, freeFor, plannedShare, Stopped, placed-earlier, states-share, states-none-of-flow}
-use Rattle.rules.proofs.PlannedValid.{range-at, sized-at, used-within-work, first-finish-least}
-
--- the open slots within which the flow at place n ends at the latest: those before its release, its path, and the area of the flows up to it
-abbrev pub quoteFor : Book → ℕ → ℕ
-quoteFor b n = openBefore (b .calendar) (servedFlow b n .release) + path (servedFlow b n) + worksUpTo (servedFlow b) (suc n) / b .processors
+use Rattle.rules.proofs.Greedy.{unitsLeftAt, something-left}
+use Rattle.rules.proofs.Necessity.{Keeps, CompleteBy, OnTime}
+use Rattle.rules.proofs.Refusal.{refusal}
+use Rattle.rules.proofs.PlannedRows.{servedAt, servedFlow, freeFor, Stopped}
+use Rattle.rules.proofs.PlannedValid.{range-at, sized-at, used-within-work}
 
 module _ (b : Book) (range : InRange b) where
   -- in a slot that the flow at a place can use, the processors free for it and those that the flows before it use are P
-  free-or-used : (n : ℕ) (earlier : List Row) → placeFirst b n ≡ planned earlier → (t : ℕ) → usable b (servedFlow b n) t ≡ true →
+  pub free-or-used : (n : ℕ) (earlier : List Row) → placeFirst b n ≡ planned earlier → (t : ℕ) → usable b (servedFlow b n) t ≡ true →
       b .processors ≤ usedIn earlier t + freeFor b n t
   free-or-used n earlier e t u = rw e (omega (arith, free-usable b (servedAt b n) earlier t u))
 
@@ -124,49 +116,3 @@ module _ (b : Book) (range : InRange b) where
       let left : 0 < unitsLeftAt (servedFlow b n) (freeFor b n) (slotsFor b (servedFlow b n)) =
       something-left (servedFlow b n) (freeFor b n) (chain-live (servedFlow b n) (sized-at b range n below)) (slotsFor b (servedFlow b n)) (s .not-finished) in
       (rw (s .served) at (service-below b n below), rw (s .served) at (none-on-time n (s .earlier) below (s .placed-before) left))
-
-  -- ---- the quote
-  -- while work is left, fewer open slots have passed
-  pub quote-at : (n : ℕ) (earlier : List Row) → n < flowCount b → placeFirst b n ≡ planned earlier → (t : ℕ) →
-      0 < unitsLeftAt (servedFlow b n) (freeFor b n) t → openBefore (b .calendar) t < quoteFor b n
-  quote-at n earlier below e t left =
-      omega (
-        arith,
-        count-usable b (servedFlow b n) t,
-        quote-bound (b .processors) n (servedFlow b) (λ m. usable b (servedFlow b m)) (freeFor b n) (usedIn earlier) (sized-at b range n below)
-            (free-or-used n earlier e) (used-within-work b range n earlier (omega arith) e) (range .processors-least) t left,
-      )
-
-  module _ (k : ℕ) (rows : List Row) (h : k ≤ flowCount b) (e : placeFirst b k ≡ planned rows) (n : ℕ) (l : n < k) where
-    after-quote : (t : ℕ) → quoteFor b n ≤ openBefore (b .calendar) t → progress (servedFlow b n) (freeFor b n) t .left ≡ []
-    after-quote t c = go (lt-or-ge 0 (unitsLeftAt (servedFlow b n) (freeFor b n) t))
-      where
-        go : (0 < unitsLeftAt (servedFlow b n) (freeFor b n) t) ⊎ (unitsLeftAt (servedFlow b n) (freeFor b n) t ≤ 0) → progress (servedFlow b n) (freeFor b n) t .left ≡ []
-        go (inl left) = let p = placed-earlier b k rows e n l in absurd (omega (arith, quote-at n (p .0) (omega arith) (p .1) t left))
-        go (inr none) = nothing-left (servedFlow b n) (freeFor b n) (chain-live (servedFlow b n) (sized-at b range n (omega arith))) t (omega arith)
-
-    ends-by-quote : (d : ℕ) → quoteFor b n ≤ openBefore (b .calendar) d → EndsBy (scheduleOf rows) (servedAt b n) d
-    unfolding EndsBy
-    ends-by-quote d q i t c = go (lt-or-ge t (slotsFor b (servedFlow b n))) (lt-or-ge i (jobCount (servedFlow b n)))
-      where
-        none : plannedShare b n i t ≡ 0
-        none = rw (after-quote t (le-trans q (open-mono (b .calendar) c))) (unfold shareTo in refl)
-
-        go : (t < slotsFor b (servedFlow b n)) ⊎ (slotsFor b (servedFlow b n) ≤ t) → (i < jobCount (servedFlow b n)) ⊎ (jobCount (servedFlow b n) ≤ i) → scheduleOf rows (servedAt b n) i t ≡ 0
-        go (inl d) (inl a) = states-share b k rows e h n i t l a d ∙ none
-        go (inl d) (inr a) = states-none-of-flow b k rows e h n i t l (λ x y. omega arith)
-        go (inr d) o = states-none-of-flow b k rows e h n i t l (λ x y. omega arith)
-
-    -- a finish within the quote: in the slot before it the quote was not yet reached
-    pub first-finish-within-quote : openBefore (b .calendar) (finishOf rows (servedAt b n)) ≤ quoteFor b n
-    first-finish-within-quote =
-        first-within (finishOf rows (servedAt b n))
-        (λ d q. first-finish-least b range k rows h e (servedAt b n) d (ends-by-quote d q))
-      where
-        first-within : (t : ℕ) → ((d : ℕ) → quoteFor b n ≤ openBefore (b .calendar) d → t ≤ d) → openBefore (b .calendar) t ≤ quoteFor b n
-        first-within zero ends = omega (arith, open-none (b .calendar))
-        first-within (suc t) ends = go (lt-or-ge (openBefore (b .calendar) t) (quoteFor b n))
-          where
-            go : (openBefore (b .calendar) t < quoteFor b n) ⊎ (quoteFor b n ≤ openBefore (b .calendar) t) → openBefore (b .calendar) (suc t) ≤ quoteFor b n
-            go (inl c) = omega (arith, open-step (b .calendar) t)
-            go (inr c) = absurd (omega (arith, ends t c))

@@ -5,12 +5,16 @@ pub mod Demand3Values
 pub mod Demand3
 pub mod Refusals
 pub mod PlansByTheRules
+pub mod WrittenPlans
+pub mod PlanNumbers
 pub mod AcceptsExactly
 pub mod AcceptsPlans
 pub mod Dispatches
 pub mod Finishes
 pub mod WriteBack
 pub mod Calendars
+pub mod Quotes
+pub mod Appends
 -- laws that the proofs here and in the crates above cite
 pub mod Division
 pub mod Bits

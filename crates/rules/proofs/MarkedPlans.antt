@@ -1,10 +1,12 @@
 -- The marked plans A to F of document 01, E as Req 02 has it, G for releases (02, Req 01) and H for caps above P (02, Req 02), the dispatch lists of
--- A, D and F (02, Req 03), and finishes of single flows of A, G and I (02, Req 05), with late flows as Req 06 has them and all of them without windows, and J
--- for service windows (02, Req 07), shown of the rules themselves by one theorem: whole outcomes, with output and work area. Each field is computed from the
--- definitions. Assumes nothing.
+-- A, D and F (02, Req 03), and finishes of single flows of A, G and I (02, Req 05), with late flows as Req 06 has them and all of them without windows, J
+-- for service windows (02, Req 07), K for quotes and L for a flow appended (02, Req 08), shown of the rules themselves by one theorem: whole outcomes, with
+-- output and work area. Each field is computed from the definitions. Assumes nothing.
 use mathlib.Core.Path.{_≡_, refl}
-use Prim.Native.Nat.{ℕ, zero, suc, _*_, _-_, _/_, _%_, _^_}
+use Prim.Native.Nat.{ℕ, zero, suc, _*_, _-_, _/_, _%_, _^_, _≤_, _<_}
+use mathlib.Core.Bool.{true}
 use mathlib.Core.List.{List, [], _∷_, _++_}
+use native.Mathlib.Omega.{arith}
 use lib.ListN.{replicate}
 use Rattle.rules.specs.Walks.{sumTo, maxTo, anyTo, allTo, listFrom, joinFrom}
 use Rattle.rules.specs.Fields.{field, bytesOf}
@@ -21,7 +23,7 @@ use Rattle.rules.specs.Calendar.{
   windowFault,
   calendarFault,
 }
-use Rattle.rules.specs.Book.{flowIn, lowerCap, lowerCaps, flowOf, jobOf, hasBit, usable, twiceDeadline}
+use Rattle.rules.specs.Book.{Flow, flowIn, lowerCap, lowerCaps, flowOf, jobOf, hasBit, usable, twiceDeadline}
 use Rattle.rules.specs.Reading.{
   releaseSize,
   releaseAt,
@@ -35,10 +37,11 @@ use Rattle.rules.specs.Reading.{
   flowFault,
   leftoverFault,
   bookFault,
+  bookWith,
   readBook,
 }
 use Rattle.rules.specs.Ideal.{quotientUp, duration, lastTake, startAfter, endsBelow, startOf, endOf, path, takeOf}
-use Rattle.rules.specs.PseudoJobs.{unchanged, prepend, runs, chain, rate, work}
+use Rattle.rules.specs.PseudoJobs.{unchanged, prepend, runs, chain, rate, work, sumOver}
 use Rattle.rules.specs.Service.{servedBefore, insertFlow, orderOf, serviceOrder, position}
 use Rattle.rules.specs.Rows.{
   rowFor,
@@ -96,6 +99,8 @@ use Rattle.rules.specs.Dispatch.{
   dispatchCall,
 }
 use Rattle.rules.specs.Finish.{finishOutcome, finishReading, unknownFlow, inputFault, finishCall}
+use Rattle.rules.specs.Quote.{workOf, workUpTo, quote, appended}
+use Rattle.rules.specs.Demands.{Appended}
 
 -- n bytes, written as one hexadecimal number, so that a listing stands as the document has it
 abbrev hex : ℕ → ℕ → List ℕ
@@ -224,6 +229,28 @@ tableJ t =
     ++ hex 12 0x0001_00_00_0001_0002_00_00_0001
     ++ hex 2 t ++ hex 4 0x00_00_0002 ++ hex 18 0x0006_00_00_0002_0007_00_00_0002_000b_00_00_0001
 
+-- K, version 2: P 4. Flow 0: deadline 8, one job, size 4 cap 2. Flow 1: deadline 3, one job, size 3 cap 3. Both have release 2
+abbrev bookK : List ℕ
+bookK = hex 46 0x0000002e_02_0004_02_0008_0002_01_00000004_0002_0000000000000000_0003_0002_01_00000003_0003_0000000000000000
+
+-- the cluster is shut in slot 1, and in 3 and 4: the open slots are 0, 2, and those from 5 on
+abbrev calendarK : List ℕ
+calendarK = hex 14 0x0000000e_01_02_0001_0002_0003_0005
+
+-- flow 1 has three processors in slot 2 and leaves flow 0 one, which then has slots 5 and 6. Four open slots stand before its finish, 7: the one before its
+-- release, its path of 2, and 7 units of work on 4 processors
+abbrev rowsK : List ℕ
+rowsK = hex 24 0x0002_01_00_0003_0002_00_00_0001_0005_00_00_0002_0006_00_00_0001
+
+-- L: K with a flow appended that has flow 0's deadline and release 0, one job, size 9 cap 4. It begins before the others, in slot 0, and takes what they leave
+abbrev bookL : List ℕ
+bookL =
+    hex 46 0x00000041_02_0004_03_0008_0002_01_00000004_0002_0000000000000000_0003_0002_01_00000003_0003_0000000000000000
+    ++ hex 19 0x0008_0000_01_00000009_0004_0000000000000000
+
+abbrev flowL : Flow
+flowL = record { deadline = 8; release = 0; jobs = record { size = 9; cap = 4; predecessors = 0 } ∷ [] }
+
 -- an output of n bytes, and a work area of 16,384, filled with nines
 abbrev out : ℕ → List ℕ
 out n = replicate n 9
@@ -318,6 +345,39 @@ marked-windows = record {
   I-none-open = refl;
 }
 
+-- quotes, and flows appended (02, Req 08): both flows of K end exactly within their quotes, and in L they have their rows and finishes
+pub record MarkedQuotes : Type 0 where
+  pub K : planCall bookK calendarK (out 40) area
+      ≡ record {
+        answer = planAccepted 1 36;
+        output = hex 12 0x00000024_01_0004_02_0007_0003 ++ rowsK ++ out 4;
+        area = used 7 0x0000_0000_0004_0000_0000_0002_0001;
+      }
+  pub K-quotes : (quote (bookWith bookK calendarK) 0 ≡ 4) × (quote (bookWith bookK calendarK) 1 ≡ 2)
+  pub K-met : (openBefore (calendarOf calendarK) 7 ≡ 4) × (openBefore (calendarOf calendarK) 3 ≡ 2)
+  pub L : planCall bookL calendarK (out 62) area
+      ≡ record {
+        answer = planAccepted 2 62;
+        output = hex 14 0x0000003e_01_0004_03_0007_0003_0008 ++ rowsK ++ hex 24 0x0000_02_00_0004_0005_02_00_0002_0006_02_00_0002_0007_02_00_0001;
+        area = used 8 0x0004_0000_0004_0000_0000_0004_0003_0001;
+      }
+  pub L-appended : Appended bookK bookL calendarK (bookWith bookK calendarK) (flowL ∷ [])
+
+pub marked-quotes : MarkedQuotes
+unfolding sumTo maxTo anyTo allTo listFrom joinFrom field bytesOf firstFault flowIn lowerCap lowerCaps flowOf jobOf hasBit releaseSize releaseAt jobsAt flowStart jobAt flowAt bookOf flowHeadFault jobFault flowFault leftoverFault bookFault windowAt calendarOf beginsEarly windowFault calendarFault readBook quotientUp duration lastTake startAfter endsBelow startOf endOf path takeOf unchanged prepend runs chain rate work servedBefore insertFlow orderOf serviceOrder rowFor sumWhere usedIn finishOf isLate lateFlows workUsed workZero slotUnits units unitsOf share given afterSlot slotRows progress flowRows isOpen openBefore passOpen slotAfter usable twiceDeadline freeProcessors slotsFor placeFlow placeFirst plan tableLength rowBytes rowsBytes tableBytes rowAt planOutcome planReading planCall position sumOver workOf workUpTo quote
+marked-quotes = record {
+  K = refl;
+  K-quotes = (refl, refl);
+  K-met = (refl, refl);
+  L = refl;
+  L-appended = record { reads = refl; longer-reads = refl; all-later = later };
+}
+  where
+    later : (f g : ℕ) → f < 2 → 2 ≤ g → g < 3 → servedBefore (appended (bookWith bookK calendarK) (flowL ∷ [])) f g ≡ true
+    later zero g l h c = let e : g ≡ 2 = omega arith in rw e refl
+    later (suc zero) g l h c = let e : g ≡ 2 = omega arith in rw e refl
+    later (suc (suc f)) g l h c = absurd (omega arith)
+
 -- all of it
 pub record MarkedPlans : Type 0 where
   pub A : planCall bookA noWindows (out 70) area
@@ -357,6 +417,7 @@ pub record MarkedPlans : Type 0 where
   pub H : planCall bookH noWindows (out 52) area ≡ record { answer = planAccepted 0 52; output = tableH; area = used 5 0x0002_0002_0002_0002_0001 }
   pub H-accepted : checkCall bookH noWindows tableH area ≡ record { answer = checkAccepted 0; area = used 5 0x0002_0002_0002_0002_0001 }
   pub windows : MarkedWindows
+  pub quotes : MarkedQuotes
 
 pub marked-plans : MarkedPlans
 unfolding sumTo maxTo anyTo allTo listFrom joinFrom field bytesOf firstFault flowIn lowerCap lowerCaps flowOf jobOf hasBit releaseSize releaseAt jobsAt flowStart jobAt flowAt bookOf flowHeadFault jobFault flowFault leftoverFault bookFault calendarOf calendarFault readBook quotientUp duration lastTake startAfter endsBelow startOf endOf path takeOf unchanged prepend runs chain rate work servedBefore insertFlow orderOf serviceOrder rowFor sumWhere usedIn totalOf doneBefore finishOf isLate lateFlows workUsed workZero slotUnits units unitsOf share given afterSlot slotRows progress flowRows isOpen openBefore passOpen slotAfter usable twiceDeadline freeProcessors slotsFor placeFlow placeFirst plan tableLength rowBytes rowsBytes tableBytes rowAt planOutcome planReading planCall tableRows tableHeadFault rowBefore rises lacksPredecessor beforeRelease rowFault totalFault finishFault tableFault checkOutcome checkReading checkCall
@@ -384,4 +445,5 @@ marked-plans = record {
   H = refl;
   H-accepted = refl;
   windows = marked-windows;
+  quotes = marked-quotes;
 }

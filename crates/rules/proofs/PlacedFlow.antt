@@ -10,11 +10,11 @@ use native.Mathlib.Omega.{arith}
 use Rattle.rules.specs.Walks.{sumTo}
 use Rattle.rules.specs.Book.{Flow, jobCount, jobOf, precedes}
 use Rattle.rules.specs.Ideal.{startOf, takeOf}
-use Rattle.rules.specs.PseudoJobs.{PseudoJob, chain, work}
+use Rattle.rules.specs.PseudoJobs.{PseudoJob, chain, work, sumOver}
 use Rattle.rules.specs.Placing.{share, given, afterSlot, progress}
 use Rattle.rules.proofs.Sums.{sum-zero, le-sum}
 use Rattle.rules.proofs.Ideal.{Sized, predecessor-ends-by-start, take-within-cap, take-only-from-start, take-from-end}
-use Rattle.rules.proofs.PseudoJobs.{sumOver, Consecutive, chain-consecutive, chain-live, chain-size}
+use Rattle.rules.proofs.PseudoJobs.{Consecutive, chain-consecutive, chain-live, chain-size}
 use Rattle.rules.proofs.Shares.{shareUpTo, share-up-to-nothing, share-whole, share-monotone, share-law, share-within-take, shares-sum}
 use Rattle.rules.proofs.Greedy.{Live, Underway, givenTo, givenIn, given-le-rest, given-le-rate, given-in-le-free, after-slot, underway}
 use Rattle.rules.proofs.Necessity.{Keeps}

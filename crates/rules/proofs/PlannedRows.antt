@@ -1,9 +1,10 @@
 -- What the placing of flows one after the other writes down: the rows of the first k flows are, flow by flow in service order, rows by slot and
 -- job of what the flow's jobs get there; and where the placing stops, the flow that stops it still has work left. Assumes nothing.
 use mathlib.Core.Path.{_≡_, refl, sym, ap, _∙_}
+use mathlib.Core.Logic.{⊎-elim}
 use Prim.Native.Nat.{ℕ, zero, suc, _+_, _-_, _≤_, _<_, min}
 use mathlib.Core.List.{List, [], _∷_, _++_}
-use native.Mathlib.Nat.{lt-suc-self}
+use native.Mathlib.Nat.{add-zero, add-suc, lt-suc-self, eq-or-lt-of-le}
 use native.Mathlib.Omega.{arith}
 use lib.ListN.{getD}
 use Rattle.rules.specs.Walks.{sumTo, joinFrom}
@@ -157,6 +158,17 @@ placed-earlier b zero rows e n l = absurd (omega arith)
 placed-earlier b (suc k) rows e n l =
     let s = placed-next b k rows e in
     last-or n k l (λ q. (s .earlier, rw q (s .placed-before))) (λ m. placed-earlier b k (s .earlier) (s .placed-before) n m)
+
+pub placed-up-to : (b : Book) (k : ℕ) (rows : List Row) → placeFirst b k ≡ planned rows → (n : ℕ) → n ≤ k → (earlier : List Row) × (placeFirst b n ≡ planned earlier)
+placed-up-to b k rows e n l = ⊎-elim (λ q. (rows, ap (placeFirst b) q ∙ e)) (placed-earlier b k rows e n) (eq-or-lt-of-le l)
+
+-- and a flow that stops the placing stops it for good
+pub stopped-on : (b : Book) (m f : ℕ) → placeFirst b m ≡ infeasible f → (k : ℕ) → placeFirst b (m + k) ≡ infeasible f
+stopped-on b m f e zero = ap (placeFirst b) (add-zero m) ∙ e
+stopped-on b m f e (suc k) = ap (placeFirst b) (add-suc m k) ∙ on (stopped-on b m f e k)
+  where
+    on : placeFirst b (m + k) ≡ infeasible f → placeFirst b (suc (m + k)) ≡ infeasible f
+    on h = unfold placeFirst in ap (λ p. thenPlace p (placeFlow b (servedAt b (m + k)))) h
 
 -- the rows of a flow are its own, so that the flows after it do not change its finish
 grid-flow : (b : Book) (n : ℕ) (r : Row) → r ∈ plannedGrid b n → r .flow ≡ servedAt b n

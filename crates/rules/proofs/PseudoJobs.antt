@@ -13,7 +13,7 @@ use borrow.Author.Tests.{eqb-true, eqb-false, eq-eqb, ne-eqb}
 use Rattle.rules.specs.Walks.{if_then_else_, sumTo, bit, countTo}
 use Rattle.rules.specs.Book.{Flow, jobCount, jobOf}
 use Rattle.rules.specs.Ideal.{startOf, endOf, path, takeOf}
-use Rattle.rules.specs.PseudoJobs.{PseudoJob, unchanged, prepend, runs, chain, rate, work}
+use Rattle.rules.specs.PseudoJobs.{PseudoJob, unchanged, prepend, runs, chain, rate, work, sumOver}
 use Rattle.rules.proofs.Division.{lt-or-ge}
 use Rattle.rules.proofs.Sums.{sum-ext, sum-first, sum-add, sum-mono, sum-swap, sum-const, sum-lt, le-sum, count-none, count-once}
 use Rattle.rules.proofs.Walks.{all-at, all-not, all-true}
@@ -32,11 +32,6 @@ every-map Q R f (p ∷ ps) a = (f p (a .0), every-map Q R f ps (a .1))
 pub every-both : (Q R : PseudoJob → Type 0) (ps : List PseudoJob) → Every Q ps → Every R ps → Every (λ p. Q p × R p) ps
 every-both Q R [] a b = tt
 every-both Q R (p ∷ ps) a b = ((a .0, b .0), every-both Q R ps (a .1) (b .1))
-
--- what they have together
-unfoldable pub sumOver : (PseudoJob → ℕ) → List PseudoJob → ℕ
-sumOver g [] = 0
-sumOver g (p ∷ ps) = g p + sumOver g ps
 
 pub sum-over-ext : (g h : PseudoJob → ℕ) → ((p : PseudoJob) → g p ≡ h p) → (ps : List PseudoJob) → sumOver g ps ≡ sumOver h ps
 unfolding sumOver

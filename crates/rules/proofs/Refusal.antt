@@ -15,6 +15,18 @@ use Rattle.rules.proofs.Greedy.{unitsLeftAt, placing-bound, divided-bou
 use Rattle.rules.proofs.PseudoJobs.{chain-live, chain-widths, chain-works}
 use Rattle.rules.proofs.Necessity.{flowWork, worksUpTo, OnTime, path-necessary, area-necessary}
 
+-- flow k of a sequence, of which a schedule of it and the flows before it is on time: its path fits its usable slots before the deadline, and the area the
+-- slots before it that are open to some flow
+module _ (P k : ℕ) (φ : ℕ → Flow) (usable : ℕ → ℕ → Bool) (opened : ℕ → Bool) (deadline : ℕ → ℕ)
+    (inside : (n t : ℕ) → n < suc k → usable n t ≡ true → opened t ≡ true) (order : (n : ℕ) → n < k → deadline n ≤ deadline k)
+    (σ : ℕ → ℕ → ℕ → ℕ) (on : OnTime P (suc k) φ usable deadline σ) where
+  pub path-fits : Sized (φ k) → path (φ k) ≤ countTo (usable k) (deadline k)
+  path-fits sized = path-necessary (φ k) sized (usable k) (σ k) (on .keeps k (lt-suc-self k)) (deadline k) (on .complete k (lt-suc-self k))
+
+  pub area-fits : worksUpTo φ (suc k) ≤ P * countTo opened (deadline k)
+  area-fits =
+      area-necessary P (suc k) φ usable deadline σ on opened inside (deadline k) (λ n l. last-or n k l (λ e. le-of-eq (ap deadline e)) (λ m. order n m))
+
 -- flow k of a sequence, placed with free t processors free in slot t: in its usable slots, all that the flows before it, busy t in slot t, leave
 module _ (P k : ℕ) (φ : ℕ → Flow) (usable : ℕ → ℕ → Bool) (free busy : ℕ → ℕ) (sized : Sized (φ k))
     (rest-free : (t : ℕ) → usable k t ≡ true → P ≤ busy t + free t) (before : (t : ℕ) → sumTo busy t ≤ worksUpTo φ k) where
@@ -42,9 +54,10 @@ module _ (P k : ℕ) (φ : ℕ → Flow) (usable : ℕ → ℕ → Bool) (free b
       0 < unitsLeftAt (φ k) free T →
       (σ : ℕ → ℕ → ℕ → ℕ) → OnTime P (suc k) φ usable deadline σ → ⊥
   refusal T opened deadline inside order twice left σ on =
-      let p : path (φ k) ≤ countTo (usable k) (deadline k) =
-      path-necessary (φ k) sized (usable k) (σ k) (on .keeps k (lt-suc-self k)) (deadline k) (on .complete k (lt-suc-self k)) in
-      let a : worksUpTo φ (suc k) ≤ P * countTo opened (deadline k) =
-      area-necessary P (suc k) φ usable deadline σ on opened inside (deadline k)
-      (λ n l. last-or n k l (λ e. le-of-eq (ap deadline e)) (λ m. order n m)) in
-      omega (arith, a, area-bound T left, mul-le-mul-left P p, mul-le-mul-left P twice)
+      omega (
+        arith,
+        area-fits P k φ usable opened deadline inside order σ on,
+        area-bound T left,
+        mul-le-mul-left P (path-fits P k φ usable opened deadline inside order σ on sized),
+        mul-le-mul-left P twice,
+      )

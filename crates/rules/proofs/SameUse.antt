@@ -130,22 +130,28 @@ module _ (b c : Book) (same : SameFlows b c) where
   unfolding dispatchChecked listOutcome listBytes
   dispatch-same table out area o = rw (rows-same table, same .processors) refl
 
+-- one flow that both books use alike is placed alike, beside the same rows
+module _ (b c : Book) (processors : b .processors ≡ c .processors) (calendar : b .calendar ≡ c .calendar) (f : ℕ) (flow : flowOf b f ≡ flowOf c f)
+    (rows : List Row) where
+  free-same : (t : ℕ) → freeProcessors b f rows t ≡ freeProcessors c f rows t
+  unfolding freeProcessors usable
+  free-same t = rw (flow, processors, calendar) refl
+
+  pub place-same : placeFlow b f rows ≡ placeFlow c f rows
+  unfolding placeFlow
+  place-same =
+      let free : freeProcessors b f rows ≡ freeProcessors c f rows = λ x t. free-same t x in
+      rw (flow, limit-same b c calendar (flowOf c f), free) refl
+
 module _ (b c : Book) (same : SameUse b c) where
   -- ---- the plan
-  free-same : (f : ℕ) (rows : List Row) (t : ℕ) → freeProcessors b f rows t ≡ freeProcessors c f rows t
-  unfolding freeProcessors usable
-  free-same f rows t = rw (same .flows .flow f, same .flows .processors, same .calendar) refl
-
-  place-same : (f : ℕ) (rows : List Row) → placeFlow b f rows ≡ placeFlow c f rows
-  unfolding placeFlow
-  place-same f rows =
-      let free : freeProcessors b f rows ≡ freeProcessors c f rows = λ x t. free-same f rows t x in
-      rw (same .flows .flow f, limit-same b c (same .calendar) (flowOf c f), free) refl
-
   pub first-same : (k : ℕ) → placeFirst b k ≡ placeFirst c k
   unfolding placeFirst
   first-same zero = refl
-  first-same (suc k) = λ x. thenPlace (first-same k x) (λ rows. place-same (getD (service-same b c (same .flows) x) k 0) rows x)
+  first-same (suc k) = λ x. thenPlace (first-same k x) (λ rows. placed (getD (service-same b c (same .flows) x) k 0) rows x)
+    where
+      placed : (f : ℕ) (rows : List Row) → placeFlow b f rows ≡ placeFlow c f rows
+      placed f rows = place-same b c (same .flows .processors) (same .calendar) f (same .flows .flow f) rows
 
   plan-same : plan b ≡ plan c
   unfolding plan

@@ -1,5 +1,5 @@
--- The demands as types: what is owed of the planner, of the table check, of the dispatch list and of the finish of one flow, for every input, and what it
--- means that a flow is late and that a calendar has no windows. Later files prove them. Assumes nothing.
+-- The demands as types: what is owed of the planner, of the table check, of the dispatch list and of the finish of one flow, for every input, what it
+-- means that a flow is late and that a calendar has no windows, and what may be quoted of a finish. Later files prove them. Assumes nothing.
 use mathlib.Core.Path.{_≡_}
 use mathlib.Core.Logic.{_⊎_}
 use Prim.Native.Nat.{ℕ, suc, _+_, _*_, _≤_, _<_}
@@ -8,13 +8,13 @@ use mathlib.Core.List.{List, [], _∷_, _++_}
 use lib.ListN.{length, take, drop, getD}
 use lib.Dec.{leb, eqb}
 use Rattle.rules.specs.declared.Verdict.the-variants.{Pass, Refused}
-use Rattle.rules.specs.Walks.{bit}
+use Rattle.rules.specs.Walks.{bit, sumTo}
 use Rattle.rules.specs.Fields.{AllBytes, field, bytesOf}
 use Rattle.rules.specs.Answers.{none, planRefused, checkAccepted, checkRefused, listAccepted, listRefused, finishAccepted, finishRefused}
 use Rattle.rules.specs.Limits.{mostDeadline, slots, workBytes}
 use Rattle.rules.specs.Calendar.{Calendar, isOpen, openBefore, noWindows, calendarFault}
-use Rattle.rules.specs.Book.{Flow, Book, withCalendar, flowCount, flowIn, flowOf, lowered, jobOf, usable, twiceDeadline}
-use Rattle.rules.specs.Reading.{versionOf, bookOf, bookFault, bookWith, read, unread, readingOf, readBook, bookBytes}
+use Rattle.rules.specs.Book.{Flow, Book, withCalendar, flowCount, jobCount, flowIn, flowOf, lowered, jobOf, usable, twiceDeadline}
+use Rattle.rules.specs.Reading.{versionOf, bookOf, bookFault, read, unread, readingOf, readBook, bookBytes}
 use Rattle.rules.specs.Service.{servedBefore}
 use Rattle.rules.specs.Rows.{Row, usedIn, finishOf, isLate, lateFlows, workZero}
 use Rattle.rules.specs.Placing.{slotsFor, planned, rowsOf, plan}
@@ -25,6 +25,7 @@ use Rattle.rules.specs.Dispatch.{listedBefore, listHead, listLength, row
 use Rattle.rules.specs.Finish.{upToNamed, FinishOutcome, finishCall}
 use Rattle.rules.specs.Schedule.{Schedule, everyFlow, IsJob, Valid, EndsBy, InSlots, scheduleOf, scheduleRows, scheduleTable}
 use Rattle.rules.specs.Cut.{amongFirst, cut, numberInCut}
+use Rattle.rules.specs.Quote.{workOf, quote, appended}
 
 -- ---- demand 1: "turn down a faulty one by a number from the list. A refusal gives the number and the place, leaves the output untouched
 -- and the work area as the list says." (That the calls take every sequence of bytes and end is what their contracts without a `requires`
@@ -388,6 +389,69 @@ pub record NoWindows : Type 0 where
   -- 25 is never said
   pub never-25 : (book table area : List ℕ) → checkCall book noWindows table area .answer .number ≡ 25 → ⊥
 
+-- ---- a closer finish to quote (02, Req 08): "Twice the deadline is a poor figure for the pulpit."
+
+-- "the open slots before its finish are at most three numbers added", of flow f with this finish
+abbrev pub WithinQuote : Book → ℕ → ℕ → Type 0
+WithinQuote b f finish = openBefore (b .calendar) finish ≤ quote b f
+
+-- "For each accepted flow .. Show this of every plan."
+pub record Quotes : Type 0 where
+  -- of the finish that stands in the written table
+  pub in-table : (book calendar out area : List ℕ) (b : Book) → readBook book calendar ≡ read b → planCall book calendar out area .answer .number ≡ 0 →
+      (f : ℕ) → f < flowCount b → WithinQuote b f (finishIn (planCall book calendar out area .output) f)
+  -- of the rows that the rules give, where with 13 nothing is written
+  pub in-rows : (book calendar out area : List ℕ) (b : Book) → readBook book calendar ≡ read b → planCall book calendar out area .answer .number ≡ 13 →
+      (f : ℕ) → f < flowCount b → WithinQuote b f (finishOf (rowsOf (plan b)) f)
+  -- of the finish that is answered for one flow
+  pub answered : (book calendar area : List ℕ) (f : ℕ) (b : Book) → readBook book calendar ≡ read b → finishCall book calendar f area .answer .number ≡ 0 →
+      WithinQuote b f (finishCall book calendar f area .answer .finish)
+  -- the work of a flow is the sizes of its jobs, added
+  pub work-is-sizes : (book calendar : List ℕ) (b : Book) → readBook book calendar ≡ read b → (f : ℕ) → f < flowCount b →
+      workOf (flowOf b f) ≡ sumTo (λ i. jobOf (flowOf b f) i .size) (jobCount (flowOf b f))
+  -- where some schedule of the flow and those before it is on time, the quote is at least as close as twice the deadline
+  pub within-twice : (book calendar : List ℕ) (b : Book) → readBook book calendar ≡ read b → (f : ℕ) → f < flowCount b → (σ : Schedule) → Valid b (upTo b f) σ →
+      ((g : ℕ) → g < flowCount b → upTo b f g ≡ true → EndsBy σ g (flowOf b g .deadline)) → quote b f ≤ twiceDeadline b (flowOf b f)
+
+-- two books beside one calendar: the second has "flows appended at the end of the book, all later in service order than those before them"
+pub record Appended (book longer calendar : List ℕ) (b : Book) (more : List Flow) : Type 0 where
+  pub reads : readBook book calendar ≡ read b
+  pub longer-reads : readBook longer calendar ≡ read (appended b more)
+  pub all-later : (f g : ℕ) → f < flowCount b → flowCount b ≤ g → g < flowCount (appended b more) → servedBefore (appended b more) f g ≡ true
+
+-- the table in a call's output: "the planner also [answers] with the table's length"
+abbrev pub tableOf : PlanOutcome → List ℕ
+tableOf o = take (o .answer .length) (o .output)
+
+-- "alter no earlier row and no earlier finish": what is written for both
+pub record KeepsTable (b : Book) (more : List Flow) (o longer : PlanOutcome) : Type 0 where
+  -- the rows of the longer table begin with those of the shorter one
+  pub rows-first : take (length (tableRows b (tableOf o))) (tableRows (appended b more) (tableOf longer)) ≡ tableRows b (tableOf o)
+  -- and so do its finishes
+  pub finishes-first : (f : ℕ) → f < flowCount b → finishIn (longer .output) f ≡ finishIn (o .output) f
+  -- the flows that were late are late still
+  pub late-still : o .answer .late ≤ longer .answer .late
+
+pub record KeepsEarlier (book longer calendar : List ℕ) (b : Book) (more : List Flow) : Type 0 where
+  -- "while the longer book is still accepted"
+  pub keeps-table : (out area out′ area′ : List ℕ) →
+      planCall book calendar out area .answer .number ≡ 0 → planCall longer calendar out′ area′ .answer .number ≡ 0 →
+      KeepsTable b more (planCall book calendar out area) (planCall longer calendar out′ area′)
+  -- then the shorter one is accepted too, where it is lent as much output
+  pub accepted-before : (out area out′ area′ : List ℕ) →
+      planCall longer calendar out′ area′ .answer .number ≡ 0 → length out′ ≤ length out → workBytes ≤ length area →
+      planCall book calendar out area .answer .number ≡ 0
+  -- and where the shorter one is infeasible, so is the longer one, by the same flow
+  pub infeasible-still : (out area out′ area′ : List ℕ) →
+      planCall book calendar out area .answer .number ≡ 12 → workBytes ≤ length area′ →
+      planCall longer calendar out′ area′ .answer ≡ planCall book calendar out area .answer
+  -- the finish of one flow and its quote are the same, whatever becomes of the flows appended
+  pub same-finish : (f : ℕ) → f < flowCount b → (area : List ℕ) → finishCall longer calendar f area ≡ finishCall book calendar f area
+  pub same-quote : (f : ℕ) → f < flowCount b → quote (appended b more) f ≡ quote b f
+
+unfoldable pub Appends : Type 0
+Appends = (book longer calendar : List ℕ) (b : Book) (more : List Flow) → Appended book longer calendar b more → KeepsEarlier book longer calendar b more
+
 -- ---- all of it
 pub record Demands : Type 0 where
   pub refuses-by-the-list : Demand1
@@ -402,3 +466,5 @@ pub record Demands : Type 0 where
   pub write-back : WriteBack
   pub calendars : Calendars
   pub no-windows : NoWindows
+  pub quotes : Quotes
+  pub appends : Appends

@@ -18,5 +18,6 @@ pub mod Dispatch
 pub mod Finish
 pub mod Schedule
 pub mod Cut
+pub mod Quote
 pub mod Text
 pub mod Demands

@@ -39,3 +39,8 @@ rate w p = sumTo (λ i. takeOf w i (p .first)) (jobCount w)
 -- "work w × r"
 unfoldable pub work : Flow → PseudoJob → ℕ
 work w p = p .width * rate w p
+
+-- what pseudo-jobs have together: the sum of a number of each
+unfoldable pub sumOver : (PseudoJob → ℕ) → List PseudoJob → ℕ
+sumOver g [] = 0
+sumOver g (p ∷ ps) = g p + sumOver g ps
