@@ -2,6 +2,7 @@
 //! over every range, of caps and of releases, and damage to books of either
 //! version.
 
+use crate::quote::work;
 use crate::reader::{
     be16, Book, Flow, Job, Version, BOOK_HEAD, JOB_RECORD, MOST_CAP, MOST_DEADLINE, MOST_FLOWS,
     MOST_JOBS, MOST_PROCESSORS, MOST_SIZE,
@@ -328,8 +329,7 @@ fn draw_deadlines(rng: &mut Rng, book: &mut Book, how: Deadlines) {
     let mut work_before = 0;
     for flow in &mut book.flows {
         let path = critical_path(flow, book.processors);
-        let work: u64 = flow.jobs.iter().map(|job| u64::from(job.size)).sum();
-        work_before += work;
+        work_before += work(flow);
         let need = path + work_before / u64::from(book.processors);
         let deadline = match how {
             Deadlines::Fair => match rng.below(4) {
@@ -366,8 +366,8 @@ fn spread_deadlines(rng: &mut Rng, book: &mut Book) {
     let mut end = 0;
     for flow in order {
         let flow = &mut book.flows[flow];
-        let work: u64 = flow.jobs.iter().map(|job| u64::from(job.size)).sum();
-        let alone = critical_path(flow, book.processors) + work / u64::from(book.processors);
+        let path = critical_path(flow, book.processors);
+        let alone = path + work(flow) / u64::from(book.processors);
         end += rng.range(alone / 2, alone + 1);
         flow.deadline = end.clamp(1, u64::from(MOST_DEADLINE)) as u32;
     }
@@ -624,6 +624,38 @@ pub fn late_full_book(rng: &mut Rng) -> Book {
     book.version = Version::Two;
     for flow in &mut book.flows {
         flow.release = flow.deadline.saturating_sub(rng.range(1, 8) as u32);
+    }
+    book
+}
+
+/// A version 2 book as a shift supervisor would send it: coils that arrive one behind the
+/// other and load a small cluster to a half up to nine tenths, each with a few jobs of a
+/// few slots and some slack before its deadline.
+pub fn shift_book(rng: &mut Rng) -> Book {
+    let processors = rng.range(8, 64);
+    let load = rng.range(50, 90);
+    let mut book = Book::new(processors as u32, Vec::new());
+    book.version = Version::Two;
+    let mut work_before = 0;
+    for _ in 0..rng.range(5, 40) {
+        let shape = rng.pick(&SHAPES);
+        let jobs = rng.range(2, 8) as usize;
+        let jobs = (0..jobs).map(|job| {
+            let cap = rng.range(1, processors / 2);
+            Job {
+                size: (cap * rng.range(1, 6) - rng.below(cap)) as u32,
+                cap: cap as u32,
+                precedence: precedence(rng, shape, job, jobs),
+            }
+        });
+        let mut flow = Flow::new(1, jobs.collect());
+        let path = critical_path(&flow, book.processors);
+        let release = 100 * work_before / (load * processors);
+        let deadline = release + path + rng.range(path / 2, 2 * path) + 1;
+        flow.deadline = deadline.min(u64::from(MOST_DEADLINE)) as u32;
+        flow.release = release.min(u64::from(flow.deadline) - 1) as u32;
+        work_before += work(&flow);
+        book.flows.push(flow);
     }
     book
 }

@@ -108,6 +108,18 @@ pub fn valid(rng: &mut Rng, book: &Book) -> Calendar {
     }
 }
 
+/// Maintenance as a shift has it: one to four windows of a few slots before the last
+/// deadline.
+pub fn maintenance(rng: &mut Rng, book: &Book) -> Calendar {
+    let last = book.flows.iter().map(|flow| flow.deadline).max();
+    let last = u64::from(last.unwrap_or(MOST_DEADLINE));
+    let windows = (0..rng.range(1, 4)).map(|_| {
+        let shut = rng.below(last) as u32;
+        Window::new(shut, shut + rng.range(2, 12) as u32)
+    });
+    apart(windows.collect())
+}
+
 /// The book in the open slots of a calendar: before each deadline and each release
 /// stand as many open slots as slots before. Nothing where a deadline is too great.
 /// Its plan is that of the book without windows, with each slot as the open slot of

@@ -1,7 +1,7 @@
-//! A second planner, a second table check, a second dispatch list and a second
-//! finish of one flow, made apart from the proved ones and from the rules alone,
-//! with generators of books, calendars and tables, for differential tests and as a
-//! baseline of speed.
+//! A second planner, a second table check, a second dispatch list, a second finish of
+//! one flow and the quote of one, made apart from the proved ones and from the rules
+//! alone, with generators of books, calendars and tables, for differential tests and as
+//! a baseline of speed.
 
 pub mod answer;
 pub mod books;
@@ -25,8 +25,10 @@ pub mod lowered;
 pub mod marked;
 pub mod measure;
 pub mod painted;
+pub mod quote;
 pub mod reader;
 pub mod rng;
+pub mod search;
 pub mod second_check;
 pub mod second_dispatch;
 pub mod second_finish;

@@ -1,5 +1,6 @@
-//! The marked plans A to G without windows, and J with some, held against any planner,
-//! any check, any dispatch list and any finish of one flow.
+//! The marked plans A to G without windows, and J to L with some, held against any
+//! planner, any check, any dispatch list and any finish of one flow; K and L, which are
+//! there for their quotes, against all but the dispatch lists.
 
 use crate::answer::{CheckAnswer, FinishAnswer, ListAnswer, PlanAnswer, Refusal, WORK_BYTES};
 use crate::books::{encode_book, encode_list, encode_table, fit_length};
@@ -244,6 +245,43 @@ const LISTED_J: [[u16; 4]; 8] = [
 /// The use of each slot in plan J.
 const USED_J: [u16; 12] = [0, 2, 2, 0, 0, 2, 2, 2, 0, 0, 0, 1];
 
+/// Book K, of version 2.
+pub const BOOK_K: [u8; 46] = [
+    0x00, 0x00, 0x00, 0x2e, 0x02, 0x00, 0x04, 0x02, // 46 bytes, version 2, P 4, 2 flows
+    0x00, 0x08, 0x00, 0x02, 0x01, // flow 0: deadline 8, release 2, 1 job
+    0x00, 0x00, 0x00, 0x04, 0x00, 0x02, // size 4, cap 2
+    0x00, 0x00, 0x00, 0x00, 0x00, 0x00, 0x00, 0x00, // free
+    0x00, 0x03, 0x00, 0x02, 0x01, // flow 1: deadline 3, release 2, 1 job
+    0x00, 0x00, 0x00, 0x03, 0x00, 0x03, // size 3, cap 3
+    0x00, 0x00, 0x00, 0x00, 0x00, 0x00, 0x00, 0x00, // free
+];
+
+/// What book L has behind the flows of book K.
+const FLOW_L: [u8; 19] = [
+    0x00, 0x08, 0x00, 0x00, 0x01, // flow 2: deadline 8, release 0, 1 job
+    0x00, 0x00, 0x00, 0x09, 0x00, 0x04, // size 9, cap 4
+    0x00, 0x00, 0x00, 0x00, 0x00, 0x00, 0x00, 0x00, // free
+];
+
+/// Calendar K: slots 1, 3 and 4 are shut.
+pub const CALENDAR_K: [u8; 14] = [
+    0x00, 0x00, 0x00, 0x0e, 0x01, 0x02, // 14 bytes, version 1, 2 windows
+    0x00, 0x01, 0x00, 0x02, // first slot shut, first slot open again
+    0x00, 0x03, 0x00, 0x05, //
+];
+
+/// Slot, flow, job and take of the rows of plan K. Flow 1 fills slot 2 but for one
+/// processor; flow 0, whose chain is twice 2, goes on in slots 5 and 6.
+const ROWS_K: [[u16; 4]; 4] = [[2, 1, 0, 3], [2, 0, 0, 1], [5, 0, 0, 2], [6, 0, 0, 1]];
+
+/// The rows of plan L behind those of plan K. The chain of flow 2 is twice 4 and then 1;
+/// it is served behind flow 0, which has the same deadline, and has what is left.
+const ROWS_OF_L: [[u16; 4]; 4] = [[0, 2, 0, 4], [5, 2, 0, 2], [6, 2, 0, 2], [7, 2, 0, 1]];
+
+/// The use of each slot in plans K and L.
+const USED_K: [u16; 7] = [0, 0, 4, 0, 0, 2, 1];
+const USED_L: [u16; 8] = [4, 0, 4, 0, 0, 4, 3, 1];
+
 fn rows(listed: &[[u16; 4]]) -> Vec<Row> {
     let row = |&[slot, flow, job, take]: &[u16; 4]| Row {
         slot,
@@ -396,6 +434,23 @@ pub fn table_j(slot: u16) -> Vec<u8> {
     let mut listed = ROWS_J;
     listed[4][0] = slot;
     encode_table(2, &[12, 3], &rows(&listed))
+}
+
+pub fn table_k() -> Vec<u8> {
+    encode_table(4, &[7, 3], &rows(&ROWS_K))
+}
+
+/// Book K with a third flow at its end.
+pub fn book_l() -> Vec<u8> {
+    let mut book = [&BOOK_K[..], &FLOW_L].concat();
+    book[7] = 3;
+    fit_length(&mut book);
+    book
+}
+
+pub fn table_l() -> Vec<u8> {
+    let listed = [ROWS_K, ROWS_OF_L].concat();
+    encode_table(4, &[7, 3, 8], &rows(&listed))
 }
 
 /// What is owed of calls without windows.
@@ -617,6 +672,8 @@ pub fn hold_planner(plan: Planner) {
     planned_in(plan, &book_c(2), &CALENDAR_J, &table, 1, &[0, 1, 1]);
     let infeasible = Refusal::new(12, 0, 255);
     not_planned_in(plan, &book_c(3), &CALENDAR_J, 40, infeasible);
+    planned_in(plan, &BOOK_K, &CALENDAR_K, &table_k(), 1, &USED_K);
+    planned_in(plan, &book_l(), &CALENDAR_K, &table_l(), 2, &USED_L);
 }
 
 /// Holds the marked plans and tables against a check.
@@ -685,6 +742,8 @@ pub fn hold_check(check: Check) {
     for calendar in [&TOUCHING[..], &[]] {
         not_checked_in(check, &BOOK_J, calendar, &table_j(5), Refusal::of_all(24));
     }
+    checked_in(check, &BOOK_K, &CALENDAR_K, &table_k(), 1, &USED_K);
+    checked_in(check, &book_l(), &CALENDAR_K, &table_l(), 2, &USED_L);
 }
 
 /// Holds the marked plans and tables against a dispatch list.
@@ -813,4 +872,9 @@ pub fn hold_finish(finish: Finish) {
     for calendar in [&TOUCHING[..], &[]] {
         not_finished_in(finish, &BOOK_J, calendar, 1, Refusal::of_all(24));
     }
+    for book in [&BOOK_K[..], &book_l()] {
+        finished_in(finish, book, &CALENDAR_K, 0, 7, &USED_K);
+        finished_in(finish, book, &CALENDAR_K, 1, 3, &[0, 0, 3]);
+    }
+    finished_in(finish, &book_l(), &CALENDAR_K, 2, 8, &USED_L);
 }

@@ -8,8 +8,9 @@ use flowplan_tests::books::{self, encode_book};
 use flowplan_tests::calendar::{read_calendar, Calendar};
 use flowplan_tests::calendars::{self, Kinds, NONE_OPEN};
 use flowplan_tests::edges::Edges;
-use flowplan_tests::reader::{read_book, Book, Version, MOST_CAP, MOST_DEADLINE, VERSIONS};
+use flowplan_tests::reader::{read_book, Version, MOST_CAP, MOST_DEADLINE, VERSIONS};
 use flowplan_tests::rng::Rng;
+use flowplan_tests::search::{in_time, small_case};
 use flowplan_tests::second_check::Row;
 use flowplan_tests::second_planner::{
     chain, chain_by_change_points, chain_by_slots, critical_path, schedule, Outcome, PseudoJob,
@@ -728,37 +729,10 @@ fn hold_refusals(version: Version, windows: bool) {
     // Of each also those with caps above P.
     let (mut none, mut some) = ([0; 2], [0; 2]);
     for _ in 0..60_000 {
-        let book = books::tiny_book(&mut rng);
-        let mut book = books::with_caps(&mut rng, book);
-        for flow in &mut book.flows {
-            flow.deadline = flow.deadline.min(rng.range(1, 6) as u32);
-        }
-        let book = books::in_version(&mut rng, version, book);
-        let work: u32 = book
-            .flows
-            .iter()
-            .flat_map(|f| &f.jobs)
-            .map(|j| j.size)
-            .sum();
-        let most = book
-            .flows
-            .iter()
-            .map(|flow| flow.deadline)
-            .max()
-            .unwrap_or(0);
-        let jobs: usize = book.flows.iter().map(|flow| flow.jobs.len()).sum();
-        if work > 14 || most > 6 || jobs > 5 {
+        let Some((book, calendar)) = small_case(&mut rng, version, windows) else {
             continue;
-        }
-        let above = usize::from(books::has_cap_above(&book));
-        let calendar = if windows {
-            let shut = rng.below(6) as u32;
-            let again = shut + 1 + rng.below(3) as u32;
-            let second = again + 1 + rng.below(4) as u32;
-            Calendar::of(&[[shut, again], [second, second + 1]])
-        } else {
-            Calendar::default()
         };
+        let above = usize::from(books::has_cap_above(&book));
         if let Err(flow) = schedule(&book, &calendar) {
             let order = book.service_order();
             let place = order.iter().position(|&k| k == flow as usize).unwrap();
@@ -773,77 +747,6 @@ fn hold_refusals(version: Version, windows: bool) {
          schedule in time {none:?}, planned with one {some:?}"
     );
     assert!(none.into_iter().chain(some).all(|met| met > 500));
-}
-
-/// Whether some valid schedule ends every flow by its own deadline.
-fn in_time(book: &Book, calendar: &Calendar) -> bool {
-    let left: Vec<(usize, usize, u32)> = book
-        .flows
-        .iter()
-        .enumerate()
-        .flat_map(|(f, flow)| {
-            flow.jobs
-                .iter()
-                .enumerate()
-                .map(move |(j, job)| (f, j, job.size))
-        })
-        .collect();
-    search(book, calendar, 0, &left)
-}
-
-fn search(book: &Book, calendar: &Calendar, slot: u32, left: &[(usize, usize, u32)]) -> bool {
-    if left.iter().all(|&(_, _, size)| size == 0) {
-        return true;
-    }
-    let overdue = |&(flow, _, size): &(usize, usize, u32)| {
-        size > 0 && {
-            let from = slot.max(book.flows[flow].release);
-            let slots = book.flows[flow].deadline.saturating_sub(from);
-            size > slots * book.processors
-        }
-    };
-    if left.iter().any(overdue) {
-        return false;
-    }
-    let most: Vec<u32> = left
-        .iter()
-        .map(|&(flow, job, size)| {
-            let record = &book.flows[flow].jobs[job];
-            let open = left
-                .iter()
-                .any(|&(f, j, size)| f == flow && record.precedence >> j & 1 == 1 && size > 0);
-            if open || slot < book.flows[flow].release || !calendar.is_open(slot) {
-                0
-            } else {
-                size.min(record.cap_in_use(book.processors))
-            }
-        })
-        .collect();
-    let mut next = left.to_vec();
-    give(book, calendar, slot, &most, 0, book.processors, &mut next)
-}
-
-fn give(
-    book: &Book,
-    calendar: &Calendar,
-    slot: u32,
-    most: &[u32],
-    at: usize,
-    free: u32,
-    next: &mut Vec<(usize, usize, u32)>,
-) -> bool {
-    if at == most.len() {
-        return search(book, calendar, slot + 1, &next.clone());
-    }
-    let size = next[at].2;
-    for take in (0..=most[at].min(free)).rev() {
-        next[at].2 = size - take;
-        if give(book, calendar, slot, most, at + 1, free - take, next) {
-            return true;
-        }
-    }
-    next[at].2 = size;
-    false
 }
 
 #[test]
