@@ -354,7 +354,8 @@ pub record MarkedQuotes : Type 0 where
         area = used 7 0x0000_0000_0004_0000_0000_0002_0001;
       }
   pub K-quotes : (quote (bookWith bookK calendarK) 0 ≡ 4) × (quote (bookWith bookK calendarK) 1 ≡ 2)
-  pub K-met : (openBefore (calendarOf calendarK) 7 ≡ 4) × (openBefore (calendarOf calendarK) 3 ≡ 2)
+  -- exactly so many open slots stand before the finishes, 7 and 3
+  pub K-met : (openBefore (calendarOf calendarK) 7 ≡ quote (bookWith bookK calendarK) 0) × (openBefore (calendarOf calendarK) 3 ≡ quote (bookWith bookK calendarK) 1)
   pub L : planCall bookL calendarK (out 62) area
       ≡ record {
         answer = planAccepted 2 62;
