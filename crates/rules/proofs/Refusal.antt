@@ -15,8 +15,8 @@ use Rattle.rules.proofs.Greedy.{unitsLeftAt, placing-bound, divided-bou
 use Rattle.rules.proofs.PseudoJobs.{chain-live, chain-widths, chain-works}
 use Rattle.rules.proofs.Necessity.{flowWork, worksUpTo, OnTime, path-necessary, area-necessary}
 
--- flow k of a sequence, of which a schedule of it and the flows before it is on time: its path fits its usable slots before the deadline, and the area the
--- slots before it that are open to some flow
+-- flow k of a sequence, where a schedule of it and the flows before it is on time: its path fits its usable slots before the deadline, and the work of all of
+-- them fits the slots before it that are open
 module _ (P k : ℕ) (φ : ℕ → Flow) (usable : ℕ → ℕ → Bool) (opened : ℕ → Bool) (deadline : ℕ → ℕ)
     (inside : (n t : ℕ) → n < suc k → usable n t ≡ true → opened t ≡ true) (order : (n : ℕ) → n < k → deadline n ≤ deadline k)
     (σ : ℕ → ℕ → ℕ → ℕ) (on : OnTime P (suc k) φ usable deadline σ) where

@@ -400,7 +400,7 @@ pub record Quotes : Type 0 where
   -- of the finish that stands in the written table
   pub in-table : (book calendar out area : List ℕ) (b : Book) → readBook book calendar ≡ read b → planCall book calendar out area .answer .number ≡ 0 →
       (f : ℕ) → f < flowCount b → WithinQuote b f (finishIn (planCall book calendar out area .output) f)
-  -- of the rows that the rules give, where with 13 nothing is written
+  -- where the answer is 13, and nothing is written, of the rows that the rules give
   pub in-rows : (book calendar out area : List ℕ) (b : Book) → readBook book calendar ≡ read b → planCall book calendar out area .answer .number ≡ 13 →
       (f : ℕ) → f < flowCount b → WithinQuote b f (finishOf (rowsOf (plan b)) f)
   -- of the finish that is answered for one flow
@@ -429,7 +429,7 @@ pub record KeepsTable (b : Book) (more : List Flow) (o longer : PlanOutcome) : T
   pub rows-first : take (length (tableRows b (tableOf o))) (tableRows (appended b more) (tableOf longer)) ≡ tableRows b (tableOf o)
   -- and so do its finishes
   pub finishes-first : (f : ℕ) → f < flowCount b → finishIn (longer .output) f ≡ finishIn (o .output) f
-  -- the flows that were late are late still
+  -- and no fewer flows are late
   pub late-still : o .answer .late ≤ longer .answer .late
 
 pub record KeepsEarlier (book longer calendar : List ℕ) (b : Book) (more : List Flow) : Type 0 where
