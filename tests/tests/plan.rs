@@ -12,7 +12,7 @@ use flowplan_tests::edges::Edges;
 use flowplan_tests::lent::{work_length, Junk, Lent};
 use flowplan_tests::reader::{read_book, Book, Flow, Job, Version, VERSIONS};
 use flowplan_tests::rng::Rng;
-use flowplan_tests::second_planner::{self, Outcome};
+use flowplan_tests::second_planner::{self, Outcome, PseudoJob};
 use flowplan_tests::{caps, heads, linked, linked_plan, lowered, marked, twins};
 
 #[test]
@@ -252,6 +252,45 @@ fn hold_trial(version: Version, seed: u64) {
     // With no open slot before a deadline a flow is infeasible.
     trial.calendars.hold(version, "planned", &[NONE_OPEN]);
     trial.infeasible.hold(version, "infeasible", &[]);
+}
+
+/// Three flows whose chains are told here by hand: 2 × n pseudo-jobs, the longest
+/// path there is, and takes that change while the rate does not. The second planner
+/// cuts them so, and the proved one has its rows, or refuses the path that is too long.
+#[test]
+fn marked_chains() {
+    let mut trial = Trial::new(0x5eed_0015);
+    let job = |size, cap, precedence| Job {
+        size,
+        cap,
+        precedence,
+    };
+    let in_a_row =
+        |jobs: u32, size, cap| Vec::from_iter((0..jobs).map(|i| job(size, cap, (1 << i) >> 1)));
+    let run = |width, takes| PseudoJob { width, takes };
+    let alone = |jobs, job, take| Vec::from_iter((0..jobs).map(|k| if k == job { take } else { 0 }));
+
+    let twice = Vec::from_iter((0..10).map(|u| run(1, alone(5, u / 2, 2 - u % 2))));
+    let longest = Vec::from_iter((0..64).map(|i| run(1_000_000, alone(64, i, 1))));
+    let equal_rates = [[1, 3, 0], [0, 2, 2], [0, 0, 2]];
+    let marked = [
+        (in_a_row(5, 3, 2), twice, 0),
+        (in_a_row(64, 1_000_000, 1), longest, 12),
+        (
+            vec![job(1, 1, 0), job(5, 3, 0), job(4, 2, 1)],
+            Vec::from_iter(equal_rates.map(|takes| run(1, takes.to_vec()))),
+            0,
+        ),
+    ];
+    for (jobs, chain, number) in marked {
+        let book = Book::new(4, vec![Flow::new(4_096, jobs)]);
+        assert_eq!(second_planner::chain(&book.flows[0], 4), chain);
+        let bytes = encode_book(&book);
+        let outcome = second_planner::outcome(&bytes, &NO_WINDOWS);
+        let before = trial.met[number];
+        trial.compare(&bytes, &NO_WINDOWS, &outcome, 1_000, WORK_BYTES);
+        assert_eq!(trial.met[number], before + 1);
+    }
 }
 
 /// Jobs without a rest, with a rest of one and with the largest rest, up to the

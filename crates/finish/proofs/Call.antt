@@ -13,17 +13,17 @@ use Rattle.rules.specs.Limits.{slots, workBytes}
 use Rattle.rules.specs.Calendar.{Calendar, calendarOf, calendarFault, CalendarInRange}
 use Rattle.rules.specs.Book.{Book, withCalendar, flowCount}
 use Rattle.rules.specs.Reading.{bookOf, bookFault, bookWith}
-use Rattle.rules.specs.Service.{position}
+use Rattle.rules.specs.Service.{servedAt, position}
 use Rattle.rules.specs.Rows.{finishOf, workUsed, workZero}
 use Rattle.rules.specs.Placing.{infeasible, placeFirst}
 use Rattle.rules.specs.Finish.{upToNamed, FinishOutcome, finishOutcome, finishReading, unknownFlow, inputFault, finishCall}
 use Rattle.rules.proofs.Position.{served-position}
-use Rattle.rules.proofs.WorkArea.{used-cleared, used-over-cleared}
-use Rattle.place.specs.Whole.{shutRows}
-use Rattle.place.proofs.FirstFlows.{infeasible-stays}
-use Rattle.place.proofs.Maintenance.{used-again, ShutTo, opened-area, opened-cleared}
+use Rattle.rules.proofs.WorkArea.{used-over-cleared}
+use Rattle.place.specs.Order.{shutRows}
+use Rattle.place.proofs.FlowByFlow.{infeasible-stays, flows-left, nothing-left}
+use Rattle.place.proofs.Maintenance.{ShutTo}
 use Rattle.finish.specs.declared.Placement.{Placement}
-use Rattle.finish.specs.Flows.{servedAt, PlacedUpTo}
+use Rattle.finish.specs.Flows.{PlacedUpTo}
 use Rattle.finish.specs.Call.{finishIn, Leaves}
 
 -- ---- what is left of a book and a calendar that pass: the area was cleared before placing, and then held the maintenance until the flows were placed
@@ -44,12 +44,8 @@ module _ (b : Book) (f k : ℕ) (area area₁ area₂ area₃ : List ℕ) (p : P
           let all : p .position ≡ upToNamed b f = a .all ∙ count in
           let so-far = a .so-far in
           let last : p .finish ≡ finishOf (so-far .rows) f = so-far .finish (position b f) all ∙ ap (finishOf (so-far .rows)) (served-position b f named) in
-          rw (← all, so-far .placed) (record {
-            answers = ap finishAccepted last;
-            area-left =
-                opened-area b range (so-far .rows) area₁ area₂ area₃ (so-far .within) (so-far .area-used) set
-                ∙ ap (workUsed slots (so-far .rows)) held ∙ used-again slots (so-far .rows) (shutRows b) area;
-          })
+          rw (← all, so-far .stands .placed)
+          (record { answers = ap finishAccepted last; area-left = flows-left b area area₁ area₂ area₃ range held set (so-far .stands) })
 
   pub leaves-infeasible : p .position < k → (answer : FinishAnswer) (g : ℕ) (area₄ : List ℕ) → answer ≡ finishRefused 12 g none → g ≡ servedAt b (p .position) →
       area₄ ≡ workZero slots area₃ → Leaves (finishIn b f area) answer area₄
@@ -64,9 +60,7 @@ module _ (b : Book) (f k : ℕ) (area area₁ area₂ area₃ : List ℕ) (p : P
           let all : placeFirst b (upToNamed b f) ≡ infeasible (servedAt b (p .position)) = rw rest at stays in
           rw all (record {
             answers = said ∙ ap (λ (h : ℕ). finishRefused 12 h none) e;
-            area-left =
-                zeros ∙ opened-cleared b range (s .stopped .others) area₁ area₂ area₃ (s .stopped .area-used) set
-                ∙ ap (workZero slots) held ∙ used-cleared slots (shutRows b) area;
+            area-left = zeros ∙ nothing-left b area area₁ area₂ area₃ range held set (s .stopped .others) (s .stopped .area-used);
           })
 
 -- ---- the outcome of a call

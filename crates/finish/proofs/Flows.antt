@@ -6,39 +6,30 @@ use Prim.Native.Nat.{ℕ, _+_, _*_, _≤_, _<_}
 use native.Mathlib.Numerals.{add-one}
 use native.Mathlib.Omega.{arith}
 use mathlib.Core.Bool.{false}
-use mathlib.Core.List.{List, [], _++_, append-nil}
+use mathlib.Core.List.{List, [], _++_}
 use lib.ListN.{length, getD}
 use Rattle.rules.specs.Limits.{slots}
 use Rattle.rules.specs.Calendar.{Calendar, openBefore, slotAfter, CalendarInRange}
-use Rattle.rules.specs.Book.{Book, withCalendar, flowCount, flowOf}
+use Rattle.rules.specs.Book.{Book, withCalendar}
 use Rattle.rules.specs.Reading.{bookOf}
+use Rattle.rules.specs.Service.{servedAt}
 use Rattle.rules.specs.Rows.{Row, usedIn, finishOf, workUsed}
-use Rattle.rules.specs.Placing.{placeFirst, freeProcessors, slotsFor}
+use Rattle.rules.specs.Placing.{infeasible}
 use Rattle.rules.proofs.Passing.{calendar-of-book, pass-in-range}
-use Rattle.rules.proofs.ServiceOrder.{service-once}
 use Rattle.book.specs.declared.Index.{Index}
 use Rattle.place.specs.declared.Placed.{Placed}
 use Rattle.place.specs.declared.Placed.the-variants.{To, Infeasible}
 use Rattle.place.specs.Flows.{FlowInfeasible, FlowPlaced}
-use Rattle.place.specs.Whole.{shutRows, Asked}
-use Rattle.place.proofs.Finishes.{finish-stays, finish-own}
-use Rattle.place.proofs.FirstFlows.{NextFlow, in-array, next-flow}
-use Rattle.place.proofs.Maintenance.{shut-within, addedRows, FlowAdded, limit-is, flow-added, flow-refused}
+use Rattle.place.specs.Order.{shutRows, Asked}
+use Rattle.place.proofs.FlowByFlow.{NextFlow, in-array, next-flow, stands-none, stands-next, own-finish, infeasible-next}
+use Rattle.place.proofs.Maintenance.{addedRows, FlowAdded, limit-is, flow-added, flow-refused}
 use Rattle.finish.specs.declared.Placement.{Placement}
-use Rattle.finish.specs.Flows.{servedAt, PlacedTo, StopsAt, NextAsked, Moved, Stayed, LimitOf, NextPlaced}
+use Rattle.finish.specs.Flows.{PlacedTo, StopsAt, NextAsked, Moved, Stayed, LimitOf, NextPlaced}
 
 -- no flow is placed, and the area holds the maintenance
 pub placed-none : (b : Book) (area : List ℕ) → CalendarInRange (b .calendar) → area ≡ workUsed slots (shutRows b) area →
     PlacedTo b area area (record { position = 0; finish = 0 })
-unfolding placeFirst finishOf
-placed-none b area range holds = record {
-  rows = [];
-  placed = refl;
-  area-used = holds ∙ ap (λ (all : List Row). workUsed slots all area) (sym (append-nil (shutRows b)));
-  within = λ t. rw (append-nil (shutRows b)) (shut-within b range t);
-  finish = λ k e. absurd (omega arith);
-  behind = λ j l h. refl;
-}
+placed-none b area range holds = record { rows = []; stands = stands-none b area range holds; finish = λ k e. absurd (omega arith) }
 
 -- ---- one flow more: the one at the state's position
 module _ {s area : List ℕ} {p : Placement} {records f processors limit : ℕ} (a : NextAsked s area p records f processors limit) where
@@ -61,52 +52,38 @@ module _ {s area : List ℕ} {p : Placement} {records f processors limit : ℕ} 
     served : f ≡ servedAt b (p .position)
     served = a .served c
 
-    -- it stands once in the order
-    no-other : (j : ℕ) → p .position < j → j < flowCount b → servedAt b j ≡ f → ⊥
-    no-other j m h e = let same : j ≡ p .position = service-once b j (p .position) h (a .below) (e ∙ served) in omega arith
-
     -- what its placing beside them asks
     pub within : (t : ℕ) → usedIn (shutRows b ++ rows) t ≤ processors
-    within t = omega (arith, so-far .within t, a .processors-of)
+    within t = omega (arith, so-far .stands .within t, a .processors-of)
 
     module _ (out out′ area′ : List ℕ) (at : ℕ) (q : Placed) (answer : FlowPlaced false (bookOf s) f limit (shutRows b ++ rows) bytes out at out′ area′ q) where
       went : {r : Placed} → q ≡ r → FlowPlaced false (bookOf s) f limit (shutRows b ++ rows) bytes out at out′ area′ r
       went e = subst (FlowPlaced false (bookOf s) f limit (shutRows b ++ rows) bytes out at out′ area′) e answer
 
       pub moves-on : {finish next : ℕ} → q ≡ To finish next → Moved b bytes area′ p (record { position = p .position + 1; finish = finish })
-      unfolding placeFirst
       moves-on {finish} e = record {
         moves = add-one (p .position);
         so-far = record {
           rows = rows ++ addedRows b f rows;
-          placed = ap (placeFirst b) (add-one (p .position)) ∙ rw (so-far .placed, ← served) (added .placed);
-          area-used = added .area-used;
-          within = added .within;
+          stands = stands-next (so-far .stands) (a .below) served added;
           finish = λ k l.
               let here : k ≡ p .position = omega arith in
-              added .ends ∙ sym own ∙ ap (finishOf (rows ++ addedRows b f rows)) (served ∙ ap (servedAt b) (sym here));
-          behind = λ j m h.
-              finish-stays rows (flowOf b f) f (freeProcessors b f rows) (slotsFor b (flowOf b f)) (servedAt b j) (no-other j (omega arith) h)
-              ∙ so-far .behind j (omega arith) h;
+              own-finish (so-far .stands) (a .below) served added ∙ ap (finishOf (rows ++ addedRows b f rows)) (served ∙ ap (servedAt b) (sym here));
         };
       }
         where
           added : FlowAdded b f rows bytes out at out′ area′ finish (went e .0)
           added = flow-added c (bookOf s) range (calendar-of-book s) f rows limit rule-6 (went e .2)
 
-          own : finishOf (rows ++ addedRows b f rows) f ≡ finishOf (addedRows b f rows) f
-          own =
-              finish-own rows (flowOf b f) f (freeProcessors b f rows) (slotsFor b (flowOf b f))
-              (ap (finishOf rows) served ∙ so-far .behind (p .position) (omega arith) (a .below))
-
       pub stays-put : q ≡ Infeasible → Stayed b bytes area′ p p
-      unfolding placeFirst
       stays-put e =
           let d : FlowInfeasible (bookOf s) f limit (shutRows b ++ rows) bytes out out′ area′ = went e in
           record {
             stays = refl;
             stopped = record {
-              refused = rw (so-far .placed, ← served) (flow-refused c (bookOf s) range (calendar-of-book s) f rows limit rule-6 d);
+              refused =
+                  infeasible-next (so-far .stands) (a .below) served (flow-refused c (bookOf s) range (calendar-of-book s) f rows limit rule-6 d)
+                  ∙ ap infeasible served;
               others = d .others;
               area-used = d .area-used;
             };
@@ -139,8 +116,8 @@ module _ {s order work₀ : List ℕ} {c : Calendar} {x : Index} {count f : ℕ}
     served = λ d. q ∙ in-array s order (a .in-order) d (p .position) (found .below);
     bytes = work₀;
     held = shutRows (withCalendar c (bookOf s)) ++ so-far .rows;
-    area-used = so-far .area-used;
-    within = λ t. omega (arith, so-far .within t, a .indexed .processors);
+    area-used = so-far .stands .area-used;
+    within = λ t. omega (arith, so-far .stands .within t, a .indexed .processors);
   }
 
 -- the position tells which way it went

@@ -2,33 +2,24 @@
 use mathlib.Core.Path.{_≡_}
 use mathlib.Core.Logic.{_⊎_}
 use Prim.Native.Nat.{ℕ, suc, _<_, _≤_}
-use mathlib.Core.List.{List, _++_}
-use lib.ListN.{length, getD}
+use mathlib.Core.List.{List}
+use lib.ListN.{length}
 use Rattle.rules.specs.Limits.{slots, workBytes}
 use Rattle.rules.specs.Calendar.{Calendar, CalendarInRange}
 use Rattle.rules.specs.Book.{Book, withCalendar, flowCount, flowOf}
 use Rattle.rules.specs.Reading.{bookOf}
-use Rattle.rules.specs.Service.{serviceOrder}
+use Rattle.rules.specs.Service.{servedAt}
 use Rattle.rules.specs.Rows.{Row, usedIn, finishOf, workUsed}
-use Rattle.rules.specs.Placing.{slotsFor, planned, infeasible, placeFirst}
+use Rattle.rules.specs.Placing.{slotsFor, infeasible, placeFirst}
 use Rattle.book.specs.Promise.{FlowStands}
-use Rattle.place.specs.Whole.{shutRows}
+use Rattle.place.specs.Order.{Stands}
 use Rattle.finish.specs.declared.Placement.{Placement}
 
--- the flow at position k of the service order
-abbrev pub servedAt : Book → ℕ → ℕ
-servedAt b k = getD (serviceOrder b) k 0
-
--- the flows before the state's position are placed: the area, past the slots that of `bytes`, holds their use beside the maintenance, and the state has
--- the finish of the last
+-- the flows before the state's position are placed, and the state has the finish of the last
 pub record PlacedTo (b : Book) (bytes area : List ℕ) (p : Placement) : Type 0 where
   pub rows : List Row
-  pub placed : placeFirst b (p .position) ≡ planned rows
-  pub area-used : area ≡ workUsed slots (shutRows b ++ rows) bytes
-  pub within : (t : ℕ) → usedIn (shutRows b ++ rows) t ≤ b .processors
+  pub stands : Stands b (p .position) rows bytes area
   pub finish : (k : ℕ) → p .position ≡ suc k → p .finish ≡ finishOf rows (servedAt b k)
-  -- the flows behind have no finish yet
-  pub behind : (j : ℕ) → p .position ≤ j → j < flowCount b → finishOf rows (servedAt b j) ≡ 0
 
 -- the flow at the state's position is infeasible beside those before it
 pub record StopsAt (b : Book) (bytes area : List ℕ) (p : Placement) : Type 0 where

@@ -10,7 +10,7 @@ ghost use Rattle.rules.specs.Book.{withCalendar, flowCount};
 ghost use Rattle.rules.specs.Reading.{bookOf, bookFault};
 ghost use Rattle.rules.specs.Finish.{finishCall};
 ghost use Rattle.calendar.specs.Held.{heldWindows};
-ghost use Rattle.place.specs.Whole.{shutRows, Asked};
+ghost use Rattle.place.specs.Order.{shutRows, Asked};
 ghost use Rattle.finish.specs.Flows.{NextAsked, NextPlaced, PlacedUpTo};
 ghost use Rattle.finish.specs.Call.{finishIn, Leaves};
 use book::Index;

@@ -36,7 +36,7 @@ pub extern "C" fn flowplan_plan(
     ensures output { λ r. ⌜ now (output .exit) ≡ planCall (now (book .entry)) (now (calendar .entry)) (now (output .entry)) (now (work .entry)) .output ⌝ }
     ensures area { λ r. ⌜ now (work .exit) ≡ planCall (now (book .entry)) (now (calendar .entry)) (now (output .entry)) (now (work .entry)) .area ⌝ }
 {
-    place::planner::plan_book(book, calendar, output, work)
+    planner::plan_book(book, calendar, output, work)
 }
 
 // The dispatch list of a table that the check accepts.

@@ -10,10 +10,7 @@ pub mod Serving
 pub mod SlotRows
 pub mod Steps
 pub mod Underway
--- the table, put together
-pub mod Assembly
 pub mod Finishes
--- the flows in service order beside the cluster's maintenance, and the planner's outcome
+-- the flows in service order beside the cluster's maintenance, for the crates above
 pub mod Maintenance
-pub mod FirstFlows
-pub mod Outcome
+pub mod FlowByFlow

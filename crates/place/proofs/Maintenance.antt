@@ -28,7 +28,7 @@ use Rattle.calendar.specs.Area.{workOf}
 use Rattle.calendar.proofs.Area.{used-work, work-ext}
 use Rattle.place.specs.Output.{Put}
 use Rattle.place.specs.Flows.{standsAt, newRows, FlowDone, FlowInfeasible}
-use Rattle.place.specs.Whole.{shutRows}
+use Rattle.place.specs.Order.{shutRows}
 
 -- ---- the use of a slot
 -- one row a slot, with g u processors in slot u

@@ -1,9 +1,5 @@
--- The definitions that the contracts of `place` cite.
-pub mod Flows
+-- The definitions that the contracts of `place`, and of the crates that place flow after flow by it, cite.
 pub mod Output
 pub mod Service
--- a table's head, finishes and late flows
-pub mod Head
--- the first flows in service order, and a call
-pub mod Whole
-pub mod Call
+pub mod Flows
+pub mod Order

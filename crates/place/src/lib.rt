@@ -1,4 +1,4 @@
-// Placing of flows in service order, and the planner's core.
+// The placing of one flow beside those before it: its pseudo-jobs slot by slot, with rows or without.
 ghost use mathlib.Core.Path.{_≡_};
 ghost use Prim.Native.Nat.{ℕ, _+_, _*_, _-_, _<_, _≤_, min, max};
 ghost use lib.ListN.{length, getD};
@@ -13,9 +13,6 @@ ghost use Rattle.place.specs.Flows.{SlotServed, RunAnswer, SlotUsed, Run
 ghost use Rattle.place.specs.Output.{Put};
 ghost use Rattle.place.specs.Service.{InService, PartsHeld, Serving, currentFlow, pseudoJob, Packs, packedRow, packedRows, jobRows, overlaps};
 use book::bytes;
-
-pub mod planner;
-pub mod table;
 
 // The pseudo-job in service: its flow, and what a slot needs of it.
 pub struct Current {

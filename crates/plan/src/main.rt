@@ -24,7 +24,7 @@ fn plan_input(input: &[u8], output: &mut [u8], work: &mut [u8]) -> PlanAnswer
         };
     }
     let calendar = [0u8, 0, 0, 6, 1, 0];
-    place::planner::plan_book(input, &calendar, output, work)
+    planner::plan_book(input, &calendar, output, work)
 }
 
 // The text for an input.

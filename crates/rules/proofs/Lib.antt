@@ -1,5 +1,4 @@
 -- What follows from the rules.
-pub mod MarkedPlans
 pub mod Demands
 pub mod Demand3Values
 pub mod Demand3

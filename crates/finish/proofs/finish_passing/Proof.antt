@@ -9,9 +9,8 @@ use borrow.Author.Needs.{needs}
 use Rattle.rules.proofs.Passing.{pass-in-range}
 use Rattle.rules.proofs.SameUse.{with-same, position-same}
 use Rattle.calendar.specs.Held.{heldWindows}
-use Rattle.place.specs.Whole.{shutRows, Asked}
-use Rattle.place.proofs.FirstFlows.{in-array, maintenance-held, asked-beside}
-use Rattle.place.proofs.Outcome.{asked-up-to}
+use Rattle.place.specs.Order.{shutRows, Asked}
+use Rattle.place.proofs.FlowByFlow.{in-array, asked-up-to, maintenance-held, asked-beside}
 use Rattle.finish.proofs.Call.{maintenance-over, leaves-finish, leaves-infeasible}
 use Rattle.rules.specs.Limits.{slots}
 use Rattle.rules.specs.Book.{Book, withCalendar, flowCount}

@@ -34,7 +34,7 @@ unfolding NextPlaced
 returns c d range rule-6 bytes so-far =
     let p = c .before .before .before .before .before in
     let v = start p .pre in
-    inr (stays-put v range rule-6 so-far _ _ _ _ _ (p .place-flow .ensures _ bytes (so-far .area-used) (within v range rule-6 so-far)) (c .enum-told .given .1))
+    inr (stays-put v range rule-6 so-far _ _ _ _ _ (p .place-flow .ensures _ bytes (so-far .stands .area-used) (within v range rule-6 so-far)) (c .enum-told .given .1))
 
 add-t16 : tie.Need-add-t16
 add-t16 c = omega (arith, position-fits (start (c .before .before .before .before .before .before .before) .pre))
@@ -53,7 +53,7 @@ unfolding NextPlaced
 returns-2 c d range rule-6 bytes so-far =
     let p = c .before .before .before .before .before .before .before in
     let v = start p .pre in
-    inl (moves-on v range rule-6 so-far _ _ _ _ _ (p .place-flow .ensures _ bytes (so-far .area-used) (within v range rule-6 so-far))
+    inl (moves-on v range rule-6 so-far _ _ _ _ _ (p .place-flow .ensures _ bytes (so-far .stands .area-used) (within v range rule-6 so-far))
     (c .before .before .end .given .1))
 
 pub place-next-spec : {M : Type 1} → statement M

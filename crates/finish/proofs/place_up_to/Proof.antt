@@ -10,7 +10,7 @@ use Rattle.rules.specs.Book.{Book, withCalendar}
 use Rattle.rules.specs.Reading.{bookOf}
 use Rattle.calendar.specs.declared.Calendar.{Calendar}
 use Rattle.calendar.specs.Held.{heldWindows}
-use Rattle.place.proofs.FirstFlows.{few-flows}
+use Rattle.place.proofs.FlowByFlow.{few-flows}
 use Rattle.finish.specs.Flows.{PlacedTo, LimitOf}
 use Rattle.finish.proofs.Flows.{placed-none, flow-fits, deadline-fits, limit-found, next-asked, moved, stopped}
 use Rattle.finish.proofs.place_up_to.Statement.{statement}

@@ -1,0 +1,2 @@
+-- The joint theorem of the marked plans.
+pub mod MarkedPlans

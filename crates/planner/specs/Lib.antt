@@ -1,0 +1,4 @@
+-- The definitions that the contracts of `planner` cite.
+pub mod Head
+pub mod Whole
+pub mod Call
