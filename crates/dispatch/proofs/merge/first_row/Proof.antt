@@ -1,10 +1,11 @@
 -- The first row looked for stands from `low` to `high`, which come nearer by half. Assumes nothing.
 use mathlib.Core.Path.{_≡_, refl, sym, ap, subst, _∙_}
-use Prim.Native.Nat.{ℕ, _+_, _*_, _-_, _/_, _<_}
-use lib.ListN.{getD}
+use Prim.Native.Nat.{ℕ, _+_, _*_, _-_, _/_, _≤_, _<_}
+use mathlib.Core.List.{List}
+use lib.ListN.{length, getD}
 use Rattle.rules.specs.Fields.{byte}
 use Rattle.rules.specs.Reading.{bookOf}
-use Rattle.rules.specs.Table.{tableHead, rowLength}
+use Rattle.rules.specs.Rows.{Row}
 use Rattle.rules.specs.Service.{servedBefore}
 use Rattle.rules.specs.Check.{noRow}
 use Rattle.dispatch.specs.declared.merge.Span.{Span}
@@ -22,106 +23,80 @@ Inv-loop book table deadlines head rows f low₀ high₀ low high = Between (boo
 abbrev μ-loop : tie.MeasureT-loop
 μ-loop book table deadlines head rows f low₀ high₀ low high = high - low
 
+-- where the function begins, and in a turn: the rows below `high` stand in the table
+abbrev start : tie.At-loop Inv-loop μ-loop → tie.Start Inv-loop μ-loop
+start c = c .before .before .before .before
+
+inside : (c : tie.In-loop Inv-loop μ-loop) → start (c .before) .args .head + 6 * c .before .loop .high ≤ length (start (c .before) .args .table .now)
+inside c =
+    let s = start (c .before) in
+    omega (arith, rows-fill (s .args .book .now) (s .args .table .now) (s .pre .0), s .pre .2, c .before .loop .inv .within)
+
+-- the row in the middle, which is one of them, and its flow, which was read
+abbrev middle : tie.At-loop Inv-loop μ-loop → ℕ
+middle c = (c .loop .low + c .loop .high) / 2
+
+abbrev turn : tie.After-wide Inv-loop μ-loop → tie.At-loop Inv-loop μ-loop
+turn c = c .before .before .before
+
+abbrev rows : tie.At-loop Inv-loop μ-loop → List Row
+rows c = rowsOf (start c .args .book .now) (start c .args .table .now)
+
+among : (c : tie.After-wide Inv-loop μ-loop) → middle (turn c) < length (rows (turn c))
+among c = omega (arith, turn c .loop .inv .within)
+
+flow-read : (c : tie.After-wide Inv-loop μ-loop) → c .wide .result ≡ getD (rows (turn c)) (middle (turn c)) noRow .flow
+flow-read c =
+    let s = start (turn c) in
+    c .wide .ensures .0
+    ∙ ap (λ (h : ℕ). byte (s .args .table .now) (h + 6 * middle (turn c) + 2)) (s .pre .2)
+    ∙ row-flow _ _ (s .pre .0) _ (among c)
+
 loop-holds : tie.Need-loop-holds Inv-loop μ-loop
-loop-holds c =
-    let s = c .before .before .before in
-    rw (s .pre .3) (between-all (bookOf (s .args .book .now)) (rowsOf (s .args .book .now) (s .args .table .now)) (s .args .f))
+loop-holds c = rw (c .before .before .before .pre .3) (between-all _ _ _)
 
 add-middle : tie.Need-add-middle Inv-loop μ-loop
-add-middle c =
-    let s = c .before .before .before .before .before in
-    let a = s .args in
-    let l = c .before .loop in
-    let fill = rows-fill (a .book .now) (a .table .now) (s .pre .0) in
-    omega (arith, fill, s .pre .2, l .inv .span, l .inv .within)
+add-middle c = omega (arith, inside c)
 
 mul-wide : tie.Need-mul-wide Inv-loop μ-loop
-mul-wide c =
-    let s = c .before .before .before .before .before in
-    let a = s .args in
-    let l = c .before .loop in
-    let fill = rows-fill (a .book .now) (a .table .now) (s .pre .0) in
-    omega (arith, fill, s .pre .2, l .inv .span, l .inv .within)
+mul-wide c = omega (arith, inside c)
 
 add-wide : tie.Need-add-wide Inv-loop μ-loop
-add-wide c =
-    let s = c .before .before .before .before .before in
-    let a = s .args in
-    let l = c .before .loop in
-    let fill = rows-fill (a .book .now) (a .table .now) (s .pre .0) in
-    omega (arith, fill, s .pre .2, l .inv .span, l .inv .within)
+add-wide c = omega (arith, inside c)
 
 add-wide-2 : tie.Need-add-wide-2 Inv-loop μ-loop
-add-wide-2 c =
-    let s = c .before .before .before .before .before in
-    let a = s .args in
-    let l = c .before .loop in
-    let fill = rows-fill (a .book .now) (a .table .now) (s .pre .0) in
-    omega (arith, fill, s .pre .2, l .inv .span, l .inv .within)
+add-wide-2 c = omega (arith, inside c)
 
 shared-slice-read-wide : tie.Need-shared-slice-read-wide Inv-loop μ-loop
-shared-slice-read-wide c =
-    let s = c .before .before .before .before .before .before in
-    let a = s .args in
-    let l = c .before .before .loop in
-    let fill = rows-fill (a .book .now) (a .table .now) (s .pre .0) in
-    omega (arith, fill, s .pre .2, l .inv .span, l .inv .within)
+shared-slice-read-wide c = omega (arith, inside (c .before))
 
 wide-requires : tie.Need-wide-requires Inv-loop μ-loop
 wide-requires c κs = search needs
 
 served-before-requires : tie.Need-served-before-requires Inv-loop μ-loop
 served-before-requires c κs =
-    let s = c .before .before .before .before .before .before .before in
-    let a = s .args in
-    let l = c .before .before .before .loop in
-    let fill = rows-fill (a .book .now) (a .table .now) (s .pre .0) in
-    let middle = (l .low + l .high) / 2 in
-    let row-of = row-flow (a .book .now) (a .table .now) (s .pre .0) middle (omega (arith, l .inv .within)) in
-    let place : a .head + 6 * middle + 2 ≡ tableHead (bookOf (a .book .now)) + rowLength * middle + 2 = ap (λ (h : ℕ). h + 6 * middle + 2) (s .pre .2) in (
-      s .pre .1,
-      omega (arith, row-passes (a .book .now) (a .table .now) (s .pre .0) middle (omega (arith, l .inv .within)) .flow-in, row-of, c .wide .ensures .0, ap (byte (a .table .now)) place),
-      s .pre .4,
-    )
+    let p = start (turn c) .pre in
+    (p .1, omega (arith, row-passes _ _ (p .0) _ (among c) .flow-in, flow-read c), p .4)
 
 halve-requires : tie.Need-halve-requires Inv-loop μ-loop
-halve-requires c κs =
-    let s = c .before .before .before .before .before .before .before .before in
-    let a = s .args in
-    let l = c .before .before .before .before .loop in
-    let fill = rows-fill (a .book .now) (a .table .now) (s .pre .0) in
-    omega (arith, l .inv .span)
+halve-requires c κs = omega (arith, turn (c .before) .loop .inv .span)
 
 loop-less : tie.Need-loop-less Inv-loop μ-loop
 loop-less c =
-    let s = c .before .before .before .before .before .before .before .before .before in
-    let a = s .args in
-    let l = c .before .before .before .before .before .loop in
-    let fill = rows-fill (a .book .now) (a .table .now) (s .pre .0) in
-    let middle = (l .low + l .high) / 2 in
-    subst (λ (x : Span). x .high - x .low < l .high - l .low) (sym (c .halve .ensures))
-    (halved-less (bookOf (a .book .now)) (rowsOf (a .book .now) (a .table .now)) (a .f) (l .low) (l .high) middle (c .before .before .before .before .loop-test .taken) refl (c .before .served-before .result))
+    let u = turn (c .before .before) in
+    subst (λ (x : Span). x .high - x .low < u .loop .high - u .loop .low) (sym (c .halve .ensures))
+    (halved-less (bookOf (start u .args .book .now)) (rows u) (start u .args .f) _ _ (middle u) (c .before .before .before .before .loop-test .taken) refl (c .before .served-before .result))
 
 loop-again : tie.Need-loop-again Inv-loop μ-loop
 loop-again c =
-    let s = c .before .before .before .before .before .before .before .before .before in
-    let a = s .args in
-    let l = c .before .before .before .before .before .loop in
-    let fill = rows-fill (a .book .now) (a .table .now) (s .pre .0) in
-    let middle = (l .low + l .high) / 2 in
-    let row-of = row-flow (a .book .now) (a .table .now) (s .pre .0) middle (omega (arith, l .inv .within)) in
-    let place : a .head + 6 * middle + 2 ≡ tableHead (bookOf (a .book .now)) + rowLength * middle + 2 = ap (λ (h : ℕ). h + 6 * middle + 2) (s .pre .2) in
-    let rows = rowsOf (a .book .now) (a .table .now) in
-    let flow : c .before .before .wide .result ≡ getD rows middle noRow .flow = c .before .before .wide .ensures .0 ∙ ap (byte (a .table .now)) place ∙ row-of in
-    let served = sym (ap (λ (g : ℕ). servedBefore (bookOf (a .book .now)) g (a .f)) flow) ∙ sym (c .before .served-before .ensures) in
-    subst (λ (x : Span). Between (bookOf (a .book .now)) rows (a .f) (x .low) (x .high)) (sym (c .halve .ensures))
-    (between-half (bookOf (a .book .now)) rows (a .f) (l .low) (l .high) middle (c .before .before .before .before .loop-test .taken) refl
-    (rows-rising (a .book .now) (a .table .now) (s .pre .0)) (l .inv) (c .before .served-before .result) served)
+    let u = turn (c .before .before) in
+    let a = start u .args in
+    let served = sym (ap (λ (g : ℕ). servedBefore (bookOf (a .book .now)) g (a .f)) (flow-read (c .before .before))) ∙ sym (c .before .served-before .ensures) in
+    subst (λ (x : Span). Between (bookOf (a .book .now)) (rows u) (a .f) (x .low) (x .high)) (sym (c .halve .ensures))
+    (between-half _ _ _ _ _ (middle u) (c .before .before .before .before .loop-test .taken) refl (rows-rising _ _ (start u .pre .0)) (u .loop .inv) _ served)
 
 returns : tie.Need-returns Inv-loop μ-loop
-returns c =
-    let a = c .before .before .before .before .before .args in
-    between-one (bookOf (a .book .now)) (rowsOf (a .book .now) (a .table .now)) (a .f) (c .before .loop .low) (c .before .loop .high) (omega arith) (c .before .loop .inv)
+returns c = between-one _ _ _ _ _ (omega arith) (c .before .loop .inv)
 
 pub first-row-spec : {M : Type 1} → statement M
 first-row-spec =

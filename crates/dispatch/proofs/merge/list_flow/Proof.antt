@@ -1,12 +1,13 @@
 -- Where the cursor stands at another slot nothing is listed and it stays; otherwise the run that is copied is the flow's rows in the slot, and the
 -- cursor goes behind it. Assumes nothing.
 use mathlib.Core.Path.{_≡_, _∙_}
-use Prim.Native.Nat.{suc, _<_}
-use lib.ListN.{getD}
+use Prim.Native.Nat.{ℕ, suc, _≤_, _<_}
+use lib.ListN.{length, getD}
 use Rattle.rules.specs.Fields.{AllBytes}
+use Rattle.rules.specs.Book.{flowCount}
 use Rattle.rules.specs.Reading.{bookOf}
 use Rattle.dispatch.specs.Runs.{dueAt}
-use Rattle.dispatch.specs.Merge.{placeAfter}
+use Rattle.dispatch.specs.Merge.{placeAfter, CursorAt}
 use Rattle.dispatch.proofs.Tables.{in-range, size-of-table, cursor-whole, cursor-inside, run-gapless, run-room, run-size, after-run}
 use Rattle.dispatch.proofs.Steps.{cursors-moved, cursors-kept, run-listed, kept-cursor, kept-listed}
 use borrow.Author.Needs.{needs}
@@ -14,180 +15,95 @@ use native.Mathlib.Omega.{arith}
 use Rattle.dispatch.proofs.merge.list_flow.Statement.{statement}
 use Rattle.dispatch.proofs.merge.list_flow.Tie as tie
 
+-- where the function begins: there is room for flow f in each list
+few : (s : tie.Start) → flowCount (bookOf (s .args .book .now)) ≤ 64
+few s = in-range _ _ (s .pre .0 .accepted) .flows-most
+
+room : (s : tie.Start) → (s .args .f < 64) × (length (s .args .jobs .now) ≡ 64) × (length (s .args .ats .now) ≡ 64) × (length (s .args .dues .now) ≡ 64)
+room s = let cursors = s .pre .0 .cursors in omega (arith, few s, s .pre .1, s .pre .2, cursors .ats-long, cursors .dues-long)
+
+-- its cursor, before a slot that a row can have
+cursor : (s : tie.Start) → CursorAt (bookOf (s .args .book .now)) (s .args .table .now) (s .args .f) (s .args .slot) (getD (s .args .ats .now) (s .args .f) 0)
+cursor s = s .pre .0 .cursors .ahead (s .args .f) (omega arith) (s .pre .2)
+
+a-slot : (s : tie.Start) → s .args .slot < 65535
+a-slot s = omega (arith, s .pre .0 .a-slot)
+
+-- and behind the run that is copied
+abbrev start : tie.After-copy-run → tie.Start
+start c = c .before .before .before .before .before .before .before .before .before .before .before .before
+
+behind : (c : tie.After-copy-run) → CursorAt (bookOf (start c .args .book .now)) (start c .args .table .now) (start c .args .f) (suc (start c .args .slot)) (c .copy-run .result)
+behind c = after-run _ _ (start c .pre .0 .accepted) _ _ _ (cursor (start c)) (a-slot (start c)) _ (c .copy-run .ensures .run)
+
 mul-if1 : tie.Need-mul-if1
-mul-if1 c =
-    let s = c .before .before .before .before .before .before in
-    let a = s .args in
-    let accepted = s .pre .0 .accepted in
-    let few = in-range (a .book .now) (a .table .now) accepted .flows-most in
-    let cursors = s .pre .0 .cursors in
-    omega (arith, few, s .pre .1, s .pre .2, cursors .ats-long, cursors .dues-long)
+mul-if1 c = omega (arith, room (c .before .before .before .before .before .before))
 
 slice-read-if1 : tie.Need-slice-read-if1
-slice-read-if1 c =
-    let s = c .before .before .before .before .before .before .before in
-    let a = s .args in
-    let accepted = s .pre .0 .accepted in
-    let few = in-range (a .book .now) (a .table .now) accepted .flows-most in
-    let cursors = s .pre .0 .cursors in
-    omega (arith, few, s .pre .1, s .pre .2, cursors .ats-long, cursors .dues-long)
+slice-read-if1 c = omega (arith, room (c .before .before .before .before .before .before .before))
 
 returns : tie.Need-returns
 returns c =
     let s = c .before .before .before .before .before .before .before .before in
-    let a = s .args in
-    let accepted = s .pre .0 .accepted in
-    let few = in-range (a .book .now) (a .table .now) accepted .flows-most in
-    let cursors = s .pre .0 .cursors in
-    let from = getD (a .ats .now) (a .f) 0 in
-    let cursor = cursors .ahead (a .f) (omega arith) (s .pre .2) in
-    let slot-few : a .slot < 65535 = omega (arith, s .pre .0 .a-slot) in
-    let not-due : dueAt (a .table .now) from (a .f) ≡ a .slot → ⊥ = λ e. c .if1 .taken (cursors .due (a .f) (s .pre .2) ∙ e) in
+    let p = s .pre .0 in
+    let not-due : dueAt (s .args .table .now) (getD (s .args .ats .now) (s .args .f) 0) (s .args .f) ≡ s .args .slot → ⊥ = λ e. c .if1 .taken (p .cursors .due _ (s .pre .2) ∙ e) in
     record {
-      cursors =
-          cursors-kept (bookOf (a .book .now)) (a .table .now) (a .slot) (a .f) (a .ats .now) (a .dues .now) (s .pre .2) few cursors
-          (kept-cursor (a .book .now) (a .table .now) accepted (a .f) (a .slot) from (s .pre .0 .a-slot) cursor not-due);
-      listed = kept-listed (a .book .now) (a .table .now) accepted (a .f) (a .slot) from (s .pre .0 .a-slot) cursor not-due (a .to) (a .out .now);
+      cursors = cursors-kept _ _ _ _ _ _ (s .pre .2) (few s) (p .cursors) (kept-cursor _ _ (p .accepted) _ _ _ (p .a-slot) (cursor s) not-due);
+      listed = kept-listed _ _ (p .accepted) _ _ _ (p .a-slot) (cursor s) not-due _ _;
     }
 
 mul-from : tie.Need-mul-from
-mul-from c =
-    let s = c .before .before .before .before .before .before .before .before in
-    let a = s .args in
-    let accepted = s .pre .0 .accepted in
-    let few = in-range (a .book .now) (a .table .now) accepted .flows-most in
-    let cursors = s .pre .0 .cursors in
-    omega (arith, few, s .pre .1, s .pre .2, cursors .ats-long, cursors .dues-long)
+mul-from c = omega (arith, room (c .before .before .before .before .before .before .before .before))
 
 slice-read-from : tie.Need-slice-read-from
-slice-read-from c =
-    let s = c .before .before .before .before .before .before .before .before .before in
-    let a = s .args in
-    let accepted = s .pre .0 .accepted in
-    let few = in-range (a .book .now) (a .table .now) accepted .flows-most in
-    let cursors = s .pre .0 .cursors in
-    omega (arith, few, s .pre .1, s .pre .2, cursors .ats-long, cursors .dues-long)
+slice-read-from c = omega (arith, room (c .before .before .before .before .before .before .before .before .before))
 
 cast-flow : tie.Need-cast-flow
-cast-flow c =
-    let s = c .before .before .before .before .before .before .before .before .before in
-    let a = s .args in
-    let accepted = s .pre .0 .accepted in
-    let few = in-range (a .book .now) (a .table .now) accepted .flows-most in
-    let cursors = s .pre .0 .cursors in
-    omega (arith, few, s .pre .1, s .pre .2, cursors .ats-long, cursors .dues-long)
+cast-flow c = omega (arith, room (c .before .before .before .before .before .before .before .before .before))
 
 shared-slice-read-copy-run : tie.Need-shared-slice-read-copy-run
-shared-slice-read-copy-run c =
-    let s = c .before .before .before .before .before .before .before .before .before .before .before in
-    let a = s .args in
-    let accepted = s .pre .0 .accepted in
-    let few = in-range (a .book .now) (a .table .now) accepted .flows-most in
-    let cursors = s .pre .0 .cursors in
-    omega (arith, few, s .pre .1, s .pre .2, cursors .ats-long, cursors .dues-long)
+shared-slice-read-copy-run c = omega (arith, room (c .before .before .before .before .before .before .before .before .before .before .before))
 
 copy-run-requires : tie.Need-copy-run-requires
 unfolding placeAfter AllBytes
 copy-run-requires c κs =
     let s = c .before .before .before .before .before .before .before .before .before .before .before in
-    let a = s .args in
     let accepted = s .pre .0 .accepted in
-    let few = in-range (a .book .now) (a .table .now) accepted .flows-most in
-    let cursors = s .pre .0 .cursors in
-    let from = getD (a .ats .now) (a .f) 0 in
-    let cursor = cursors .ahead (a .f) (omega arith) (s .pre .2) in
-    let slot-few : a .slot < 65535 = omega (arith, s .pre .0 .a-slot) in
     record {
-      rows = cursor-whole (a .book .now) (a .table .now) accepted (a .f) (a .slot) from cursor slot-few;
-      inside = cursor-inside (a .book .now) (a .table .now) accepted (a .f) (a .slot) from cursor slot-few;
-      short = size-of-table (a .book .now) (a .table .now) accepted (λ i. omega (arith, c .before .before .before .before .before .before .before .before .before .shared-slice-known2 .given i));
-      a-slot = slot-few;
-      gapless = run-gapless (a .book .now) (a .table .now) accepted (a .f) (a .slot) from cursor slot-few;
-      room = λ n each. omega (arith, run-room (a .book .now) (a .table .now) accepted (a .f) (a .slot) from cursor slot-few n each, s .pre .3);
+      rows = cursor-whole _ _ accepted _ _ _ (cursor s) (a-slot s);
+      inside = cursor-inside _ _ accepted _ _ _ (cursor s) (a-slot s);
+      short = size-of-table _ _ accepted (λ i. omega (arith, c .before .before .before .before .before .before .before .before .before .shared-slice-known2 .given i));
+      a-slot = a-slot s;
+      gapless = run-gapless _ _ accepted _ _ _ (cursor s) (a-slot s);
+      room = λ n each. omega (arith, run-room _ _ accepted _ _ _ (cursor s) (a-slot s) n each, s .pre .3);
     }
 
 mul-ats : tie.Need-mul-ats
-mul-ats c =
-    let s = c .before .before .before .before .before .before .before .before .before .before .before .before .before .before in
-    let a = s .args in
-    let accepted = s .pre .0 .accepted in
-    let few = in-range (a .book .now) (a .table .now) accepted .flows-most in
-    let cursors = s .pre .0 .cursors in
-    omega (arith, few, s .pre .1, s .pre .2, cursors .ats-long, cursors .dues-long)
+mul-ats c = omega (arith, room (start (c .before .before)))
 
 slice-write-ats : tie.Need-slice-write-ats
-slice-write-ats c =
-    let s = c .before .before .before .before .before .before .before .before .before .before .before .before .before .before in
-    let a = s .args in
-    let accepted = s .pre .0 .accepted in
-    let few = in-range (a .book .now) (a .table .now) accepted .flows-most in
-    let cursors = s .pre .0 .cursors in
-    omega (arith, few, s .pre .1, s .pre .2, cursors .ats-long, cursors .dues-long)
+slice-write-ats c = omega (arith, room (start (c .before .before)))
 
 due-at-requires : tie.Need-due-at-requires
 due-at-requires c κs =
-    let s = c .before .before .before .before .before .before .before .before .before .before .before .before .before .before in
-    let a = s .args in
-    let accepted = s .pre .0 .accepted in
-    let few = in-range (a .book .now) (a .table .now) accepted .flows-most in
-    let cursors = s .pre .0 .cursors in
-    let from = getD (a .ats .now) (a .f) 0 in
-    let cursor = cursors .ahead (a .f) (omega arith) (s .pre .2) in
-    let slot-few : a .slot < 65535 = omega (arith, s .pre .0 .a-slot) in
-    let r = c .before .before .copy-run .ensures in
-    let next = c .before .before .copy-run .result in
-    let size = run-size (a .book .now) (a .table .now) accepted (a .f) (a .slot) from cursor slot-few next (r .run) in
-    cursor-whole (a .book .now) (a .table .now) accepted (a .f) (suc (a .slot)) next
-    (after-run (a .book .now) (a .table .now) accepted (a .f) (a .slot) from cursor slot-few next (r .run)) (omega (arith, s .pre .0 .a-slot))
+    let r = c .before .before in
+    cursor-whole _ _ (start r .pre .0 .accepted) _ _ _ (behind r) (omega (arith, start r .pre .0 .a-slot))
 
 mul-dues : tie.Need-mul-dues
-mul-dues c =
-    let s = c .before .before .before .before .before .before .before .before .before .before .before .before .before .before .before in
-    let a = s .args in
-    let accepted = s .pre .0 .accepted in
-    let few = in-range (a .book .now) (a .table .now) accepted .flows-most in
-    let cursors = s .pre .0 .cursors in
-    omega (arith, few, s .pre .1, s .pre .2, cursors .ats-long, cursors .dues-long)
+mul-dues c = omega (arith, room (start (c .before .before .before)))
 
 slice-write-dues : tie.Need-slice-write-dues
-slice-write-dues c =
-    let s = c .before .before .before .before .before .before .before .before .before .before .before .before .before .before .before in
-    let a = s .args in
-    let accepted = s .pre .0 .accepted in
-    let few = in-range (a .book .now) (a .table .now) accepted .flows-most in
-    let cursors = s .pre .0 .cursors in
-    omega (arith, few, s .pre .1, s .pre .2, cursors .ats-long, cursors .dues-long)
+slice-write-dues c = omega (arith, room (start (c .before .before .before)))
 
 sub-result : tie.Need-sub-result
-sub-result c =
-    let s = c .before .before .before .before .before .before .before .before .before .before .before .before .before .before .before in
-    let a = s .args in
-    let accepted = s .pre .0 .accepted in
-    let few = in-range (a .book .now) (a .table .now) accepted .flows-most in
-    let cursors = s .pre .0 .cursors in
-    let from = getD (a .ats .now) (a .f) 0 in
-    let cursor = cursors .ahead (a .f) (omega arith) (s .pre .2) in
-    let slot-few : a .slot < 65535 = omega (arith, s .pre .0 .a-slot) in
-    let r = c .before .before .before .copy-run .ensures in
-    let next = c .before .before .before .copy-run .result in
-    let size = run-size (a .book .now) (a .table .now) accepted (a .f) (a .slot) from cursor slot-few next (r .run) in
-    omega (arith, r .run .reaches .at-is)
+sub-result c = omega (arith, c .before .before .before .copy-run .ensures .run .reaches .at-is)
 
 add-result : tie.Need-add-result
 unfolding placeAfter
 add-result c =
-    let s = c .before .before .before .before .before .before .before .before .before .before .before .before .before .before .before in
-    let a = s .args in
-    let accepted = s .pre .0 .accepted in
-    let few = in-range (a .book .now) (a .table .now) accepted .flows-most in
-    let cursors = s .pre .0 .cursors in
-    let from = getD (a .ats .now) (a .f) 0 in
-    let cursor = cursors .ahead (a .f) (omega arith) (s .pre .2) in
-    let slot-few : a .slot < 65535 = omega (arith, s .pre .0 .a-slot) in
-    let r = c .before .before .before .copy-run .ensures in
-    let next = c .before .before .before .copy-run .result in
-    let size = run-size (a .book .now) (a .table .now) accepted (a .f) (a .slot) from cursor slot-few next (r .run) in
-    omega (arith, size, s .pre .3)
+    let r = c .before .before .before in
+    let s = start r in
+    omega (arith, run-size _ _ (s .pre .0 .accepted) _ _ _ (cursor s) (a-slot s) _ (r .copy-run .ensures .run), s .pre .3)
 
 same-length : tie.Need-same-length
 same-length c = search needs
@@ -201,24 +117,14 @@ same-length-3 c = search needs
 returns-2 : tie.Need-returns-2
 unfolding AllBytes
 returns-2 c =
-    let s = c .before .before .before .before .before .before .before .before .before .before .before .before .before .before .before in
-    let a = s .args in
-    let accepted = s .pre .0 .accepted in
-    let few = in-range (a .book .now) (a .table .now) accepted .flows-most in
-    let cursors = s .pre .0 .cursors in
-    let from = getD (a .ats .now) (a .f) 0 in
-    let cursor = cursors .ahead (a .f) (omega arith) (s .pre .2) in
-    let slot-few : a .slot < 65535 = omega (arith, s .pre .0 .a-slot) in
-    let r = c .before .before .before .copy-run .ensures in
-    let next = c .before .before .before .copy-run .result in
-    let size = run-size (a .book .now) (a .table .now) accepted (a .f) (a .slot) from cursor slot-few next (r .run) in
+    let r = c .before .before .before in
+    let s = start r in
+    let p = s .pre .0 in
     record {
-      cursors =
-          cursors-moved (bookOf (a .book .now)) (a .table .now) (a .slot) (a .f) (a .ats .now) (a .dues .now) (s .pre .2) few cursors next (c .due-at .result)
-          (after-run (a .book .now) (a .table .now) accepted (a .f) (a .slot) from cursor slot-few next (r .run)) (c .due-at .ensures);
+      cursors = cursors-moved _ _ _ _ _ _ (s .pre .2) (few s) (p .cursors) _ _ (behind r) (c .due-at .ensures);
       listed =
-          run-listed (a .book .now) (a .table .now) accepted (a .f) (a .slot) from (s .pre .0 .a-slot) cursor (a .to) next (a .out .now) (c .before .before .before .copy-run .last .1 .0)
-          (λ i. omega (arith, c .before .before .before .before .before .before .before .before .before .before .before .before .before .shared-slice-known2 .given i)) r;
+          run-listed _ _ (p .accepted) _ _ _ (p .a-slot) (cursor s) _ _ _ _
+          (λ i. omega (arith, c .before .before .before .before .before .before .before .before .before .before .before .before .before .shared-slice-known2 .given i)) (r .copy-run .ensures);
     }
 
 pub list-flow-spec : {M : Type 1} → statement M

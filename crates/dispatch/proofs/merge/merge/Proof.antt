@@ -1,6 +1,6 @@
 -- The slots passed are listed. While the list is longer a slot is left; when it is not, what is listed is the list. Assumes nothing.
 use mathlib.Core.Path.{_≡_, refl, sym, ap, _∙_}
-use Prim.Native.Nat.{suc, _+_, _-_, _≤_}
+use Prim.Native.Nat.{suc, _+_, _-_, _≤_, _<_}
 use mathlib.Core.List.{List}
 use lib.ListN.{length}
 use lib.Seq.{sets}
@@ -25,6 +25,16 @@ Inv-loop book table jobs work out₀ ats₀ dues₀ flows size to₀ slot₀ out
 abbrev μ-loop : tie.MeasureT-loop
 μ-loop book table jobs work out₀ ats₀ dues₀ flows size to₀ slot₀ out ats dues to slot = slots - slot
 
+-- where the function begins, and in a turn: the list is longer, so that a slot is left
+abbrev start : tie.At-loop Inv-loop μ-loop → tie.Start Inv-loop μ-loop
+start c = c .before .before .before .before .before .before .before .before
+
+left : (c : tie.In-loop Inv-loop μ-loop) → c .before .loop .slot < slots
+unfolding placeAfter listLength
+left c =
+    let l = c .before .loop in
+    slot-left _ _ (start (c .before) .pre .0 .accepted) (l .slot) (l .inv .0) (omega (arith, l .inv .3 .next-is, start (c .before) .pre .4))
+
 loop-holds : tie.Need-loop-holds Inv-loop μ-loop
 unfolding rowsBelow joinFrom
 loop-holds c =
@@ -34,56 +44,32 @@ loop-holds c =
 list-used-requires : tie.Need-list-used-requires Inv-loop μ-loop
 unfolding placeAfter listLength
 list-used-requires c κs =
-    let s = c .before .before .before .before .before .before .before .before .before .before .before .before in
-    let a = s .args in
-    let accepted = s .pre .0 .accepted in
-    let rows = rowsOf (a .book .now) (a .table .now) in
     let l = c .before .before .before .before .loop in
-    let left = slot-left (a .book .now) (a .table .now) accepted (l .slot) (l .inv .0) (omega (arith, l .inv .3 .next-is, s .pre .4)) in (
-      record { accepted = accepted; a-slot = left; cursors = l .inv .2 },
-      s .pre .1,
-      s .pre .2,
-      s .pre .3,
-      rw (s .pre .3) (omega (arith, l .inv .1, l .inv .3 .next-is, slot-room (a .book .now) (a .table .now) accepted (l .slot) left, s .pre .4, s .pre .5)),
+    let p = start (c .before .before .before .before) .pre in
+    let a-slot = left (c .before .before .before) in (
+      record { accepted = p .0 .accepted; a-slot = a-slot; cursors = l .inv .2 },
+      p .1,
+      p .2,
+      p .3,
+      rw (p .3) (omega (arith, l .inv .1, l .inv .3 .next-is, slot-room _ _ (p .0 .accepted) (l .slot) a-slot, p .4, p .5)),
     )
 
 add-slot : tie.Need-add-slot Inv-loop μ-loop
-unfolding placeAfter listLength
-add-slot c =
-    let s = c .before .before .before .before .before .before .before .before .before .before .before .before .before .before .before .before .before .before .before in
-    let a = s .args in
-    let accepted = s .pre .0 .accepted in
-    let rows = rowsOf (a .book .now) (a .table .now) in
-    let l = c .before .before .before .before .before .before .before .before .before .before .before .loop in
-    let left = slot-left (a .book .now) (a .table .now) accepted (l .slot) (l .inv .0) (omega (arith, l .inv .3 .next-is, s .pre .4)) in
-    omega (arith, left)
+add-slot c = omega (arith, left (c .before .before .before .before .before .before .before .before .before .before))
 
 loop-less : tie.Need-loop-less Inv-loop μ-loop
-unfolding placeAfter listLength
-loop-less c =
-    let s = c .before .before .before .before .before .before .before .before .before .before .before .before .before .before .before .before .before .before .before in
-    let a = s .args in
-    let accepted = s .pre .0 .accepted in
-    let rows = rowsOf (a .book .now) (a .table .now) in
-    let l = c .before .before .before .before .before .before .before .before .before .before .before .loop in
-    let left = slot-left (a .book .now) (a .table .now) accepted (l .slot) (l .inv .0) (omega (arith, l .inv .3 .next-is, s .pre .4)) in
-    omega (arith, left)
+loop-less c = omega (arith, left (c .before .before .before .before .before .before .before .before .before .before))
 
 loop-again : tie.Need-loop-again Inv-loop μ-loop
-unfolding placeAfter listLength
 loop-again c =
-    let s = c .before .before .before .before .before .before .before .before .before .before .before .before .before .before .before .before .before .before .before in
-    let a = s .args in
-    let accepted = s .pre .0 .accepted in
-    let rows = rowsOf (a .book .now) (a .table .now) in
-    let l = c .before .before .before .before .before .before .before .before .before .before .before .loop in
-    let left = slot-left (a .book .now) (a .table .now) accepted (l .slot) (l .inv .0) (omega (arith, l .inv .3 .next-is, s .pre .4)) in
+    let t = c .before .before .before .before .before .before .before .before .before .before in
+    let l = t .before .loop in
     let r = c .before .before .before .before .before .before .list-used .ensures in
     let e : suc (l .slot) ≡ l .slot + 1 = omega arith in (
-      omega (arith, left),
+      omega (arith, left t),
       search needs,
       rw e at (r .cursors),
-      rw (sym e, below-next) (listed-append (l .inv .3) (r .listed)),
+      rw (sym e, below-next _ _ (start (t .before) .pre .0 .accepted)) (listed-append (l .inv .3) (r .listed)),
     )
 
 same-length : tie.Need-same-length Inv-loop μ-loop
@@ -98,14 +84,10 @@ same-length-3 c = search needs
 returns : tie.Need-returns Inv-loop μ-loop
 unfolding placeAfter listLength
 returns c =
-    let s = c .before .before .before .before .before .before .before .before .before in
-    let a = s .args in
-    let accepted = s .pre .0 .accepted in
-    let rows = rowsOf (a .book .now) (a .table .now) in
+    let s = start (c .before) in
     let l = c .before .loop in
     l .inv .3 .written
-    ∙ ap (λ (r : List Row). sets (a .out .now) 7 (rowsBytes r))
-    (whole-front (a .book .now) (a .table .now) accepted (l .slot) (l .inv .0) (omega (arith, l .inv .3 .next-is, s .pre .4)))
+    ∙ ap (λ (r : List Row). sets (s .args .out .now) 7 (rowsBytes r)) (whole-front _ _ (s .pre .0 .accepted) (l .slot) (l .inv .0) (omega (arith, l .inv .3 .next-is, s .pre .4)))
 
 pub merge-spec : {M : Type 1} → statement M
 merge-spec =

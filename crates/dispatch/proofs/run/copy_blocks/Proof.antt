@@ -1,8 +1,8 @@
 -- The rows passed are a run, sixteen more each time, and they are copied. Assumes nothing.
 use mathlib.Core.Path.{_≡_, sym, _∙_}
-use Prim.Native.Nat.{_+_, _*_, _-_}
+use Prim.Native.Nat.{_+_, _*_, _-_, _≤_, _<_}
 use lib.ListN.{length}
-use Rattle.dispatch.specs.Runs.{dueAt}
+use Rattle.dispatch.specs.Runs.{RunTo}
 use Rattle.dispatch.proofs.Runs.{Going, going-none, going-copied, going-more, going-inside, going-whole, going-fits, going-block}
 use native.Mathlib.Omega.{arith}
 use Rattle.dispatch.proofs.run.copy_blocks.Statement.{statement}
@@ -14,98 +14,67 @@ Inv-loop table out₀ from to flow slot done₀ out done = Going table flow slot
 abbrev μ-loop : tie.MeasureT-loop
 μ-loop table out₀ from to flow slot done₀ out done = length table - (from + done)
 
+-- where the function begins, and in a turn: what is copied stands in the table, which is short
+abbrev start : tie.At-loop Inv-loop μ-loop → tie.Start Inv-loop μ-loop
+start c = c .before .before .before
+
+inside : (c : tie.At-loop Inv-loop μ-loop) → (start c .args .from + c .loop .done ≤ length (start c .args .table .now)) × (length (start c .args .table .now) < 4294967296)
+inside c = (going-inside _ _ _ _ _ _ (start c .pre) (c .loop .inv), start c .pre .short)
+
+-- sixteen rows more belong to the run, and there is room for them
+abbrev turn : tie.Then1 Inv-loop μ-loop → tie.At-loop Inv-loop μ-loop
+turn c = c .before .before
+
+block : (c : tie.Then1 Inv-loop μ-loop) → (let a = start (turn c) .args in RunTo (a .table .now) (a .flow) (a .slot) (a .from) (a .from + turn c .loop .done + 96))
+block c = going-block _ _ _ _ _ _ (start (turn c) .pre) (turn c .loop .inv) (sym (c .before .due-at .ensures) ∙ c .if1 .taken)
+
+fits : (c : tie.Then1 Inv-loop μ-loop) →
+    (start (turn c) .args .from + turn c .loop .done + 96 ≤ length (start (turn c) .args .table .now)) × (start (turn c) .args .to + turn c .loop .done + 96 ≤ length (turn c .loop .out))
+fits c = going-fits _ _ _ _ _ _ (start (turn c) .pre) (turn c .loop .inv) 96 (block c)
+
 loop-holds : tie.Need-loop-holds Inv-loop μ-loop
-loop-holds c = let a = c .before .before .args in going-none (a .table .now) (a .flow) (a .slot) (a .from) (a .to) (a .out .now)
+loop-holds c = going-none _ _ _ _ _ _
 
 add-due-at : tie.Need-add-due-at Inv-loop μ-loop
-add-due-at c =
-    let s = c .before .before .before in
-    let a = s .args in
-    let l = c .loop in
-    let inside = going-inside (a .table .now) (a .flow) (a .slot) (a .from) (a .to) (a .out .now) (s .pre) (l .inv) in omega (arith, inside, s .pre .short)
+add-due-at c = omega (arith, inside c)
 
 add-due-at-2 : tie.Need-add-due-at-2 Inv-loop μ-loop
-add-due-at-2 c =
-    let s = c .before .before .before in
-    let a = s .args in
-    let l = c .loop in
-    let inside = going-inside (a .table .now) (a .flow) (a .slot) (a .from) (a .to) (a .out .now) (s .pre) (l .inv) in omega (arith, inside, s .pre .short)
+add-due-at-2 c = omega (arith, inside c)
 
 due-at-requires : tie.Need-due-at-requires Inv-loop μ-loop
 due-at-requires c κs =
-    let s = c .before .before .before in
-    let a = s .args in
-    let l = c .loop in
-    let z : a .from + l .done + 6 * 15 ≡ a .from + l .done + 90 = omega arith in rw z at (going-whole (a .table .now) (a .flow) (a .slot) (a .from) (a .to) (a .out .now) (s .pre) (l .inv) 15)
+    let at = start c .args .from + c .loop .done in
+    let z : at + 6 * 15 ≡ at + 90 = omega arith in
+    rw z at (going-whole _ _ _ _ _ _ (start c .pre) (c .loop .inv) 15)
 
 add-copy-bytes : tie.Need-add-copy-bytes Inv-loop μ-loop
-add-copy-bytes c =
-    let s = c .before .before .before .before .before .before in
-    let a = s .args in
-    let l = c .before .before .before .loop in
-    let inside = going-inside (a .table .now) (a .flow) (a .slot) (a .from) (a .to) (a .out .now) (s .pre) (l .inv) in omega (arith, inside, s .pre .short)
+add-copy-bytes c = omega (arith, inside (turn (c .before)))
 
 add-copy-bytes-2 : tie.Need-add-copy-bytes-2 Inv-loop μ-loop
-add-copy-bytes-2 c =
-    let s = c .before .before .before .before .before .before in
-    let a = s .args in
-    let l = c .before .before .before .loop in
-    let due : dueAt (a .table .now) (a .from + l .done + 90) (a .flow) ≡ a .slot = sym (c .before .before .due-at .ensures) ∙ c .before .if1 .taken in
-    let r = going-block (a .table .now) (a .flow) (a .slot) (a .from) (a .to) (a .out .now) (s .pre) (l .inv) due in
-    omega (arith, going-fits (a .table .now) (a .flow) (a .slot) (a .from) (a .to) (a .out .now) (s .pre) (l .inv) 96 r .1)
+add-copy-bytes-2 c = omega (arith, fits (c .before))
 
 copy-bytes-requires : tie.Need-copy-bytes-requires Inv-loop μ-loop
-copy-bytes-requires c κs =
-    let s = c .before .before .before .before .before .before in
-    let a = s .args in
-    let l = c .before .before .before .loop in
-    let due : dueAt (a .table .now) (a .from + l .done + 90) (a .flow) ≡ a .slot = sym (c .before .before .due-at .ensures) ∙ c .before .if1 .taken in
-    let r = going-block (a .table .now) (a .flow) (a .slot) (a .from) (a .to) (a .out .now) (s .pre) (l .inv) due in
-    going-fits (a .table .now) (a .flow) (a .slot) (a .from) (a .to) (a .out .now) (s .pre) (l .inv) 96 r
+copy-bytes-requires c κs = fits (c .before)
 
 add-done : tie.Need-add-done Inv-loop μ-loop
-add-done c =
-    let s = c .before .before .before .before .before .before .before .before .before in
-    let a = s .args in
-    let l = c .before .before .before .before .before .before .loop in
-    let due : dueAt (a .table .now) (a .from + l .done + 90) (a .flow) ≡ a .slot = sym (c .before .before .before .before .before .due-at .ensures) ∙ c .before .before .before .before .if1 .taken in
-    let r = going-block (a .table .now) (a .flow) (a .slot) (a .from) (a .to) (a .out .now) (s .pre) (l .inv) due in
-    omega (arith, going-fits (a .table .now) (a .flow) (a .slot) (a .from) (a .to) (a .out .now) (s .pre) (l .inv) 96 r .0, s .pre .short)
+add-done c = let t = c .before .before .before .before in omega (arith, fits t, inside (turn t))
 
 loop-less : tie.Need-loop-less Inv-loop μ-loop
-loop-less c =
-    let s = c .before .before .before .before .before .before .before .before .before in
-    let a = s .args in
-    let l = c .before .before .before .before .before .before .loop in
-    let due : dueAt (a .table .now) (a .from + l .done + 90) (a .flow) ≡ a .slot = sym (c .before .before .before .before .before .due-at .ensures) ∙ c .before .before .before .before .if1 .taken in
-    let r = going-block (a .table .now) (a .flow) (a .slot) (a .from) (a .to) (a .out .now) (s .pre) (l .inv) due in
-    omega (arith, going-fits (a .table .now) (a .flow) (a .slot) (a .from) (a .to) (a .out .now) (s .pre) (l .inv) 96 r .0)
+loop-less c = omega (arith, fits (c .before .before .before .before))
 
 loop-again : tie.Need-loop-again Inv-loop μ-loop
 loop-again c =
-    let s = c .before .before .before .before .before .before .before .before .before in
-    let a = s .args in
-    let l = c .before .before .before .before .before .before .loop in
-    let due : dueAt (a .table .now) (a .from + l .done + 90) (a .flow) ≡ a .slot = sym (c .before .before .before .before .before .due-at .ensures) ∙ c .before .before .before .before .if1 .taken in
-    let r = going-block (a .table .now) (a .flow) (a .slot) (a .from) (a .to) (a .out .now) (s .pre) (l .inv) due in
-    going-more (a .table .now) (a .flow) (a .slot) (a .from) (a .to) (a .out .now) 96 r (c .before .before .copy-bytes .ensures) (l .inv)
+    let t = c .before .before .before .before in
+    going-more _ _ _ _ _ _ 96 (block t) (c .before .before .copy-bytes .ensures) (turn t .loop .inv)
 
 add-result : tie.Need-add-result Inv-loop μ-loop
-add-result c =
-    let s = c .before .before .before .before .before in
-    let a = s .args in
-    let l = c .before .before .loop in
-    let inside = going-inside (a .table .now) (a .flow) (a .slot) (a .from) (a .to) (a .out .now) (s .pre) (l .inv) in omega (arith, inside, s .pre .short)
+add-result c = omega (arith, inside (c .before .before))
 
 same-length : tie.Need-same-length Inv-loop μ-loop
 same-length c = c .before .before .loop .inv .kept
 
 returns : tie.Need-returns Inv-loop μ-loop
-returns c =
-    let s = c .before .before .before .before .before in
-    let a = s .args in
-    let l = c .before .before .loop in
-    record { some = going-copied (a .table .now) (a .flow) (a .slot) (a .from) (a .to) (a .out .now) (l .inv); few-left = λ e. c .if1 .left (c .before .due-at .ensures ∙ e) }
+returns c = record { some = going-copied _ _ _ _ _ _ (c .before .before .loop .inv); few-left = λ e. c .if1 .left (c .before .due-at .ensures ∙ e) }
 
 pub copy-blocks-spec : {M : Type 1} → statement M
 copy-blocks-spec =
