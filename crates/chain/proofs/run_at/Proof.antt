@@ -2,7 +2,7 @@
 -- i jobs. The measure is what is left of the count. Assumes nothing.
 use borrow.Author.Needs.{needs}
 use mathlib.Core.Path.{_≡_, refl, _∙_}
-use Prim.Native.Nat.{_≤_, _-_}
+use Prim.Native.Nat.{_≤_, _<_, _-_}
 use native.Mathlib.Omega.{arith}
 use lib.ListN.{length, length-set}
 use Rattle.book.specs.Promise.{FlowJobs, flowFrom}
@@ -20,14 +20,32 @@ Inv-loop caps starts ends lasts firsts count most from t names₀ takes₀ width
 abbrev μ-loop : tie.MeasureT-loop
 μ-loop caps starts ends lasts firsts count most from t names₀ takes₀ width₀ rate₀ parts₀ i₀ names takes width rate parts i = count - i
 
+-- where the function begins, and in a turn: what is known of the flow that the lists are of
+abbrev start : tie.At-loop Inv-loop μ-loop → tie.Start Inv-loop μ-loop
+start c = c .before .before .before .before .before .before .before .before
+
+so-far : (c : tie.At-loop Inv-loop μ-loop) → RunSoFar (flowFrom (start c .pre .11 .jobs)) (start c .args .t) (c .loop .i) (c .loop .width) (c .loop .rate) (c .loop .names) (c .loop .takes) (c .loop .parts)
+so-far c = let some = start c .pre .11 in c .loop .inv .3 (some .jobs) (some .ideal) (some .held)
+
+-- where the take of job i is known: there is room for one part more
+abbrev turn : tie.After-take-at Inv-loop μ-loop → tie.In-loop Inv-loop μ-loop
+turn c = c .before .before .before .before .before .before .before
+
+room : (c : tie.After-take-at Inv-loop μ-loop) →
+    (let l = turn c .before .loop in (l .parts < 64) × (l .parts < length (l .names)) × (l .parts < length (l .takes)))
+room c =
+    let u = turn c .before in
+    let l = u .loop in
+    let p = start u .pre in
+    omega (arith, parts-so-far _ _ _ _ _ _ _ _ (so-far u), turn c .loop-test .taken, p .0, p .6, p .7, l .inv .1, l .inv .2)
+
 sub-width : tie.Need-sub-width Inv-loop μ-loop
 sub-width c = search needs
 
 loop-holds : tie.Need-loop-holds Inv-loop μ-loop
 loop-holds c =
-    let a = c .before .before .before .before .before .before .before .args in
     let v = c .before .before .before .before .before .before .before .pre in
-    (v .9, refl, refl, λ x y of. ended-so-far-of (a .caps .now) (a .starts .now) (a .ends .now) (a .lasts .now) (a .firsts .now) (a .count) (a .most) x y of (a .t) (a .from) _ _ (v .9) (v .8) (v .10))
+    (v .9, refl, refl, λ x y of. ended-so-far-of _ _ _ _ _ _ _ _ _ of _ _ _ _ (v .9) (v .8) (v .10))
 
 mul-first : tie.Need-mul-first Inv-loop μ-loop
 mul-first c = search needs
@@ -49,10 +67,8 @@ same-length-2 c = search needs
 
 returns : tie.Need-returns Inv-loop μ-loop
 returns c x y of =
-    let a = c .before .before .before .before .before .before .before .before .before .before .before .before .args in
-    let loop = c .before .before .before .before .loop in
-    none-begun-of (a .caps .now) (a .starts .now) (a .ends .now) (a .lasts .now) (a .firsts .now) (a .count) (a .most) x y of (a .t) (loop .i) (loop .width) (loop .rate) (loop .parts) _ _ (loop .names) (loop .takes)
-    (c .before .before .before .loop-test .taken) refl (c .before .if1 .taken) (c .least .ensures) (loop .inv .3 x y of)
+    none-begun-of _ _ _ _ _ _ _ _ _ of _ _ _ _ _ _ _ _ _ (c .before .before .before .loop-test .taken) refl (c .before .if1 .taken) (c .least .ensures)
+    (c .before .before .before .before .loop .inv .3 x y of)
 
 mul-start : tie.Need-mul-start Inv-loop μ-loop
 mul-start c = search needs
@@ -85,60 +101,29 @@ cast-names : tie.Need-cast-names Inv-loop μ-loop
 cast-names c = search needs
 
 slice-write-names : tie.Need-slice-write-names Inv-loop μ-loop
-slice-write-names c =
-    let a = c .before .before .before .before .before .before .before .before .before .before .before .before .before .before .before .before .args in
-    let some = c .before .before .before .before .before .before .before .before .before .before .before .before .before .before .before .before .pre .11 in
-    let loop = c .before .before .before .before .before .before .before .before .loop in
-    let h = c .before .before .before .before .before .before .before .loop-test .taken in
-    let so-far = loop .inv .3 (some .jobs) (some .ideal) (some .held) in
-    omega (arith, parts-so-far (flowFrom (some .jobs)) (a .t) (loop .i) (loop .width) (loop .rate) (loop .parts) (loop .names) (loop .takes) so-far, c .before .before .before .before .before .before .before .before .before .before .before .before .before .before .before .before .pre .6, c .before .before .before .before .before .before .before .before .before .before .before .before .before .before .before .before .pre .7, loop .inv .1, loop .inv .2)
+slice-write-names c = omega (arith, room c)
 
 mul-takes : tie.Need-mul-takes Inv-loop μ-loop
-mul-takes c =
-    let a = c .before .before .before .before .before .before .before .before .before .before .before .before .before .before .before .before .args in
-    let some = c .before .before .before .before .before .before .before .before .before .before .before .before .before .before .before .before .pre .11 in
-    let loop = c .before .before .before .before .before .before .before .before .loop in
-    let h = c .before .before .before .before .before .before .before .loop-test .taken in
-    let so-far = loop .inv .3 (some .jobs) (some .ideal) (some .held) in
-    omega (arith, parts-so-far (flowFrom (some .jobs)) (a .t) (loop .i) (loop .width) (loop .rate) (loop .parts) (loop .names) (loop .takes) so-far, c .before .before .before .before .before .before .before .before .before .before .before .before .before .before .before .before .pre .6, c .before .before .before .before .before .before .before .before .before .before .before .before .before .before .before .before .pre .7, loop .inv .1, loop .inv .2)
+mul-takes c = omega (arith, room c)
 
 slice-write-takes : tie.Need-slice-write-takes Inv-loop μ-loop
-slice-write-takes c =
-    let a = c .before .before .before .before .before .before .before .before .before .before .before .before .before .before .before .before .args in
-    let some = c .before .before .before .before .before .before .before .before .before .before .before .before .before .before .before .before .pre .11 in
-    let loop = c .before .before .before .before .before .before .before .before .loop in
-    let h = c .before .before .before .before .before .before .before .loop-test .taken in
-    let so-far = loop .inv .3 (some .jobs) (some .ideal) (some .held) in
-    omega (arith, parts-so-far (flowFrom (some .jobs)) (a .t) (loop .i) (loop .width) (loop .rate) (loop .parts) (loop .names) (loop .takes) so-far, c .before .before .before .before .before .before .before .before .before .before .before .before .before .before .before .before .pre .6, c .before .before .before .before .before .before .before .before .before .before .before .before .before .before .before .before .pre .7, loop .inv .1, loop .inv .2)
+slice-write-takes c = omega (arith, room c)
 
 one-more-requires : tie.Need-one-more-requires Inv-loop μ-loop
-one-more-requires c κs =
-    let a = c .before .before .before .before .before .before .before .before .before .before .before .before .before .before .before .before .args in
-    let some = c .before .before .before .before .before .before .before .before .before .before .before .before .before .before .before .before .pre .11 in
-    let loop = c .before .before .before .before .before .before .before .before .loop in
-    let h = c .before .before .before .before .before .before .before .loop-test .taken in
-    let so-far = loop .inv .3 (some .jobs) (some .ideal) (some .held) in
-    omega (arith, parts-so-far (flowFrom (some .jobs)) (a .t) (loop .i) (loop .width) (loop .rate) (loop .parts) (loop .names) (loop .takes) so-far, c .before .before .before .before .before .before .before .before .before .before .before .before .before .before .before .before .pre .0)
+one-more-requires c κs = omega (arith, room c)
 
 add-rate : tie.Need-add-rate Inv-loop μ-loop
 add-rate c =
-    let a = c .before .before .before .before .before .before .before .before .before .before .before .before .before .before .before .before .before .args in
-    let some = c .before .before .before .before .before .before .before .before .before .before .before .before .before .before .before .before .before .pre .11 in
-    let loop = c .before .before .before .before .before .before .before .before .before .loop in
-    let h = c .before .before .before .before .before .before .before .before .loop-test .taken in
-    let so-far = loop .inv .3 (some .jobs) (some .ideal) (some .held) in
-    omega (arith, rate-fits-of (a .caps .now) (a .starts .now) (a .ends .now) (a .lasts .now) (a .firsts .now) (a .count) (a .most) (some .jobs) (some .ideal) (some .held) (a .t) (loop .i) h (loop .width) (loop .rate) _ (loop .parts) (loop .names) (loop .takes) so-far (c .before .take-at .ensures))
+    let u = turn (c .before) in
+    omega (arith, rate-fits-of _ _ _ _ _ _ _ _ _ (start (u .before) .pre .11 .held) _ _ (u .loop-test .taken) _ _ _ _ _ _ (so-far (u .before)) (c .before .take-at .ensures))
 
 until-change-requires : tie.Need-until-change-requires Inv-loop μ-loop
 until-change-requires c κs =
-    let a = c .before .before .before .before .before .before .before .before .before .before .before .before .before .before .before .before .before .args in
-    let some = c .before .before .before .before .before .before .before .before .before .before .before .before .before .before .before .before .before .pre .11 in
-    let loop = c .before .before .before .before .before .before .before .before .before .loop in
-    let h = c .before .before .before .before .before .before .before .before .loop-test .taken in
-    let so-far = loop .inv .3 (some .jobs) (some .ideal) (some .held) in
-    let asked = change-asked-of (a .caps .now) (a .starts .now) (a .ends .now) (a .lasts .now) (a .firsts .now) (a .count) (a .most) (some .jobs) (some .ideal) (some .held) (a .t) (loop .i) h in
-    let path = path-most (some .jobs) (some .held .input) in
-    (asked .0, asked .1, asked .2, so-far .some, omega (arith, so-far .within, path))
+    let u = turn (c .before) in
+    let s = start (u .before) in
+    let held = s .pre .11 .held in
+    let asked = change-asked-of _ _ _ _ _ _ _ _ _ held (s .args .t) _ (u .loop-test .taken) in
+    (asked .0, asked .1, asked .2, so-far (u .before) .some, omega (arith, so-far (u .before) .within, path-most _ (held .input)))
 
 add-i : tie.Need-add-i Inv-loop μ-loop
 add-i c = search needs
@@ -148,17 +133,14 @@ loop-less c = search needs
 
 loop-again : tie.Need-loop-again Inv-loop μ-loop
 loop-again c =
-    let a = c .before .before .before .before .before .before .before .before .before .before .before .before .before .before .before .before .before .before .args in
-    let v = c .before .before .before .before .before .before .before .before .before .before .before .before .before .before .before .before .before .before .pre in
-    let some = v .11 in
-    let loop = c .before .before .before .before .before .before .before .before .before .before .loop in
-    let h = c .before .before .before .before .before .before .before .before .before .loop-test .taken in
-    let few = parts-so-far (flowFrom (some .jobs)) (a .t) (loop .i) (loop .width) (loop .rate) (loop .parts) (loop .names) (loop .takes) (loop .inv .3 (some .jobs) (some .ideal) (some .held)) in (
+    let k = c .before .before in
+    let l = turn k .before .loop in (
       omega arith,
-      length-set (loop .names) (loop .parts) _ ∙ loop .inv .1,
-      length-set (loop .takes) (loop .parts) _ ∙ loop .inv .2,
+      length-set (l .names) (l .parts) _ ∙ l .inv .1,
+      length-set (l .takes) (l .parts) _ ∙ l .inv .2,
       λ x y of.
-          rw (c .before .one-more .ensures) (job-counted-in-of (a .caps .now) (a .starts .now) (a .ends .now) (a .lasts .now) (a .firsts .now) (a .count) (a .most) x y of (a .t) (loop .i) h (loop .width) (loop .rate) _ (loop .parts) (loop .names) (loop .takes) (loop .inv .3 x y of) (c .before .before .take-at .ensures) _ (omega (arith, few, loop .inv .1, v .6)) (omega (arith, few, loop .inv .2, v .7)) (c .until-change .ensures)),
+          rw (c .before .one-more .ensures)
+          (job-counted-in-of _ _ _ _ _ _ _ _ _ of _ _ (turn k .loop-test .taken) _ _ _ _ _ _ (l .inv .3 x y of) (k .take-at .ensures) _ (room k .1) (room k .2) (c .until-change .ensures)),
     )
 
 same-length-3 : tie.Need-same-length-3 Inv-loop μ-loop
@@ -168,10 +150,7 @@ same-length-4 : tie.Need-same-length-4 Inv-loop μ-loop
 same-length-4 c = search needs
 
 returns-2 : tie.Need-returns-2 Inv-loop μ-loop
-returns-2 c x y of =
-    let a = c .before .before .before .before .before .before .before .before .before .args in
-    let loop = c .before .loop in
-    all-jobs-of (a .caps .now) (a .starts .now) (a .ends .now) (a .lasts .now) (a .firsts .now) (a .count) (a .most) x y of (a .t) (loop .i) (loop .width) (loop .rate) (loop .parts) (loop .names) (loop .takes) (omega arith) (loop .inv .3 x y of)
+returns-2 c x y of = let l = c .before .loop in all-jobs-of _ _ _ _ _ _ _ _ _ of _ (l .i) _ _ _ _ _ (omega arith) (l .inv .3 x y of)
 
 pub run-at-spec : {M : Type 1} → statement M
 run-at-spec =
