@@ -1,7 +1,9 @@
 -- `plan_text::lines::put_table` meets its contract, by the three kinds of lines. The row of a line below the number of lines lies within
 -- the table. Assumes nothing.
+use Prim.Native.Nat.{_+_, _*_, _-_, _≤_}
 use borrow.Author.Needs.{needs}
 use native.Mathlib.Omega.{arith}
+use lib.ListN.{length}
 use Rattle.plan_text.proofs.Pieces.{put-as}
 use Rattle.plan_text.proofs.LineCases.{line-first, line-finish, line-row, row-within}
 use Rattle.plan_text.proofs.lines.put_table.Statement.{statement}
@@ -63,23 +65,23 @@ add-put-row-2 c = search needs
 sub-put-row : tie.Need-sub-put-row
 sub-put-row c = search needs
 
+-- where the line is a row's, its row lies within the table
+within : (c : tie.Else2) →
+    (let start = c .before .before .before .before .before .before in
+    let flows = c .before .wide .result in
+    8 + 2 * flows + 6 * (start .args .n - (1 + flows)) + 6 ≤ length (start .args .table .now))
+within c =
+    let start = c .before .before .before .before .before .before in
+    row-within _ _ _ _ (start .pre .1) (c .before .wide .ensures .0) (c .if2 .left) (start .pre .2)
+
 mul-put-row-2 : tie.Need-mul-put-row-2
-mul-put-row-2 c =
-    let a = c .before .before .before .before .before .before .before .args in
-    let within = row-within (a .table .now) (a .bytes) (a .n) (c .before .before .wide .result) (c .before .before .before .before .before .before .before .pre .1) (c .before .before .wide .ensures .0) (c .before .if2 .left) (c .before .before .before .before .before .before .before .pre .2) in
-    omega arith
+mul-put-row-2 c = omega (arith, within (c .before))
 
 add-put-row-3 : tie.Need-add-put-row-3
-add-put-row-3 c =
-    let a = c .before .before .before .before .before .before .before .args in
-    let within = row-within (a .table .now) (a .bytes) (a .n) (c .before .before .wide .result) (c .before .before .before .before .before .before .before .pre .1) (c .before .before .wide .ensures .0) (c .before .if2 .left) (c .before .before .before .before .before .before .before .pre .2) in
-    omega arith
+add-put-row-3 c = omega (arith, within (c .before))
 
 put-row-requires : tie.Need-put-row-requires
-put-row-requires c κs =
-    let a = c .before .before .before .before .before .before .before .args in
-    let within = row-within (a .table .now) (a .bytes) (a .n) (c .before .before .wide .result) (c .before .before .before .before .before .before .before .pre .1) (c .before .before .wide .ensures .0) (c .before .if2 .left) (c .before .before .before .before .before .before .before .pre .2) in
-    search needs
+put-row-requires c κs = let inside = within (c .before) in search needs
 
 same-length-3 : tie.Need-same-length-3
 same-length-3 c = search needs
