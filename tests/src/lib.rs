@@ -33,5 +33,6 @@ pub mod second_check;
 pub mod second_dispatch;
 pub mod second_finish;
 pub mod second_planner;
+pub mod table_trial;
 pub mod tables;
 pub mod twins;

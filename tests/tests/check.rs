@@ -5,12 +5,13 @@
 
 use flowplan_tests::answer::{CheckAnswer, NUMBERS};
 use flowplan_tests::books::{self, encode_book, Family};
-use flowplan_tests::calendar::{read_calendar, Calendar, NO_WINDOWS};
+use flowplan_tests::calendar::{read_calendar, NO_WINDOWS};
 use flowplan_tests::calendars::{self, Kinds};
 use flowplan_tests::edges::Edges;
 use flowplan_tests::lent::{work_length, Junk, Lent};
-use flowplan_tests::reader::{read_book, Book, Version};
+use flowplan_tests::reader::{read_book, Version};
 use flowplan_tests::rng::Rng;
+use flowplan_tests::table_trial::{Of, TableTrial};
 use flowplan_tests::tables::{self, Table, WideRows};
 use flowplan_tests::{caps, heads, linked, marked, second_check};
 
@@ -61,12 +62,6 @@ impl Trial {
         }
     }
 
-    /// A book of a family, in the version of the trial, and a calendar.
-    fn draw(&mut self, family: Family) -> (Book, Calendar) {
-        let book = books::drawn(&mut self.rng, self.version, family);
-        calendars::with_calendar(&mut self.rng, book)
-    }
-
     /// One call of each check on equal buffers; all must end equal.
     fn compare(&mut self, book: &[u8], calendar: &[u8], table: &[u8]) -> CheckAnswer {
         let length = work_length(&mut self.rng);
@@ -109,48 +104,40 @@ impl Trial {
         }
         expected
     }
+}
 
-    /// A table with several damaged copies, and with damaged books and calendars.
-    fn compare_around(&mut self, of: &(Book, Calendar), table: &Table, damaged: usize) {
-        let (book, calendar) = of;
-        let bytes = encode_book(book);
-        let lent = calendar.encode();
-        let intact = table.encode(book);
-        let mut finishes = table.finishes.iter().zip(&book.flows);
-        let twice = |deadline| 2 * calendar.open_before(deadline);
-        let before = |finish: u16| calendar.open_before(u32::from(finish));
+impl TableTrial for Trial {
+    fn rng(&mut self) -> &mut Rng {
+        &mut self.rng
+    }
+
+    fn draw(&mut self, family: Family) -> Of {
+        let book = books::drawn(&mut self.rng, self.version, family);
+        Of::new(calendars::with_calendar(&mut self.rng, book))
+    }
+
+    fn compare_valid(&mut self, of: &Of, table: &Table) {
+        let mut finishes = table.finishes.iter().zip(&of.book.flows);
+        let twice = |deadline| 2 * of.calendar.open_before(deadline);
+        let before = |finish: u16| of.calendar.open_before(u32::from(finish));
         if finishes.any(|(&finish, flow)| before(finish) > twice(flow.deadline)) {
             self.beyond_twice += 1;
         }
-        let answer = self.compare(&bytes, &lent, &intact);
-        self.wide_rows.count(book, &intact, answer);
-        for _ in 0..damaged {
-            let table = tables::damaged(&mut self.rng, book, calendar, table);
-            let answer = self.compare(&bytes, &lent, &table);
-            self.wide_rows.count(book, &table, answer);
-            if tables::begins_early(book, &table, answer.flow) {
-                self.early[answer.number as usize] += 1;
-            }
-        }
-        for _ in 0..damaged.div_ceil(3) {
-            let mut bytes = bytes.clone();
-            books::damage_book(&mut self.rng, &mut bytes);
-            let lent = calendars::lent(&mut self.rng, calendar);
-            self.compare(&bytes, &lent, &intact);
-        }
-        let lent = calendars::damaged(&mut self.rng, calendar);
-        self.compare(&bytes, &lent, &intact);
+        let table = table.encode(&of.book);
+        let answer = self.compare(&of.bytes, &of.lent, &table);
+        self.wide_rows.count(&of.book, &table, answer);
     }
 
-    /// The planner's table of a book and another valid one, where there are.
-    fn compare_book(&mut self, of: &(Book, Calendar), damaged: usize) {
-        let (book, calendar) = of;
-        if let Some(table) = tables::planned_table(book, calendar) {
-            self.compare_around(of, &table, damaged);
+    fn compare_damaged(&mut self, of: &Of, table: &[u8]) {
+        let answer = self.compare(&of.bytes, &of.lent, table);
+        self.wide_rows.count(&of.book, table, answer);
+        if tables::begins_early(&of.book, table, answer.flow) {
+            self.early[answer.number as usize] += 1;
         }
-        if let Some(table) = tables::delayed_table(&mut self.rng, book, calendar) {
-            self.compare_around(of, &table, damaged);
-        }
+    }
+
+    fn compare_bytes(&mut self, book: &[u8], calendar: &[u8], table: &[u8]) {
+        self.compare(book, calendar, table);
     }
 }
 
@@ -167,29 +154,11 @@ fn proved_check_is_the_second_one_with_releases() {
 fn hold_trial(version: Version, seed: u64) {
     let mut trial = Trial::new(version, seed);
 
-    for _ in 0..9_000 {
-        let book = trial.draw(books::tiny_book);
-        trial.compare_book(&book, 9);
-    }
-    for _ in 0..2_500 {
-        let book = trial.draw(books::any_book);
-        trial.compare_book(&book, 6);
-    }
-    for _ in 0..60 {
-        let book = trial.draw(books::wide_book);
-        trial.compare_book(&book, 4);
-    }
-    for _ in 0..6 {
-        let book = trial.draw(books::full_book);
-        trial.compare_book(&book, 2);
-    }
-    // Every slot of the work area in use from the release on, by every flow.
-    for (flows, jobs, slots) in [(64, 1, 8_192), (1, 64, 8_192), (64, 64, 64)] {
-        let book = books::layered_in(version, flows, jobs, slots);
-        let of = (book, Calendar::default());
-        let table = tables::planned_table(&of.0, &of.1).expect("feasible");
-        trial.compare_around(&of, &table, 3);
-    }
+    trial.compare_books(9_000, books::tiny_book, 9);
+    trial.compare_books(2_500, books::any_book, 6);
+    trial.compare_books(60, books::wide_book, 4);
+    trial.compare_books(6, books::full_book, 2);
+    trial.compare_layered(version, 3);
     // Totals far above the size, which must not be cut to fewer bits.
     for bits in 8..=24 {
         for size in [1, 4_097, 1_000_000] {
@@ -197,31 +166,8 @@ fn hold_trial(version: Version, seed: u64) {
             trial.compare(&encode_book(&book), &NO_WINDOWS, &table.encode(&book));
         }
     }
-
-    // The table of one book with another.
-    let mut last = marked::table_a();
-    for _ in 0..20_000 {
-        let (book, calendar) = trial.draw(books::tiny_book);
-        trial.compare(&encode_book(&book), &calendar.encode(), &last);
-        if let Some(table) = tables::delayed_table(&mut trial.rng, &book, &calendar) {
-            last = table.encode(&book);
-        }
-    }
-
-    // Bytes that are hardly a book or a table.
-    for _ in 0..150_000 {
-        let book = if trial.rng.chance(1, 2) {
-            books::random_bytes(&mut trial.rng, 80)
-        } else {
-            let (book, _) = trial.draw(books::tiny_book);
-            let mut bytes = encode_book(&book);
-            books::damage_book(&mut trial.rng, &mut bytes);
-            bytes
-        };
-        let table = books::random_bytes(&mut trial.rng, 80);
-        let calendar = calendars::lent(&mut trial.rng, &Calendar::default());
-        trial.compare(&book, &calendar, &table);
-    }
+    trial.compare_crossed(20_000);
+    trial.compare_random(150_000);
 
     println!("{version:?}, cases: {}", trial.met.iter().sum::<u64>());
     println!(

@@ -5,12 +5,13 @@
 
 use flowplan_tests::answer::{CheckAnswer, ListAnswer, Refusal, NUMBERS, WORK_BYTES};
 use flowplan_tests::books::{self, encode_book, Family};
-use flowplan_tests::calendar::{read_calendar, Calendar, NO_WINDOWS};
+use flowplan_tests::calendar::{read_calendar, NO_WINDOWS};
 use flowplan_tests::calendars::{self, Kinds};
 use flowplan_tests::lent::{work_length, Junk, Lent};
 use flowplan_tests::reader::{read_book, Book, Flow, Version, VERSIONS};
 use flowplan_tests::rng::Rng;
 use flowplan_tests::second_check::Row;
+use flowplan_tests::table_trial::{Of, TableTrial};
 use flowplan_tests::tables::{self, Table, WideRows};
 use flowplan_tests::{
     caps, heads, linked, linked_dispatch, linked_plan, lists, marked, second_check, second_dispatch,
@@ -133,17 +134,6 @@ impl Trial {
         }
     }
 
-    /// A book of a family in the version of the trial, mostly one whose flows are not
-    /// served in the order of their numbers, and a calendar.
-    fn draw(&mut self, family: Family) -> (Book, Calendar) {
-        loop {
-            let book = books::drawn(&mut self.rng, self.version, family);
-            if !book.service_order().is_sorted() || self.rng.chance(1, 4) {
-                return calendars::with_calendar(&mut self.rng, book);
-            }
-        }
-    }
-
     /// Lengths of the output: exact for an accepted table, one short, longer, and
     /// any other.
     fn rooms(&mut self, table: &[u8]) -> [usize; 4] {
@@ -218,48 +208,45 @@ impl Trial {
         let room = self.rng.pick(&rooms);
         self.compare(book, calendar, table, room)
     }
+}
 
-    /// A table in outputs of each length, with several damaged copies, and with
-    /// damaged books and calendars.
-    fn compare_around(&mut self, of: &(Book, Calendar), table: &Table, damaged: usize) {
-        let (book, calendar) = of;
-        let bytes = encode_book(book);
-        let lent = calendar.encode();
-        let intact = table.encode(book);
-        for room in self.rooms(&intact) {
-            self.compare(&bytes, &lent, &intact, room);
-        }
-        for _ in 0..damaged {
-            let table = tables::damaged(&mut self.rng, book, calendar, table);
-            let ListAnswer {
-                number, flow, job, ..
-            } = self.compare_in_one(&bytes, &lent, &table);
-            // 13 says that the check accepts.
-            let checked = match number {
-                0 | 13 => CheckAnswer::accepted(0),
-                _ => CheckAnswer::refused(Refusal::new(number, flow, job)),
-            };
-            self.wide_rows.count(book, &table, checked);
-        }
-        for _ in 0..damaged.div_ceil(3) {
-            let mut bytes = bytes.clone();
-            books::damage_book(&mut self.rng, &mut bytes);
-            let lent = calendars::lent(&mut self.rng, calendar);
-            self.compare_in_one(&bytes, &lent, &intact);
-        }
-        let lent = calendars::damaged(&mut self.rng, calendar);
-        self.compare_in_one(&bytes, &lent, &intact);
+impl TableTrial for Trial {
+    fn rng(&mut self) -> &mut Rng {
+        &mut self.rng
     }
 
-    /// The planner's table of a book and another valid one, where there are.
-    fn compare_book(&mut self, of: &(Book, Calendar), damaged: usize) {
-        let (book, calendar) = of;
-        if let Some(table) = tables::planned_table(book, calendar) {
-            self.compare_around(of, &table, damaged);
+    /// Mostly a book whose flows are not served in the order of their numbers.
+    fn draw(&mut self, family: Family) -> Of {
+        loop {
+            let book = books::drawn(&mut self.rng, self.version, family);
+            if !book.service_order().is_sorted() || self.rng.chance(1, 4) {
+                return Of::new(calendars::with_calendar(&mut self.rng, book));
+            }
         }
-        if let Some(table) = tables::delayed_table(&mut self.rng, book, calendar) {
-            self.compare_around(of, &table, damaged);
+    }
+
+    /// In outputs of each length.
+    fn compare_valid(&mut self, of: &Of, table: &Table) {
+        let table = table.encode(&of.book);
+        for room in self.rooms(&table) {
+            self.compare(&of.bytes, &of.lent, &table, room);
         }
+    }
+
+    fn compare_damaged(&mut self, of: &Of, table: &[u8]) {
+        let ListAnswer {
+            number, flow, job, ..
+        } = self.compare_in_one(&of.bytes, &of.lent, table);
+        // 13 says that the check accepts.
+        let checked = match number {
+            0 | 13 => CheckAnswer::accepted(0),
+            _ => CheckAnswer::refused(Refusal::new(number, flow, job)),
+        };
+        self.wide_rows.count(&of.book, table, checked);
+    }
+
+    fn compare_bytes(&mut self, book: &[u8], calendar: &[u8], table: &[u8]) {
+        self.compare_in_one(book, calendar, table);
     }
 }
 
@@ -276,54 +263,13 @@ fn proved_list_is_the_second_one_with_releases() {
 fn hold_trial(version: Version, seed: u64) {
     let mut trial = Trial::new(version, seed);
 
-    for _ in 0..6_000 {
-        let book = trial.draw(books::tiny_book);
-        trial.compare_book(&book, 9);
-    }
-    for _ in 0..2_000 {
-        let book = trial.draw(books::any_book);
-        trial.compare_book(&book, 6);
-    }
-    for _ in 0..60 {
-        let book = trial.draw(books::wide_book);
-        trial.compare_book(&book, 4);
-    }
-    for _ in 0..6 {
-        let book = trial.draw(books::full_book);
-        trial.compare_book(&book, 2);
-    }
-    // Every slot of the work area in use from the release on, by every flow.
-    for (flows, jobs, slots) in [(64, 1, 8_192), (1, 64, 8_192), (64, 64, 64)] {
-        let book = books::layered_in(version, flows, jobs, slots);
-        let of = (book, Calendar::default());
-        let table = tables::planned_table(&of.0, &of.1).expect("feasible");
-        trial.compare_around(&of, &table, 1);
-    }
-
-    // The table of one book with another.
-    let mut last = marked::table_a();
-    for _ in 0..10_000 {
-        let (book, calendar) = trial.draw(books::tiny_book);
-        trial.compare_in_one(&encode_book(&book), &calendar.encode(), &last);
-        if let Some(table) = tables::delayed_table(&mut trial.rng, &book, &calendar) {
-            last = table.encode(&book);
-        }
-    }
-
-    // Bytes that are hardly a book or a table.
-    for _ in 0..100_000 {
-        let book = if trial.rng.chance(1, 2) {
-            books::random_bytes(&mut trial.rng, 80)
-        } else {
-            let (book, _) = trial.draw(books::tiny_book);
-            let mut bytes = encode_book(&book);
-            books::damage_book(&mut trial.rng, &mut bytes);
-            bytes
-        };
-        let table = books::random_bytes(&mut trial.rng, 80);
-        let calendar = calendars::lent(&mut trial.rng, &Calendar::default());
-        trial.compare_in_one(&book, &calendar, &table);
-    }
+    trial.compare_books(6_000, books::tiny_book, 9);
+    trial.compare_books(2_000, books::any_book, 6);
+    trial.compare_books(60, books::wide_book, 4);
+    trial.compare_books(6, books::full_book, 2);
+    trial.compare_layered(version, 1);
+    trial.compare_crossed(10_000);
+    trial.compare_random(100_000);
 
     println!("{version:?}, calls: {}", trial.met.iter().sum::<u64>());
     for number in 0..NUMBERS {
