@@ -1,13 +1,14 @@
 -- Flags of shut slots, one set at a time. Assumes nothing.
-use mathlib.Core.Path.{_≡_, refl}
+use mathlib.Core.Path.{_≡_, refl, sym}
 use Prim.Native.Nat.{ℕ, _+_, _≤_, _<_}
-use mathlib.Core.Bool.{Bool, true, false, not, _&&_}
+use mathlib.Core.Bool.{true, not, _&&_, and-true, and-false}
 use mathlib.Core.List.{List}
 use mathlib.Core.Logic.{_⊎_, inl, inr}
 use native.Mathlib.Omega.{arith}
 use lib.ListN.{length, set, replicate, length-replicate, getD-replicate, List·getD-eq-default}
-use lib.Seq.{getD-set-same, getD-set-other}
+use lib.Dec.{eqb}
 use Rattle.rules.proofs.Division.{lt-or-ge}
+use Rattle.rules.proofs.Walks.{after-set}
 use Rattle.calendar.specs.Area.{openBy}
 use Rattle.calendar.proofs.Windows.{upTo, slot-in, others-same, none-in}
 
@@ -16,29 +17,13 @@ abbrev pub FlaggedTo : List ℕ → ℕ → ℕ → List ℕ → Type 0
 FlaggedTo before shut t l = (u : ℕ) → openBy l u ≡ (openBy before u && not (upTo shut t u))
 
 pub flagged-none : (before : List ℕ) (shut : ℕ) → FlaggedTo before shut shut before
-flagged-none before shut u = rw (none-in shut u) (right (openBy before u))
-  where
-    right : (a : Bool) → a ≡ (a && true)
-    right true = refl
-    right false = refl
+flagged-none before shut u = rw (none-in shut u) (sym (and-true (openBy before u)))
 
 pub flagged-next : (before l : List ℕ) (shut t : ℕ) → shut ≤ t → t < length l → FlaggedTo before shut t l → FlaggedTo before shut (t + 1) (set l t 1)
 unfolding openBy
-flagged-next before l shut t h room so-far u = go (lt-or-ge u t) (lt-or-ge t u)
-  where
-    left : (a : Bool) → false ≡ (a && false)
-    left true = refl
-    left false = refl
-
-    other : (u ≡ t → ⊥) → openBy (set l t 1) u ≡ (openBy before u && not (upTo shut (t + 1) u))
-    other ne = rw (getD-set-other l t u 1 0 (λ q. ne q), others-same shut t h u ne) (so-far u)
-
-    go : (u < t) ⊎ (t ≤ u) → (t < u) ⊎ (u ≤ t) → openBy (set l t 1) u ≡ (openBy before u && not (upTo shut (t + 1) u))
-    go (inl b) o = other (λ q. omega arith)
-    go (inr b) (inl d) = other (λ q. omega arith)
-    go (inr b) (inr d) =
-        let e : u ≡ t = omega arith in
-        rw (e, getD-set-same l t 1 0 room, slot-in shut t h) (left (openBy before t))
+flagged-next before l shut t h room so-far =
+    after-set (λ u flag. not (eqb flag 1) ≡ (openBy before u && not (upTo shut (t + 1) u))) l t 1 room
+    (rw (slot-in shut t h) (sym (and-false (openBy before t)))) (λ u other. rw (others-same shut t h u other) (so-far u))
 
 -- no flag is set
 pub unset-open : (n u : ℕ) → openBy (replicate n 0) u ≡ true

@@ -2,7 +2,7 @@
 -- stands. Assumes nothing.
 use mathlib.Core.Path.{_≡_, refl, sym, ap}
 use Prim.Native.Nat.{ℕ, zero, suc, _+_, _*_, _-_, _≤_, _<_, min}
-use mathlib.Core.Bool.{Bool, true, false, not, _&&_}
+use mathlib.Core.Bool.{true, false, not, _&&_, and-true, and-false}
 use mathlib.Core.List.{List}
 use mathlib.Core.Logic.{_⊎_, inl, inr}
 use native.Mathlib.Numerals.{add-one}
@@ -32,11 +32,7 @@ module _ (x : Calendar) where
   reopened zero t h = none-shut x t
   reopened (suc k) t h =
       let over : ltb t (getD (x .again) k 0) ≡ false = le-ltb t (getD (x .again) k 0) (h k (omega arith)) in
-      rw (← add-one k, first-next x k t, reopened k t (λ j l. h j (omega arith)), over) (past (leb (getD (x .shut) k 0) t))
-    where
-      past : (a : Bool) → not (a && false) ≡ true
-      past true = refl
-      past false = refl
+      rw (← add-one k, first-next x k t, reopened k t (λ j l. h j (omega arith)), over, and-false (leb (getD (x .shut) k 0) t)) refl
 
   pub all-open : (t : ℕ) → openBefore (firstWindows x 0) t ≡ t
   all-open t = rw (first-none x) (open-all t)
@@ -73,11 +69,7 @@ module _ (x : Calendar) where
               openBefore (firstWindows x (k + 1)) t + (min again t - shut) ≡ openBefore (firstWindows x k) t →
               openBefore (firstWindows x (k + 1)) t + bit (isOpen (firstWindows x k) t && not (leb shut t && ltb t again)) + (min again (suc t) - shut)
               ≡ openBefore (firstWindows x k) t + bit (isOpen (firstWindows x k) t)
-          go (inl a) o ih = rw (lt-leb shut t a) (right (isOpen (firstWindows x k) t))
-            where
-              right : (i : Bool) → openBefore (firstWindows x (k + 1)) t + bit (i && true) + (min again (suc t) - shut) ≡ openBefore (firstWindows x k) t + bit i
-              right true = omega arith
-              right false = omega arith
+          go (inl a) o ih = rw (lt-leb shut t a, and-true (isOpen (firstWindows x k) t)) (omega arith)
           go (inr a) (inl b) ih = rw (others-open t a, le-leb shut t a, lt-ltb t again b) (omega arith)
           go (inr a) (inr b) ih = rw (others-open t a, le-leb shut t a, le-ltb t again b) (omega (arith, shut-first x range k l))
 

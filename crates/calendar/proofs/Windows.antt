@@ -1,7 +1,7 @@
 -- A walk over the windows that a struct holds: what one window more shuts, and, inside a window, what one slot more shuts. Assumes nothing.
-use mathlib.Core.Path.{_≡_, refl, ap, _∙_}
+use mathlib.Core.Path.{_≡_, refl, sym, ap, _∙_}
 use Prim.Native.Nat.{ℕ, zero, suc, _+_, _≤_, _<_}
-use mathlib.Core.Bool.{Bool, true, false, not, _&&_}
+use mathlib.Core.Bool.{Bool, true, false, not, _&&_, and-true, and-false, and-assoc}
 use mathlib.Core.List.{List, []}
 use mathlib.Core.Logic.{_⊎_, inl, inr}
 use native.Mathlib.Nat.{add-zero, zero-add}
@@ -21,18 +21,11 @@ use Rattle.calendar.specs.Held.{heldWindow, heldWindows}
 -- ---- one window more
 open-last : (g : ℕ → Window) (k s t : ℕ) → isOpen (listFrom g (suc k) s) t ≡ (isOpen (listFrom g k s) t && not (inWindow (g (s + k)) t))
 unfolding isOpen listFrom
-open-last g zero s t = rw (add-zero s) (right (not (inWindow (g s) t)))
-  where
-    right : (a : Bool) → (a && true) ≡ a
-    right true = refl
-    right false = refl
+open-last g zero s t = rw (add-zero s) (and-true (not (inWindow (g s) t)))
 open-last g (suc k) s t =
     let e : s + 1 + k ≡ s + suc k = omega arith in
-    regroup (not (inWindow (g s) t)) _ _ _ (open-last g k (s + 1) t ∙ ap (λ (j : ℕ). isOpen (listFrom g k (s + 1)) t && not (inWindow (g j) t)) e)
-  where
-    regroup : (a b c d : Bool) → d ≡ (b && c) → (a && d) ≡ ((a && b) && c)
-    regroup true b c d e = e
-    regroup false b c d e = refl
+    ap (not (inWindow (g s) t) &&_) (open-last g k (s + 1) t ∙ ap (λ (j : ℕ). isOpen (listFrom g k (s + 1)) t && not (inWindow (g j) t)) e)
+    ∙ sym (and-assoc (not (inWindow (g s) t)) (isOpen (listFrom g k (s + 1)) t) (not (inWindow (g (s + suc k)) t)))
 
 -- the first k windows
 unfoldable pub firstWindows : Calendar → ℕ → List Window
@@ -97,10 +90,6 @@ module _ (shut t : ℕ) (l : shut ≤ t) where
 pub none-in : (shut u : ℕ) → upTo shut shut u ≡ false
 none-in shut u = go (lt-or-ge u shut)
   where
-    left : (a : Bool) → (a && false) ≡ false
-    left true = refl
-    left false = refl
-
     go : (u < shut) ⊎ (shut ≤ u) → upTo shut shut u ≡ false
     go (inl b) = rw (lt-leb shut u b) refl
-    go (inr b) = rw (le-ltb u shut b) (left (leb shut u))
+    go (inr b) = rw (le-ltb u shut b) (and-false (leb shut u))

@@ -1,7 +1,6 @@
 -- A call and its outcome: what number 0 of the check leaves behind, the list put together from head and rows, and the refusal of a longer one.
 -- Assumes nothing.
 use mathlib.Core.Path.{_≡_, refl, sym, ap, _∙_}
-use mathlib.Core.Bool.{Bool, true, false}
 use Prim.Native.Nat.{ℕ, zero, suc, _+_, _*_, _-_, _≤_, _<_}
 use native.Mathlib.Nat.{div-one}
 use native.Mathlib.Numerals.{towards-suc}
@@ -10,18 +9,18 @@ use mathlib.Core.List.{List, _++_}
 use lib.ListN.{length, set, drop, length-append}
 use lib.Seq.{sets, sets-eq}
 use lib.Dec.{ltb}
-use borrow.Author.Tests.{ltb-false, eq-eqb}
+use borrow.Author.Tests.{eq-eqb}
 use Rattle.rules.specs.declared.Verdict.the-variants.{Pass}
 use Rattle.rules.specs.Walks.{if_then_else_, joinFrom}
 use Rattle.rules.specs.Fields.{bytesOf}
-use Rattle.rules.specs.Answers.{none, checkRefused, listAccepted, listRefused}
+use Rattle.rules.specs.Answers.{none, listAccepted, listRefused}
 use Rattle.rules.specs.Limits.{slots, workBytes}
 use Rattle.rules.specs.Book.{Book, flowCount}
 use Rattle.rules.specs.Calendar.{calendarOf}
-use Rattle.rules.specs.Reading.{Reading, read, readBook, bookOf, bookWith}
+use Rattle.rules.specs.Reading.{read, readBook, bookOf, bookWith}
 use Rattle.rules.specs.Rows.{Row, usedIn, workUsed, workZero}
 use Rattle.rules.specs.Table.{rowsBytes}
-use Rattle.rules.specs.Check.{tableFault, CheckOutcome, checkOutcome, checkReading, checkCall}
+use Rattle.rules.specs.Check.{tableFault, CheckOutcome, checkOutcome, checkCall}
 use Rattle.rules.specs.Dispatch.{listRows, listLength, listBytes, listOutcome, dispatchChecked, dispatchCall}
 use Rattle.rules.proofs.Fields.{bytes-length, sets-append}
 use Rattle.rules.proofs.Passing.{calendar-of-book, read-passes}
@@ -42,6 +41,7 @@ module _ (book calendar table area : List ℕ) (zero : checkCall book calendar t
   reads = check-reads book calendar table area zero
 
   accepts : (tableFault (bookWith book calendar) table ≡ Pass) × (checkCall book calendar table area ≡ checkOutcome (bookWith book calendar) table area Pass)
+      × (workBytes ≤ length area)
   accepts = call-accepts book calendar table area (bookWith book calendar) reads zero
 
   -- what is accepted with the calendar is accepted without it
@@ -58,23 +58,12 @@ module _ (book calendar table area : List ℕ) (zero : checkCall book calendar t
       ∙ ap (λ (rows : List Row). workUsed slots rows area)
       (rows-same (bookWith book calendar) (bookOf book) (with-same (calendarOf calendar) (bookOf book)) table)
 
-  area-long : workBytes ≤ length area
-  unfolding checkCall checkReading
-  area-long = go (ltb (length area) workBytes) refl (sym (ap (λ (r : Reading). checkReading table area r .answer .number) reads) ∙ zero)
-    where
-      go : (t : Bool) → ltb (length area) workBytes ≡ t →
-          (if t then record { answer = checkRefused 11 none none; area = area }
-          else checkOutcome (bookWith book calendar) table area (tableFault (bookWith book calendar) table)) .answer .number ≡ 0 →
-          workBytes ≤ length area
-      go true e z = absurd (omega arith)
-      go false e z = ltb-false (length area) workBytes e
-
   pub left-in-use : {work : List ℕ} → work ≡ checkCall book calendar table area .area → InUse book table work
   unfolding workUsed
   left-in-use {work} e =
       let is : work ≡ workUsed slots (rowsOf book table) area = e ∙ area-used in
       record {
-        room = omega (arith, area-long, ap length is ∙ used-length slots (rowsOf book table) area area-long);
+        room = omega (arith, accepts .2, ap length is ∙ used-length slots (rowsOf book table) area (accepts .2));
         used =
             is
             ∙ ap (joinFrom (λ t. bytesOf 2 (usedIn (rowsOf book table) t)) slots 0 ++_)

@@ -7,7 +7,7 @@ use mathlib.Core.List.{List}
 use lib.ListN.{length, getD, take, drop, length-drop}
 use lib.Seq.{ext-getD, getD-take, getD-drop, length-take-le}
 use Rattle.rules.specs.Walks.{listFrom}
-use Rattle.rules.specs.Fields.{byte, field, AllBytes}
+use Rattle.rules.specs.Fields.{byte, AllBytes}
 use Rattle.rules.specs.Calendar.{isOpen}
 use Rattle.rules.specs.Book.{Book, InRange}
 use Rattle.rules.specs.Reading.{bookOf}

@@ -23,7 +23,7 @@ use Rattle.rules.specs.Text.{refusalLine}
 use Rattle.rules.proofs.Division.{lt-or-ge}
 use Rattle.rules.proofs.Passing.{read-in-range}
 use Rattle.rules.proofs.TableBytes.{table-bytes-length}
-use Rattle.rules.proofs.AcceptsPlans.{unread-number}
+use Rattle.rules.proofs.Refusals.{unread-numbered}
 use Rattle.plan_text.specs.Put.{longestLine}
 use Rattle.plan_text.specs.Lines.{Stands, tableLines, lineCount, lineAt, firstLines, textOf}
 use Rattle.plan_text.specs.Printed.{Prints, lentBytes, textBytes, planText, outcomeText, readingText, printed}
@@ -102,7 +102,7 @@ module _ (out area : List ℕ) (lent : length out ≡ lentBytes) (long : workByt
   reading-prints : (input : List ℕ) (r : Reading) → readBook input noWindows ≡ r →
       Prints (readingText r) (planReading out area r .output) (planReading out area r .answer)
   unfolding readingText planReading
-  reading-prints input (unread n f j) e = refusal-prints out n f j (unread-number input noWindows n f j e)
+  reading-prints input (unread n f j) e = refusal-prints out n f j (unread-numbered input noWindows n f j e .0)
   reading-prints input (read b) e = rw (le-ltb (length area) workBytes long) (outcome-prints b (read-in-range input noWindows b e) (plan b) refl)
 
   -- any other input is answered by the planner

@@ -6,7 +6,7 @@
 use mathlib.Core.Path.{_≡_, refl, sym, ap, _∙_, subst}
 use mathlib.Core.Logic.{_⊎_, inl, inr}
 use mathlib.Core.Bool.{Bool, true, false, _&&_, and-false, true≢false}
-use Prim.Native.Nat.{ℕ, zero, suc, _+_, _/_, _%_, _^_, _≤_, _<_}
+use Prim.Native.Nat.{ℕ, zero, suc, _+_, _≤_, _<_}
 use native.Mathlib.Omega.{arith}
 use mathlib.Core.List.{List, _∷_, _++_, List·Memᴰ·cases-cons}
 use lib.ListN.{length, take, drop, getD}
@@ -16,25 +16,20 @@ use borrow.Author.Tests.{eqb-true, le-ltb, eq-eqb}
 use Rattle.rules.specs.Walks.{sumTo}
 use Rattle.rules.specs.Limits.{slots}
 use Rattle.rules.specs.Calendar.{isOpen}
-use Rattle.rules.specs.Book.{Book, flowCount, jobCount, flowOf, jobOf, hasBit, precedes, usable, InRange}
+use Rattle.rules.specs.Book.{Book, flowCount, jobCount, flowOf, jobOf, precedes, usable, InRange}
 use Rattle.rules.specs.Rows.{Row, sumWhere, usedIn, isOf, totalOf, doneBefore}
 use Rattle.rules.specs.Schedule.{Schedule, everyFlow, IsJob, inUse, Valid, InSlots, scheduleOf, scheduleRows}
 use Rattle.rules.specs.Check.{noRow}
 use Rattle.rules.proofs.Caps.{used-in-range}
 use Rattle.rules.proofs.Division.{lt-or-ge}
-use Rattle.rules.proofs.Bits.{left-below}
+use Rattle.rules.proofs.Bits.{bit-below}
 use Rattle.rules.proofs.Sums.{sum-ext, sum-quiet}
 use Rattle.rules.proofs.Rising.{_∈_, at-in, in-at, Rising, rising-after}
 use Rattle.rules.proofs.RowOrder.{Before, before-slot, rises-rising, rising-rises}
 use Rattle.rules.proofs.RowSums.{IsAt, counted-true, counted-false, sum-where-append, sum-where-none, sum-where-next, sum-where-take, schedule-none, schedule-met, sum-schedule, total-by, done-le-total, used-in-use}
 use Rattle.rules.proofs.ScheduleRows.{IsRow, row-is-job, rising-schedule, schedule-rows-rising, schedule-rows-in, rows-of-schedule, valid-within, schedule-of-rows}
-use Rattle.rules.proofs.Usable.{usable-open, released, usable-from}
+use Rattle.rules.proofs.Usable.{usable-open, released, usable-from, given-usable}
 use Rattle.rules.proofs.TablePasses.{PredecessorsDone, RowPasses, RowsPass}
-
--- a bit of a number below 2 ^ i is one of the lowest i
-bit-below : (p i k : ℕ) → p < 2 ^ i → hasBit p k ≡ true → k < i
-unfolding hasBit
-bit-below p i k l e = left-below p (p / 2 ^ k) k refl i l (λ none. omega (arith, eqb-true (p / 2 ^ k % 2) 1 e))
 
 -- a predecessor is a job with a lower number
 pub predecessor-below : (b : Book) → InRange b → (f i k : ℕ) → f < flowCount b → i < jobCount (flowOf b f) → precedes (flowOf b f) k i ≡ true → k < i
@@ -241,13 +236,6 @@ module _ (b : Book) (range : InRange b) (σ : Schedule) (valid : Valid b everyFl
       let by-horizon = sum-quiet (σ f i) (valid .horizon) slots (λ t l. valid .nothing-after f i t l) in
       omega (arith, total-by rows f i slots slot-of, done-given f i slots, valid .sizes f i j)
 
-  given-usable : (f i t : ℕ) → IsJob b everyFlow f i → 0 < σ f i t → usable b (flowOf b f) t ≡ true
-  given-usable f i t j some = go (usable b (flowOf b f) t) refl
-    where
-      go : (c : Bool) → usable b (flowOf b f) t ≡ c → usable b (flowOf b f) t ≡ true
-      go true e = e
-      go false e = absurd (omega (arith, some, valid .in-usable f i t j e))
-
   row-passes : (k : ℕ) → k < length rows → RowPasses b (isOpen (b .calendar)) rows k
   unfolding PredecessorsDone
   row-passes k l =
@@ -255,7 +243,7 @@ module _ (b : Book) (range : InRange b) (σ : Schedule) (valid : Valid b everyFl
       let o = schedule-rows-in b σ r (at-in rows k noRow l) in
       let j = row-is-job b r (o .is-row .in-book) in
       let given-some : 0 < σ (r .flow) (r .job) (r .slot) = omega (arith, o .given-there, o .is-row .takes) in
-      let can = given-usable (r .flow) (r .job) (r .slot) j given-some in
+      let can = given-usable b everyFlow σ valid (r .flow) (r .job) (r .slot) j given-some in
       record {
         slot-in = o .is-row .slot-in;
         flow-in = j .flow-in;

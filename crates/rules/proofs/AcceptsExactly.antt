@@ -2,24 +2,21 @@
 -- A table that is accepted has the bytes that its rows give, and its rows are those of the schedule that they state, which is valid. The
 -- other way, the table of a valid schedule reads back as its rows, and these pass. Assumes nothing.
 use mathlib.Core.Path.{_≡_, refl, sym, ap, _∙_, subst}
-use mathlib.Core.Bool.{Bool, true, false}
 use Prim.Native.Nat.{ℕ, _≤_}
 use native.Mathlib.Omega.{arith}
 use mathlib.Core.List.{List}
 use lib.ListN.{length}
-use lib.Dec.{ltb}
 use borrow.Author.Tests.{le-ltb}
 use Rattle.rules.specs.declared.Verdict.{Verdict}
 use Rattle.rules.specs.declared.Verdict.the-variants.{Pass, Refused}
-use Rattle.rules.specs.Walks.{if_then_else_}
 use Rattle.rules.specs.Fields.{AllBytes}
-use Rattle.rules.specs.Answers.{none, checkAccepted, checkRefused}
+use Rattle.rules.specs.Answers.{checkAccepted}
 use Rattle.rules.specs.Limits.{slots, workBytes}
 use Rattle.rules.specs.Book.{Book, InRange}
 use Rattle.rules.specs.Reading.{read, readBook}
 use Rattle.rules.specs.Rows.{Row, lateFlows}
 use Rattle.rules.specs.Table.{tableLength, tableBytes}
-use Rattle.rules.specs.Check.{tableRows, tableFault, CheckOutcome, checkOutcome, checkReading, checkCall}
+use Rattle.rules.specs.Check.{tableRows, tableFault, checkOutcome, checkReading, checkCall}
 use Rattle.rules.specs.Schedule.{Schedule, everyFlow, Valid, InSlots, scheduleOf, scheduleRows, scheduleTable}
 use Rattle.rules.specs.Demands.{IsScheduleTable, AcceptsExactly}
 use Rattle.rules.proofs.Caps.{used-in-range}
@@ -30,6 +27,7 @@ use Rattle.rules.proofs.ScheduleRows.{row-is-job, schedule-rows-in, sch
 use Rattle.rules.proofs.TableBytes.{RowFits, table-rows-written, head-written, finish-written, table-read}
 use Rattle.rules.proofs.TablePasses.{RowsPass, table-passes, passes-table}
 use Rattle.rules.proofs.AcceptedRows.{passing-rows, passing-valid, passing-in-slots, valid-passes}
+use Rattle.rules.proofs.CallCases.{check-cases}
 use Rattle.rules.proofs.Refusals.{Numbered, ofTable, table-numbered}
 
 -- ---- the table of a valid schedule passes
@@ -90,29 +88,24 @@ module _ (b : Book) (s area : List ℕ) where
   outcome-accepts (Refused n f j) h e = absurd (omega (arith, h .among n f j refl .0))
 
   reading-accepts : checkReading s area (read b) .answer .number ≡ 0 →
-      (tableFault b s ≡ Pass) × (checkReading s area (read b) ≡ checkOutcome b s area Pass)
-  unfolding checkReading
-  reading-accepts e = go (ltb (length area) workBytes) e
-    where
-      outcome : Bool → CheckOutcome
-      outcome t = if t then record { answer = checkRefused 11 none none; area = area } else checkOutcome b s area (tableFault b s)
-
-      go : (t : Bool) → outcome t .answer .number ≡ 0 → (tableFault b s ≡ Pass) × (outcome t ≡ checkOutcome b s area Pass)
-      go true e = absurd (omega arith)
-      go false e = let pass = outcome-accepts (tableFault b s) (table-numbered b s) e in (pass, ap (checkOutcome b s area) pass)
+      (tableFault b s ≡ Pass) × (checkReading s area (read b) ≡ checkOutcome b s area Pass) × (workBytes ≤ length area)
+  reading-accepts =
+      check-cases b s area (λ o. o .answer .number ≡ 0 → (tableFault b s ≡ Pass) × (o ≡ checkOutcome b s area Pass) × (workBytes ≤ length area))
+      (λ l e. absurd (omega arith))
+      (λ l e. let pass = outcome-accepts (tableFault b s) (table-numbered b s) e in (pass, ap (checkOutcome b s area) pass, l))
 
   passing-accepted : tableFault b s ≡ Pass → workBytes ≤ length area → checkReading s area (read b) ≡ checkOutcome b s area Pass
   unfolding checkReading
   passing-accepted pass long = rw (le-ltb (length area) workBytes long, pass) refl
 
--- a call that answers 0 has a table without a fault, and the outcome of such a table
+-- a call that answers 0 has a table without a fault, the outcome of such a table, and a work area that is long enough
 pub call-accepts : (book calendar table area : List ℕ) (b : Book) → readBook book calendar ≡ read b → checkCall book calendar table area .answer .number ≡ 0 →
-    (tableFault b table ≡ Pass) × (checkCall book calendar table area ≡ checkOutcome b table area Pass)
+    (tableFault b table ≡ Pass) × (checkCall book calendar table area ≡ checkOutcome b table area Pass) × (workBytes ≤ length area)
 unfolding checkCall
 call-accepts book calendar table area b reads zero =
     let same = ap (checkReading table area) reads in
     let w = reading-accepts b table area (ap (λ o. o .answer .number) (sym same) ∙ zero) in
-    (w .0, same ∙ w .1)
+    (w .0, same ∙ w .1, w .2)
 
 -- a table without a fault is that of the schedule that its rows state
 pub faultless-is-schedule : (b : Book) → InRange b → (s : List ℕ) → AllBytes s → tableFault b s ≡ Pass → IsScheduleTable b s (lateFlows b (tableRows b s))

@@ -3,7 +3,7 @@
 -- processors free, and the rows of the others stand behind theirs. Assumes nothing.
 use mathlib.Core.Path.{_≡_, refl, sym, ap, subst, _∙_}
 use Prim.Native.Nat.{ℕ, zero, suc, _+_, _≤_, _<_}
-use mathlib.Core.Bool.{Bool, true, false}
+use mathlib.Core.Bool.{true, false, not-eq-not}
 use mathlib.Core.List.{List, _++_}
 use native.Mathlib.Omega.{arith}
 use lib.ListN.{length, length-append, List·getD-append}
@@ -12,27 +12,25 @@ use Rattle.rules.specs.Walks.{bit, countTo, joinFrom}
 use Rattle.rules.specs.Limits.{workBytes}
 use Rattle.rules.specs.Book.{Flow, Book, flowCount, noFlow, flowIn, lowerCaps, flowOf}
 use Rattle.rules.specs.Reading.{read}
-use Rattle.rules.specs.Service.{servedBefore, position}
+use Rattle.rules.specs.Service.{servedBefore, servedAt, position}
 use Rattle.rules.specs.Rows.{Row, finishOf, isLate, lateFlows}
 use Rattle.rules.specs.Placing.{Plan, planned, infeasible, placeFlow, thenPlace, placeFirst, rowsOf, plan}
 use Rattle.rules.specs.Table.{tableLength}
-use Rattle.rules.specs.Planner.{planOutcome, planCall}
+use Rattle.rules.specs.Planner.{planCall}
 use Rattle.rules.specs.Check.{tableRows}
 use Rattle.rules.specs.Finish.{finishReading}
 use Rattle.rules.specs.Quote.{workOf, workUpTo, quote, appended}
 use Rattle.rules.specs.Demands.{PlansByTheRules, Appended, tableOf, KeepsTable, Appends}
 use Rattle.rules.proofs.Sums.{sum-ext, sum-split, sum-up, count-none}
 use Rattle.rules.proofs.Walks.{join-split}
-use Rattle.rules.proofs.Passing.{read-in-range}
 use Rattle.rules.proofs.ServiceOrder.{service-below, served-asymmetric}
 use Rattle.rules.proofs.Position.{position-served, position-below, served-position}
 use Rattle.rules.proofs.SameUse.{place-same}
-use Rattle.rules.proofs.PlannedRows.{servedAt, servedFlow, plannedGrid, placed-rows, placed-up-to, stopped-on, finish-settled}
-use Rattle.rules.proofs.Demand3.{call-plans}
+use Rattle.rules.proofs.PlannedRows.{servedFlow, plannedGrid, placed-rows, placed-up-to, stopped-on, finish-settled}
 use Rattle.rules.proofs.PlansByTheRules.{plans-by-the-rules}
 use Rattle.rules.proofs.WrittenPlans.{written-rows, written-finish}
 use Rattle.rules.proofs.Quotes.{work-served}
-use Rattle.rules.proofs.PlanNumbers.{planned-written, plan-by, plan-number-0, plan-number-12, plan-read}
+use Rattle.rules.proofs.CallCases.{outcome-infeasible, outcome-written, call-case, call-plans, plan-number-0, plan-number-12}
 use Rattle.rules.proofs.Finishes.{finish-read}
 
 module _ (b : Book) (more : List Flow)
@@ -53,11 +51,7 @@ module _ (b : Book) (more : List Flow)
   same-served g f h l = rw (same-flow g h, same-flow f l) refl
 
   not-before : (f g : ℕ) → f < flowCount b → flowCount b ≤ g → g < flowCount longer → servedBefore longer g f ≡ false
-  not-before f g l h c = go (servedBefore longer g f) refl
-    where
-      go : (t : Bool) → servedBefore longer g f ≡ t → t ≡ false
-      go true e = absurd (served-asymmetric longer f g (later f g l h c) e)
-      go false e = refl
+  not-before f g l h c = not-eq-not {b = false} .0 (served-asymmetric longer f g (later f g l h c))
 
   same-position : (f : ℕ) → f < flowCount b → position longer f ≡ position b f
   unfolding position
@@ -192,23 +186,20 @@ module _ (book longer-book calendar : List ℕ) (b : Book) (more : List Flow) (a
   accepted-before out area out′ area′ z l h =
       let long = appended b more in
       let p = accepted-plan out′ area′ z in
-      let enough = plan-number-0 long out′ area′ (ap (λ o. o .answer .number) (sym (plan-read longer-book calendar long (a .longer-reads) out′ area′)) ∙ z) in
+      let enough = plan-number-0 (call-case longer-book calendar out′ area′ long (a .longer-reads)) z in
       ap (λ o. o .answer .number)
-      (call-plans b (read-in-range book calendar b (a .reads)) out area book calendar (a .reads) h ∙ ap (planOutcome b out area) (p .placed)
-      ∙ planned-written b out area (p .earlier) (omega (arith, l, enough, table-no-longer b more (a .all-later) (rowsOf (plan long)) p)))
+      (call-plans book calendar out area b (a .reads) h
+      ∙ outcome-written b out area (p .earlier) (p .placed) (omega (arith, l, enough, table-no-longer b more (a .all-later) (rowsOf (plan long)) p)))
 
   infeasible-still : (out area out′ area′ : List ℕ) → planCall book calendar out area .answer .number ≡ 12 → workBytes ≤ length area′ →
       planCall longer-book calendar out′ area′ .answer ≡ planCall book calendar out area .answer
-  unfolding planOutcome
   infeasible-still out area out′ area′ z h =
       let long = appended b more in
-      let same = plan-read book calendar b (a .reads) out area in
-      let number = ap (λ o. o .answer .number) (sym same) ∙ z in
-      let w = plan-number-12 b out area number in
+      let w = plan-number-12 (call-case book calendar out area b (a .reads)) z in
       ap (λ o. o .answer)
-      (call-plans long (read-in-range longer-book calendar long (a .longer-reads)) out′ area′ longer-book calendar (a .longer-reads) h
-      ∙ ap (planOutcome long out′ area′) (still-infeasible b more (a .all-later) (w .0) (w .1)))
-      ∙ ap (λ o. o .answer) (sym (same ∙ plan-by b out area 12 (λ e. omega arith) number ∙ ap (planOutcome b out area) (w .1)))
+      (call-plans longer-book calendar out′ area′ long (a .longer-reads) h
+      ∙ outcome-infeasible long out′ area′ (w .0) (still-infeasible b more (a .all-later) (w .0) (w .1)))
+      ∙ ap (λ o. o .answer) (sym (w .2))
 
 pub appends : Appends
 unfolding Appends

@@ -1,13 +1,14 @@
 -- The bits of a number, read by halving it: after k halvings the lowest bit is bit k, and where 0 is left, no later bit is set.
 -- Assumes nothing.
-use mathlib.Core.Path.{_≡_, ap, _∙_}
-use mathlib.Core.Bool.{Bool, false}
+use mathlib.Core.Path.{_≡_, refl, ap, _∙_}
+use mathlib.Core.Bool.{Bool, true, false}
 use Prim.Native.Nat.{ℕ, _+_, _-_, _/_, _%_, _^_, _≤_, _<_}
 use mathlib.Core.Logic.{_⊎_, inl, inr}
 use native.Mathlib.Nat.{div-one, zero-div, div-eq-of-lt, pow-le-pow-right}
 use native.Mathlib.Omega.{arith}
 use lib.Dec.{eqb}
 use lib.Pow.{shr-shr}
+use borrow.Author.Tests.{eqb-true}
 use Rattle.rules.specs.Book.{hasBit}
 use Rattle.rules.proofs.Division.{lt-or-ge}
 
@@ -41,3 +42,8 @@ module _ (p b k : ℕ) (left : b ≡ p / 2 ^ k) where
       go : (k < n) ⊎ (n ≤ k) → k < n
       go (inl l) = l
       go (inr l) = absurd (some (left ∙ div-eq-of-lt (omega (arith, pow-le-pow-right {n = 2} (omega arith) l))))
+
+-- a bit of a number below 2 ^ n is one of the lowest n
+pub bit-below : (p n k : ℕ) → p < 2 ^ n → hasBit p k ≡ true → k < n
+unfolding hasBit
+bit-below p n k l e = left-below p (p / 2 ^ k) k refl n l (λ none. omega (arith, eqb-true (p / 2 ^ k % 2) 1 e))

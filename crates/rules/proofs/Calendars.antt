@@ -6,15 +6,13 @@ use mathlib.Core.Bool.{Bool, true, false, _&&_, true≢false}
 use Prim.Native.Nat.{ℕ, _*_}
 use native.Mathlib.Omega.{arith}
 use mathlib.Core.List.{List, []}
-use lib.ListN.{length}
-use lib.Dec.{ltb, leb}
+use lib.Dec.{leb}
 use borrow.Author.Tests.{leb-false}
 use Rattle.rules.specs.declared.Verdict.{Verdict}
 use Rattle.rules.specs.declared.Verdict.the-variants.{Pass, Refused}
-use Rattle.rules.specs.Walks.{if_then_else_, anyTo, listFrom}
+use Rattle.rules.specs.Walks.{anyTo, listFrom}
 use Rattle.rules.specs.Fields.{field}
 use Rattle.rules.specs.Answers.{none, _andThen_, checkRefused}
-use Rattle.rules.specs.Limits.{workBytes}
 use Rattle.rules.specs.Calendar.{Calendar, isOpen, openBefore, noWindows, calendarOf, calendarFault}
 use Rattle.rules.specs.Book.{Flow, Book, withCalendar, flowIn, flowOf, usable, twiceDeadline}
 use Rattle.rules.specs.Reading.{bookOf, bookFault, Reading, read, unread, readingOf, readBook}
@@ -27,6 +25,7 @@ use Rattle.rules.proofs.Faults.{not-pass}
 use Rattle.rules.proofs.OpenSlots.{always, open-all, limit-without}
 use Rattle.rules.proofs.Usable.{always-open, not-released, shut-unusable}
 use Rattle.rules.proofs.Versions.{read-calendar}
+use Rattle.rules.proofs.CallCases.{check-cases}
 use Rattle.rules.proofs.Refusals.{Numbered, calendar-either, unread-numbered, withoutShut, table-numbered-by}
 
 -- ---- 24
@@ -130,14 +129,9 @@ module _ (b : Book) (s area : List ℕ) (without : b .calendar ≡ []) where
   outcome-not-25 (Refused n f j) h z = true≢false (sym (h .among n f j refl .1) ∙ ap withoutShut z)
 
   read-not-25 : checkReading s area (read b) .answer .number ≡ 25 → ⊥
-  unfolding checkReading
-  read-not-25 = go (ltb (length area) workBytes)
-    where
-      go : (t : Bool) → (if t then record { answer = checkRefused 11 none none; area = area } else checkOutcome b s area (tableFault b s)) .answer .number ≡ 25 → ⊥
-      go true z = omega arith
-      go false z =
-          outcome-not-25 (tableFault b s)
-          (table-numbered-by withoutShut b s (λ n e. e) (λ t e. absurd (true≢false (sym (always-open b t without) ∙ e)))) z
+  read-not-25 =
+      check-cases b s area (λ o. o .answer .number ≡ 25 → ⊥) (λ l z. omega arith)
+      (λ l. outcome-not-25 (tableFault b s) (table-numbered-by withoutShut b s (λ n e. e) (λ t e. absurd (true≢false (sym (always-open b t without) ∙ e)))))
 
 never-25 : (book table area : List ℕ) → checkCall book noWindows table area .answer .number ≡ 25 → ⊥
 unfolding checkCall checkReading

@@ -5,7 +5,7 @@ use mathlib.Core.Path.{_≡_, refl, sym, ap, ap₂, _∙_}
 use Prim.Native.Nat.{ℕ, zero, suc, _+_, _≤_, _<_}
 use mathlib.Core.Bool.{Bool, true, false, false≢true}
 use mathlib.Core.List.{List, [], _∷_}
-use mathlib.Core.Logic.{_⊎_, inl, inr, ⊎-elim}
+use mathlib.Core.Logic.{inl, inr, ⊎-elim}
 use native.Mathlib.Nat.{add-zero, zero-add, not-suc-le-zero, le-of-suc-le-suc, eq-or-lt-of-le}
 use native.Mathlib.Numerals.{add-one}
 use native.Mathlib.Omega.{arith}
@@ -13,18 +13,14 @@ use lib.ListN.{length, getD}
 use lib.Dec.{eqb}
 use borrow.Author.Tests.{eqb-true, eq-eqb}
 use Rattle.rules.specs.Walks.{if_then_else_, sumTo, bit, countTo, anyTo}
-use Rattle.rules.specs.declared.Verdict.the-variants.{Pass}
-use Rattle.rules.specs.Calendar.{calendarOf, calendarFault}
 use Rattle.rules.specs.Book.{Flow, Book, flowCount, noFlow, flowIn, lowerCaps, flowOf, InRange}
-use Rattle.rules.specs.Reading.{bookBytes, readBook}
-use Rattle.rules.specs.Reading.Reading.{read}
-use Rattle.rules.specs.Service.{servedBefore}
+use Rattle.rules.specs.Service.{servedBefore, servedAt}
 use Rattle.rules.specs.Cut.{amongFirst, keepFlows, cut, numberInCut}
-use Rattle.rules.proofs.Division.{lt-or-ge}
+use Rattle.rules.proofs.Division.{neither-less}
 use Rattle.rules.proofs.Sums.{sum-ext, sum-add, sum-first, count-none, count-most, count-equal, bit-or}
 use Rattle.rules.proofs.Walks.{next-start, any-true, any-met}
-use Rattle.rules.proofs.ServiceOrder.{Earlier, served-earlier, earlier-served, service-below, service-position, service-sorted, service-once, servedAt, SortedTo, EachIn, sorted-agree}
-use Rattle.rules.proofs.RoundTrip.{Writable, read-written}
+use Rattle.rules.proofs.ServiceOrder.{Earlier, served-earlier, earlier-served, service-below, service-position, service-sorted, service-once, SortedTo, EachIn, sorted-agree}
+use Rattle.rules.proofs.RoundTrip.{Writable}
 
 -- ---- the numbers that pass a test
 -- of the n numbers from s on, those that pass a test
@@ -174,12 +170,7 @@ module _ (b : Book) (k : ℕ) where
 
   -- so flows that differ stay so
   pub kept-once : (m n : ℕ) → m < flowCount (cut b k) → n < flowCount (cut b k) → kept b k m ≡ kept b k n → m ≡ n
-  kept-once m n p q e = go (lt-or-ge m n) (lt-or-ge n m)
-    where
-      go : (m < n) ⊎ (n ≤ m) → (n < m) ⊎ (m ≤ n) → m ≡ n
-      go (inl l) y = absurd (omega (arith, kept-rises m n l q))
-      go (inr l) (inl h) = absurd (omega (arith, kept-rises n m h p))
-      go (inr l) (inr h) = omega arith
+  kept-once m n p q e = neither-less m n (λ l. omega (arith, kept-rises m n l q)) (λ l. omega (arith, kept-rises n m l p))
 
   -- and the number that it has in the cut book is counted off there
   pub number-kept : (n : ℕ) → n < flowCount (cut b k) → numberInCut b k (kept b k n) ≡ n
@@ -232,12 +223,6 @@ module _ (b : Book) (k : ℕ) where
     release-fits = λ f l. rw (cut-flow-in f l) (can .release-fits (kept b k f) (kept-below f l));
   }
 
--- "a book of its own", which keeps its version and its calendar
-pub cut-reads : (v : ℕ) (b : Book) (k : ℕ) (calendar : List ℕ) → InRange b → Writable v b → calendarFault calendar ≡ Pass → calendarOf calendar ≡ b .calendar →
-    readBook (bookBytes v (cut b k)) calendar ≡ read (cut b k)
-cut-reads v b k calendar r can passes same =
-    read-written v (cut b k) calendar (cut-in-range b k r) (cut-writable b k v can) passes (same ∙ sym (cut-calendar b k))
-
 -- ---- how many flows are kept
 -- the flows among the first k are those at the positions below k
 pub among-position : (b : Book) (k f : ℕ) → amongFirst b k f ≡ true → (n : ℕ) × (n < k) × (servedAt b n ≡ f)
@@ -250,6 +235,10 @@ pub position-among : (b : Book) (k n : ℕ) → n < k → amongFirst b k (served
 unfolding amongFirst
 position-among b k n l =
     any-true (λ m. eqb (servedAt b m) (servedAt b n)) k n l (eq-eqb (servedAt b n) (servedAt b n) refl)
+
+-- every flow is among all
+pub among-all : (b : Book) (f : ℕ) → f < flowCount b → amongFirst b (flowCount b) f ≡ true
+among-all b f l = let w = service-position b f l in rw (w .2) at (position-among b (flowCount b) (w .0) (w .1))
 
 -- the flow at position k is not among the first k, so that each position adds one
 among-next : (b : Book) (k f : ℕ) → k < flowCount b → bit (amongFirst b (suc k) f) ≡ bit (amongFirst b k f) + bit (eqb (servedAt b k) f)
@@ -341,7 +330,4 @@ keep-all q s (w ∷ ws) h =
 
 pub cut-whole : (b : Book) → cut b (flowCount b) ≡ b
 unfolding cut
-cut-whole b = λ x. record { processors = b .processors; flows = keep-all (amongFirst b (flowCount b)) 0 (b .flows) (λ i l. every (0 + i) (omega arith)) x; calendar = b .calendar }
-  where
-    every : (f : ℕ) → f < flowCount b → amongFirst b (flowCount b) f ≡ true
-    every f l = let w = service-position b f l in rw (w .2) at (position-among b (flowCount b) (w .0) (w .1))
+cut-whole b = λ x. record { processors = b .processors; flows = keep-all (amongFirst b (flowCount b)) 0 (b .flows) (λ i l. among-all b (0 + i) (omega arith)) x; calendar = b .calendar }

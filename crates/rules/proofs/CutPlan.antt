@@ -11,12 +11,12 @@ use Rattle.rules.specs.Walks.{if_then_else_, joinFrom}
 use Rattle.rules.specs.Fields.{bytesOf}
 use Rattle.rules.specs.Book.{Flow, Book, flowCount, jobCount, flowOf, usable, InRange}
 use Rattle.rules.specs.PseudoJobs.{PseudoJob}
+use Rattle.rules.specs.Service.{servedAt}
 use Rattle.rules.specs.Rows.{Row, rowFor, sumWhere, usedIn, finishOf, workUsed}
 use Rattle.rules.specs.Placing.{share, given, slotRows, progress, flowRows, freeProcessors, slotsFor, Plan, planned, infeasible, settled, placeFlow, thenPlace, placeFirst, plan}
 use Rattle.rules.specs.Cut.{cut}
 use Rattle.rules.proofs.Rising.{_∈_, first-in}
 use Rattle.rules.proofs.OpenSlots.{limit-same}
-use Rattle.rules.proofs.ServiceOrder.{servedAt}
 use Rattle.rules.proofs.CutBook.{kept, kept-once, cut-processors, cut-calendar, cut-count, cut-in-range, cut-service, cut-service-flow}
 use Rattle.rules.proofs.PlannedValid.{planned-rows-fit}
 use Rattle.rules.proofs.Position.{same-test}

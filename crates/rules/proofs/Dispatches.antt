@@ -17,7 +17,7 @@ use Rattle.rules.specs.Answers.{none, listAccepted, listRefused}
 use Rattle.rules.specs.Limits.{slots, workBytes}
 use Rattle.rules.specs.Calendar.{calendarOf}
 use Rattle.rules.specs.Book.{Book, lowered, InRange}
-use Rattle.rules.specs.Reading.{versionOf, Reading, read, unread, bookOf, bookWith, readBook, bookBytes}
+use Rattle.rules.specs.Reading.{versionOf, read, bookOf, bookWith, readBook, bookBytes}
 use Rattle.rules.specs.Rows.{Row, usedIn, workUsed, workZero}
 use Rattle.rules.specs.Placing.{rowsOf, plan}
 use Rattle.rules.specs.Schedule.{scheduleOf}
@@ -38,9 +38,9 @@ use Rattle.rules.proofs.TablePasses.{TablePasses, table-passes}
 use Rattle.rules.proofs.AcceptedRows.{passing-rising, passing-use}
 use Rattle.rules.proofs.PlannedValid.{planned-valid, planned-in-slots}
 use Rattle.rules.proofs.PlannedTable.{planned-rows-are-schedule-rows}
-use Rattle.rules.proofs.Refusals.{demand-1}
+use Rattle.rules.proofs.Refusals.{zero-reads, demand-1}
 use Rattle.rules.proofs.AcceptsExactly.{row-fits, call-accepts}
-use Rattle.rules.proofs.AcceptsPlans.{unread-number, accepts-plans}
+use Rattle.rules.proofs.AcceptsPlans.{accepts-plans}
 use Rattle.rules.proofs.PlansByTheRules.{plans-by-the-rules}
 use Rattle.rules.proofs.WrittenPlans.{written-rows}
 use Rattle.rules.proofs.Versions.{version-2-reads, version-1-kept}
@@ -138,11 +138,7 @@ module _ (b : Book) (rows : List Row) (out area : List ℕ) (fits : (r : Row) �
 pub check-reads : (book calendar table area : List ℕ) → checkCall book calendar table area .answer .number ≡ 0 →
     readBook book calendar ≡ read (bookWith book calendar)
 unfolding checkCall checkReading
-check-reads book calendar table area = go (readBook book calendar) refl
-  where
-    go : (r : Reading) → readBook book calendar ≡ r → checkReading table area r .answer .number ≡ 0 → readBook book calendar ≡ read (bookWith book calendar)
-    go (read b) e z = e ∙ ap read (read-passes book calendar b e .is-book)
-    go (unread n f j) e z = absurd (omega (arith, unread-number book calendar n f j e))
+check-reads book calendar table area = zero-reads book calendar (λ r. checkReading table area r .answer .number) (λ n f j. refl)
 
 module _ (book calendar : List ℕ) (b : Book) (reads : readBook book calendar ≡ read b) (table out area : List ℕ) where
   abbrev call : DispatchOutcome

@@ -16,6 +16,15 @@ lt-or-ge a b = go (decLt a b)
     go (yes h) = inl h
     go (no h) = inr (omega arith)
 
+-- two numbers of which neither is less
+pub neither-less : (m n : ℕ) → (m < n → ⊥) → (n < m → ⊥) → m ≡ n
+neither-less m n p q = go (lt-or-ge m n) (lt-or-ge n m)
+  where
+    go : (m < n) ⊎ (n ≤ m) → (n < m) ⊎ (m ≤ n) → m ≡ n
+    go (inl l) o = absurd (p l)
+    go (inr l) (inl h) = absurd (q h)
+    go (inr l) (inr h) = omega arith
+
 -- order of quotient and rest is lexical
 pub div-mod-mono : (x y : ℕ) {r : ℕ} → 0 < r → x ≤ y → (x / r < y / r) ⊎ ((x / r ≡ y / r) × (x % r ≤ y % r))
 div-mod-mono x y {r} pos h = go (lt-or-ge (x / r) (y / r)) (lt-or-ge (y / r) (x / r))

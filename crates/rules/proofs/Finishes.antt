@@ -21,16 +21,15 @@ use Rattle.rules.specs.Book.{Book, flowCount, lowered, InRange}
 use Rattle.rules.specs.Reading.{versionOf, bookOf, bookFault, bookWith, read, readBook, bookBytes}
 use Rattle.rules.specs.Rows.{Row, finishOf}
 use Rattle.rules.specs.Placing.{Plan, planned, infeasible, placeFirst, rowsOf, plan}
-use Rattle.rules.specs.Table.{tableLength, tableBytes}
-use Rattle.rules.specs.Planner.{planOutcome, planReading, planCall}
+use Rattle.rules.specs.Table.{tableLength, tableBytes, finishIn}
+use Rattle.rules.specs.Planner.{PlanOutcome, planCall}
 use Rattle.rules.specs.Cut.{cut, numberInCut}
-use Rattle.rules.specs.Service.{position}
+use Rattle.rules.specs.Service.{servedAt, position}
 use Rattle.rules.specs.Finish.{upToNamed, FinishOutcome, finishOutcome, finishReading, unknownFlow, inputFault, finishCall}
-use Rattle.rules.specs.Demands.{byEleven, PlansByTheRules, WithinTwice, finishByEleven, FinishRefusal, finishIn, planOfCut, AsForCut, RefusedFlow, Finishes}
+use Rattle.rules.specs.Demands.{byEleven, PlansByTheRules, WithinTwice, finishByEleven, FinishRefusal, planOfCut, AsForCut, RefusedFlow, Finishes}
 use Rattle.rules.proofs.Division.{lt-or-ge}
 use Rattle.rules.proofs.Passing.{ReadWith, read-passes, read-in-range}
 use Rattle.rules.proofs.Versions.{version-2-reads}
-use Rattle.rules.proofs.ServiceOrder.{servedAt}
 use Rattle.rules.proofs.CutBook.{kept, kept-among, among-kept, number-kept, position-among, cut-in-range}
 use Rattle.rules.proofs.Position.{position-below, served-position}
 use Rattle.rules.proofs.SameUse.{SameUse, finish-reading-same}
@@ -39,12 +38,12 @@ use Rattle.rules.proofs.PlannedRows.{placing-stops, placed-up-to, finis
 use Rattle.rules.proofs.PlannedValid.{first-finish-within-twice}
 use Rattle.rules.proofs.Infeasible.{up-to-at, stopped-proves}
 use Rattle.rules.proofs.Demand3Values.{planned-finish-fits, infeasible-proves}
-use Rattle.rules.proofs.Demand3.{call-plans, read-cut}
+use Rattle.rules.proofs.Demand3.{read-cut}
 use Rattle.rules.proofs.CutPlan.{renumber, renumberPlan, work-renumbered, cut-plan, cut-finish}
 use Rattle.rules.proofs.TableBytes.{finish-in-front, finish-written}
 use Rattle.rules.proofs.PlansByTheRules.{plans-by-the-rules}
 use Rattle.rules.proofs.WrittenPlans.{written-finish}
-use Rattle.rules.proofs.PlanNumbers.{planned-too-long, planned-written, infeasible-12, plan-number-12, plan-number-13, plan-read}
+use Rattle.rules.proofs.CallCases.{by-length, PlanCase, short-11, stopped-12, long-13, written-0, outcome-infeasible, call-case, call-plans, plan-number-12, plan-number-13}
 use Rattle.rules.proofs.Refusals.{early-number, book-numbered, calendar-numbered}
 
 -- ---- what a call answers and leaves
@@ -99,24 +98,24 @@ module _ (b : Book) (f : ℕ) (area : List ℕ) where
   outcome-ended h = rw (le-ltb (length area) workBytes h) refl
 
   -- these are all
-  outcome-cases : {X : Type 0} → (length area < workBytes → X) → (workBytes ≤ length area → X) → X
-  outcome-cases short ended = ⊎-elim short ended (lt-or-ge (length area) workBytes)
+  outcome-cases : (X : FinishOutcome → Type 0) → (length area < workBytes → X (refusedEarly 11 none none area)) →
+      (workBytes ≤ length area → X (finishOutcome f area ending)) → X outcome
+  unfolding finishReading
+  outcome-cases X = by-length X (length area) workBytes _ _
 
   outcome-most : outcome .answer .number ≤ 12
-  outcome-most =
-      outcome-cases (λ h. omega (arith, ap (λ o. o .answer .number) (outcome-short h)))
-      (λ h. omega (arith, ap (λ o. o .answer .number) (outcome-ended h), ended-most f area ending))
+  outcome-most = outcome-cases (λ o. o .answer .number ≤ 12) (λ h. omega arith) (λ h. ended-most f area ending)
 
   outcome-answers : FinishAnswers area outcome
   outcome-answers =
-      outcome-cases
-      (λ h. subst (FinishAnswers area) (sym (outcome-short h)) (early-answers 11 none none area refl))
-      (λ h. subst (FinishAnswers area) (sym (outcome-ended h)) (record { number-is = inl (ended-most f area ending); refusal = ended-refusal f area ending }))
+      outcome-cases (FinishAnswers area) (λ h. early-answers 11 none none area refl)
+      (λ h. record { number-is = inl (ended-most f area ending); refusal = ended-refusal f area ending })
 
   -- 0 and 12 say how the placing ended
-  ended-0 : (p : Plan) → finishOutcome f area p .answer .number ≡ 0 → p ≡ planned (rowsOf p)
+  ended-0 : (p : Plan) → finishOutcome f area p .answer .number ≡ 0 →
+      (p ≡ planned (rowsOf p)) × (finishOutcome f area p .answer .finish ≡ finishOf (rowsOf p) f)
   unfolding finishOutcome
-  ended-0 (planned rows) e = refl
+  ended-0 (planned rows) e = (refl, refl)
   ended-0 (infeasible g) e = absurd (omega arith)
 
   ended-12 : (p : Plan) → finishOutcome f area p .answer .number ≡ 12 → p ≡ infeasible (finishOutcome f area p .answer .flow)
@@ -124,21 +123,14 @@ module _ (b : Book) (f : ℕ) (area : List ℕ) where
   ended-12 (planned rows) e = absurd (omega arith)
   ended-12 (infeasible g) e = refl
 
-  -- a number that stands for an ending
-  outcome-by : (n : ℕ) → (n ≡ 11 → ⊥) → outcome .answer .number ≡ n → outcome ≡ finishOutcome f area ending
-  outcome-by n q z = outcome-cases (λ h. absurd (q (sym z ∙ ap (λ o. o .answer .number) (outcome-short h)))) outcome-ended
-
   number-0 : outcome .answer .number ≡ 0 → (ending ≡ planned (rowsOf ending)) × (outcome .answer .finish ≡ finishOf (rowsOf ending) f)
-  unfolding finishOutcome
-  number-0 z =
-      let w = outcome-by 0 (λ e. omega arith) z in
-      let e = ended-0 ending (ap (λ o. o .answer .number) (sym w) ∙ z) in
-      (e, ap (λ o. o .answer .finish) w ∙ ap (λ p. finishOutcome f area p .answer .finish) e)
+  number-0 =
+      outcome-cases (λ o. o .answer .number ≡ 0 → (ending ≡ planned (rowsOf ending)) × (o .answer .finish ≡ finishOf (rowsOf ending) f))
+      (λ h z. absurd (omega arith)) (λ h. ended-0 ending)
 
   number-12 : outcome .answer .number ≡ 12 → ending ≡ infeasible (outcome .answer .flow)
-  number-12 z =
-      let w = outcome-by 12 (λ e. omega arith) z in
-      ended-12 ending (ap (λ o. o .answer .number) (sym w) ∙ z) ∙ ap (λ o. infeasible (o .answer .flow)) (sym w)
+  number-12 =
+      outcome-cases (λ o. o .answer .number ≡ 12 → ending ≡ infeasible (o .answer .flow)) (λ h z. absurd (omega arith)) (λ h. ended-12 ending)
 
 -- ---- the tests of a call, in their order
 module _ (book calendar : List ℕ) (f : ℕ) (area : List ℕ) where
@@ -231,7 +223,7 @@ module _ (book calendar : List ℕ) (b : Book) (reads : readBook book calendar �
         finishCall book calendar f area .answer ≡ finishAccepted (finishIn (tableBytes b (rowsOf (plan b))) f)
     in-long-table area out other h z =
         let rows = rowsOf (plan b) in
-        let e = plan-number-13 b out other (ap (λ o. o .answer .number) (sym (plan-read book calendar b reads out other)) ∙ z) in
+        let e = plan-number-13 (call-case book calendar out other b reads) z .0 in
         finish-of-plan rows e area h ∙ ap finishAccepted (sym (finish-written b rows f l (planned-finish-fits b range rows e f l)))
 
     -- ---- in the book cut after it
@@ -244,8 +236,8 @@ module _ (book calendar : List ℕ) (b : Book) (reads : readBook book calendar �
     cut-book-reads : readBook (bookBytes (versionOf book) cutBook) calendar ≡ read cutBook
     cut-book-reads = read-cut book calendar b reads many
 
-    plan-of-cut : (out area : List ℕ) → workBytes ≤ length area → planOfCut book calendar b f out area ≡ planOutcome cutBook out area (plan cutBook)
-    plan-of-cut out area = call-plans cutBook cut-range out area (bookBytes (versionOf book) cutBook) calendar cut-book-reads
+    cut-case : (out area : List ℕ) → PlanCase cutBook out area (planOfCut book calendar b f out area)
+    cut-case out area = call-case (bookBytes (versionOf book) cutBook) calendar out area cutBook cut-book-reads
 
     ending-cut : placeFirst b many ≡ renumberPlan (kept b many) (plan cutBook)
     ending-cut = cut-plan b many fits
@@ -257,65 +249,46 @@ module _ (book calendar : List ℕ) (b : Book) (reads : readBook book calendar �
     number-in-cut : numberInCut b many f ≡ in-cut .0
     number-in-cut = ap (numberInCut b many) (sym (in-cut .2)) ∙ number-kept b many (in-cut .0) (in-cut .1)
 
-    -- 12 names a flow that was kept, the finish stands in the cut book's table, and the slots are used alike
-    as-cut-infeasible : (out area : List ℕ) (g : ℕ) → plan cutBook ≡ infeasible g →
-        AsForCut b f (planOutcome cutBook out area (infeasible g)) (finishOutcome f area (infeasible (kept b many g)))
-    unfolding planOutcome finishOutcome
-    as-cut-infeasible out area g e =
+    -- the finish stands in the cut book's table
+    finish-in-cut : (out : List ℕ) (rows : List Row) → plan cutBook ≡ planned rows →
+        finishOf (map (renumber (kept b many)) rows) f ≡ finishIn (tableBytes cutBook rows ++ drop (tableLength cutBook rows) out) (numberInCut b many f)
+    finish-in-cut out rows e =
+        let m = in-cut .0 in
+        let rest = drop (tableLength cutBook rows) out in
+        ap (finishOf (map (renumber (kept b many)) rows)) (sym (in-cut .2))
+        ∙ cut-finish b many fits range rows e m (in-cut .1)
+        ∙ sym (finish-in-front cutBook rows rest m (in-cut .1) (planned-finish-fits cutBook cut-range rows e m (in-cut .1)))
+        ∙ ap (finishIn (tableBytes cutBook rows ++ rest)) (sym number-in-cut)
+
+    -- 11 is answered of both; 12 names a flow that was kept; with 0 the slots are used alike
+    as-cut : (out area : List ℕ) {o : PlanOutcome} → PlanCase cutBook out area o → (o .answer .number ≡ 13 → ⊥) →
+        AsForCut b f o (finishReading f area (read b))
+    unfolding finishOutcome
+    as-cut out area (short-11 h) fit =
+        rw (outcome-short b f area h)
+        (record { same-number = refl; same-finish = λ z. absurd (omega arith); same-flow = λ z. absurd (omega arith); same-area = refl })
+    as-cut out area (stopped-12 h g e) fit =
         let below = infeasible-proves cutBook cut-range g e .0 in
-        record {
+        rw (outcome-ended b f area h, ending-cut, e)
+        (record {
           same-number = refl;
           same-finish = λ z. absurd (omega arith);
           same-flow = λ z. (kept-among b many g below, sym (number-kept b many g below));
           same-area = refl;
-        }
-
-    as-cut-planned : (out area : List ℕ) (rows : List Row) → plan cutBook ≡ planned rows →
-        (planOutcome cutBook out area (planned rows) .answer .number ≡ 13 → ⊥) →
-        AsForCut b f (planOutcome cutBook out area (planned rows)) (finishOutcome f area (planned (map (renumber (kept b many)) rows)))
-    unfolding finishOutcome
-    as-cut-planned out area rows e fit =
-        ⊎-elim (λ h. absurd (fit (ap (λ o. o .answer .number) (planned-too-long cutBook out area rows h))))
-        (λ h. subst (λ o. AsForCut b f o (finishOutcome f area (planned (map (renumber (kept b many)) rows)))) (sym (planned-written cutBook out area rows h))
+        })
+    as-cut out area (long-13 h rows e q) fit = absurd (fit refl)
+    as-cut out area (written-0 h rows e q) fit =
+        rw (outcome-ended b f area h, ending-cut, e)
         (record {
           same-number = refl;
-          same-finish = λ z. finish;
+          same-finish = λ z. finish-in-cut out rows e;
           same-flow = λ z. absurd (omega arith);
           same-area = work-renumbered (kept b many) slots rows area;
-        })) (lt-or-ge (length out) (tableLength cutBook rows))
-      where
-        rest : List ℕ
-        rest = drop (tableLength cutBook rows) out
-
-        finish : finishOf (map (renumber (kept b many)) rows) f ≡ finishIn (tableBytes cutBook rows ++ rest) (numberInCut b many f)
-        finish =
-            let m = in-cut .0 in
-            ap (finishOf (map (renumber (kept b many)) rows)) (sym (in-cut .2))
-            ∙ cut-finish b many fits range rows e m (in-cut .1)
-            ∙ sym (finish-in-front cutBook rows rest m (in-cut .1) (planned-finish-fits cutBook cut-range rows e m (in-cut .1)))
-            ∙ ap (finishIn (tableBytes cutBook rows ++ rest)) (sym number-in-cut)
-
-    as-cut-short : (area out : List ℕ) → length area < workBytes → AsForCut b f (planOfCut book calendar b f out area) (finishCall book calendar f area)
-    unfolding planCall planReading
-    as-cut-short area out h =
-        rw (cut-book-reads, lt-ltb (length area) workBytes h, finish-read l area, outcome-short b f area h)
-        (record { same-number = refl; same-finish = λ z. absurd (omega arith); same-flow = λ z. absurd (omega arith); same-area = refl })
-
-    as-cut-ended : (area out : List ℕ) → workBytes ≤ length area → (planOfCut book calendar b f out area .answer .number ≡ 13 → ⊥) →
-        AsForCut b f (planOfCut book calendar b f out area) (finishCall book calendar f area)
-    as-cut-ended area out h fit =
-        let plans = plan-of-cut out area h in
-        let ends = finish-read l area ∙ outcome-ended b f area h ∙ ap (finishOutcome f area) ending-cut in
-        rw (plans, ends) (go (plan cutBook) refl (rw plans at fit))
-      where
-        go : (p : Plan) → plan cutBook ≡ p → (planOutcome cutBook out area p .answer .number ≡ 13 → ⊥) →
-            AsForCut b f (planOutcome cutBook out area p) (finishOutcome f area (renumberPlan (kept b many) p))
-        go (infeasible g) e fit = as-cut-infeasible out area g e
-        go (planned rows) e fit = as-cut-planned out area rows e fit
+        })
 
     as-for-cut : (area out : List ℕ) → (planOfCut book calendar b f out area .answer .number ≡ 13 → ⊥) →
         AsForCut b f (planOfCut book calendar b f out area) (finishCall book calendar f area)
-    as-for-cut area out fit = ⊎-elim (as-cut-short area out) (λ h. as-cut-ended area out h fit) (lt-or-ge (length area) workBytes)
+    as-for-cut area out fit = rw (finish-read l area) (as-cut out area (cut-case out area) fit)
 
     -- it is infeasible where the placing ends so
     cut-ends : (g : ℕ) → placeFirst b many ≡ infeasible g → (h : ℕ) × (plan cutBook ≡ infeasible h)
@@ -330,13 +303,14 @@ module _ (book calendar : List ℕ) (b : Book) (reads : readBook book calendar �
     infeasible-cut area out other h z =
         let e = number-12 b f area (ap (λ o. o .answer .number) (sym (finish-read l area)) ∙ z) in
         let w = cut-ends (finishReading f area (read b) .answer .flow) e in
-        ap (λ o. o .answer .number) (plan-of-cut out other h) ∙ infeasible-12 cutBook out other (plan cutBook) (w .0) (w .1)
+        ap (λ o. o .answer .number)
+        (call-plans (bookBytes (versionOf book) cutBook) calendar out other cutBook cut-book-reads h ∙ outcome-infeasible cutBook out other (w .0) (w .1))
 
     cut-infeasible : (area out other : List ℕ) → workBytes ≤ length area → planOfCut book calendar b f out other .answer .number ≡ 12 →
         finishCall book calendar f area .answer .number ≡ 12
-    unfolding planCall finishOutcome
+    unfolding finishOutcome
     cut-infeasible area out other h z =
-        let w = plan-number-12 cutBook out other (ap (λ r. planReading out other r .answer .number) (sym cut-book-reads) ∙ z) in
+        let w = plan-number-12 (cut-case out other) z in
         ap (λ o. o .answer .number) (finish-read l area ∙ outcome-ended b f area h)
         ∙ ap (λ p. finishOutcome f area p .answer .number) (ending-cut ∙ ap (renumberPlan (kept b many)) (w .1))
 

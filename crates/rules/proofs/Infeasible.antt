@@ -4,7 +4,7 @@
 -- processors over the open slots before the deadline; by twice the deadline as many open slots have passed since the release as both take
 -- together. Assumes nothing.
 use mathlib.Core.Path.{_≡_, refl, ap, _∙_}
-use Prim.Native.Nat.{ℕ, suc, _+_, _-_, _≤_, _<_}
+use Prim.Native.Nat.{ℕ, suc, _+_, _≤_, _<_}
 use mathlib.Core.Bool.{Bool, true, false, _||_}
 use mathlib.Core.List.{List}
 use native.Mathlib.Nat.{le-trans, le-of-lt}
@@ -14,7 +14,7 @@ use borrow.Author.Tests.{eq-eqb}
 use Rattle.rules.specs.Walks.{sumTo}
 use Rattle.rules.specs.Calendar.{isOpen, openBefore}
 use Rattle.rules.specs.Book.{Book, flowCount, jobCount, flowOf, usable, twiceDeadline, InRange}
-use Rattle.rules.specs.Service.{servedBefore}
+use Rattle.rules.specs.Service.{servedBefore, servedAt}
 use Rattle.rules.specs.Rows.{Row, usedIn}
 use Rattle.rules.specs.Schedule.{Schedule, IsJob, inUse, Valid, EndsBy}
 use Rattle.rules.specs.Placing.{slotsFor, planned, placeFirst}
@@ -24,11 +24,11 @@ use Rattle.rules.proofs.Walks.{last-or}
 use Rattle.rules.proofs.PseudoJobs.{chain-live}
 use Rattle.rules.proofs.ServiceOrder.{service-below, service-sorted, service-once, service-deadlines}
 use Rattle.rules.proofs.OpenSlots.{open-mono, limit-count}
-use Rattle.rules.proofs.Usable.{usable-open, count-usable, free-usable}
+use Rattle.rules.proofs.Usable.{usable-open, count-usable, given-usable, free-usable}
 use Rattle.rules.proofs.Greedy.{unitsLeftAt, something-left}
 use Rattle.rules.proofs.Necessity.{Keeps, CompleteBy, OnTime}
 use Rattle.rules.proofs.Refusal.{refusal}
-use Rattle.rules.proofs.PlannedRows.{servedAt, servedFlow, freeFor, Stopped}
+use Rattle.rules.proofs.PlannedRows.{servedFlow, freeFor, Stopped}
 use Rattle.rules.proofs.PlannedValid.{range-at, sized-at, used-within-work}
 
 module _ (b : Book) (range : InRange b) where
@@ -58,17 +58,10 @@ module _ (b : Book) (range : InRange b) where
     is-job : (m i : ℕ) → m < suc n → i < jobCount (servedFlow b m) → IsJob b (upTo b f) (servedAt b m) i
     is-job m i l a = record { flow-among = up-to-at n f below at m l; flow-in = service-below b m (omega arith); job-in = a }
 
-    in-usable-slot : (m i t : ℕ) → m < suc n → i < jobCount (servedFlow b m) → 0 < σ (servedAt b m) i t → usable b (servedFlow b m) t ≡ true
-    in-usable-slot m i t l a g = go (usable b (servedFlow b m) t) refl
-      where
-        go : (c : Bool) → usable b (servedFlow b m) t ≡ c → c ≡ true
-        go true e = refl
-        go false e = absurd (omega (arith, valid .in-usable (servedAt b m) i t (is-job m i l a) e))
-
     keeps-rules : (m : ℕ) → m < suc n → Keeps (servedFlow b m) (usable b (servedFlow b m)) (σ (servedAt b m))
     keeps-rules m l = record {
       capped = λ i t a. valid .caps (servedAt b m) i t (is-job m i l a);
-      in-usable = λ i t. in-usable-slot m i t l;
+      in-usable = λ i t a. given-usable b (upTo b f) σ valid (servedAt b m) i t (is-job m i l a);
       in-order = λ i k t a c q g. omega (arith, valid .precedence (servedAt b m) i k t (is-job m i l a) q g);
     }
 

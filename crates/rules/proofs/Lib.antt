@@ -5,7 +5,7 @@ pub mod Demand3
 pub mod Refusals
 pub mod PlansByTheRules
 pub mod WrittenPlans
-pub mod PlanNumbers
+pub mod CallCases
 pub mod AcceptsExactly
 pub mod AcceptsPlans
 pub mod Dispatches

@@ -2,7 +2,7 @@
 -- 4,096, so that twice the open slots before a deadline have passed by slot 8,192 at the latest. Assumes nothing.
 use mathlib.Core.Path.{_≡_, refl, ap, _∙_}
 use Prim.Native.Nat.{ℕ, zero, suc, _+_, _*_, _-_, _≤_, _<_}
-use mathlib.Core.Bool.{Bool, true, false, not, _&&_}
+use mathlib.Core.Bool.{Bool, true, false, not, and-false}
 use mathlib.Core.List.{[], _∷_}
 use mathlib.Core.Logic.{_⊎_, inl, inr}
 use native.Mathlib.Omega.{arith}
@@ -14,7 +14,7 @@ use Rattle.rules.specs.Limits.{mostReopening, mostDeadline, slots}
 use Rattle.rules.specs.Calendar.{Calendar, inWindow, isOpen, openBefore, passOpen, slotAfter, windowOf, CalendarInRange}
 use Rattle.rules.specs.Book.{Flow, Book, twiceDeadline}
 use Rattle.rules.specs.Placing.{slotsFor}
-use Rattle.rules.proofs.Division.{lt-or-ge}
+use Rattle.rules.proofs.Division.{lt-or-ge, neither-less}
 use Rattle.rules.proofs.Sums.{bit-most}
 
 -- ---- counting
@@ -110,15 +110,9 @@ module _ (c : Calendar) where
 
   -- no other slot is that
   pub slot-after-is : (n u : ℕ) → u ≤ slots → openBefore c u ≡ n → ((t : ℕ) → t < u → openBefore c t < n) → slotAfter c n ≡ u
-  slot-after-is n u l e first = go (lt-or-ge (slotAfter c n) u) (lt-or-ge u (slotAfter c n))
-    where
-      stands : openBefore c (slotAfter c n) ≡ n
-      stands = slot-after-count n (omega (arith, open-mono l))
-
-      go : (slotAfter c n < u) ⊎ (u ≤ slotAfter c n) → (u < slotAfter c n) ⊎ (slotAfter c n ≤ u) → slotAfter c n ≡ u
-      go (inl a) o = absurd (omega (arith, first (slotAfter c n) a, stands))
-      go (inr a) (inl d) = absurd (omega (arith, slot-after-not-yet n u d))
-      go (inr a) (inr d) = omega arith
+  slot-after-is n u l e first =
+      let stands : openBefore c (slotAfter c n) ≡ n = slot-after-count n (omega (arith, open-mono l)) in
+      neither-less (slotAfter c n) u (λ a. omega (arith, first (slotAfter c n) a, stands)) (λ a. omega (arith, slot-after-not-yet n u a))
 
 -- where every slot from u on is open, each of them counts
 pub open-on : (c : Calendar) (u n : ℕ) → ((t : ℕ) → u ≤ t → isOpen c t ≡ true) → openBefore c (u + n) ≡ openBefore c u + n
@@ -133,11 +127,7 @@ pub shut-in-window : (c : Calendar) (k t : ℕ) → k < length c → windowOf c 
 unfolding isOpen windowOf
 shut-in-window [] k t l a z = absurd (omega arith)
 shut-in-window (v ∷ vs) zero t l a z = rw (le-leb (v .shut) t a, lt-ltb t (v .again) z) refl
-shut-in-window (v ∷ vs) (suc k) t l a z = rw (shut-in-window vs k t (omega arith) a z) (none (not (inWindow v t)))
-  where
-    none : (x : Bool) → (x && false) ≡ false
-    none true = refl
-    none false = refl
+shut-in-window (v ∷ vs) (suc k) t l a z = rw (shut-in-window vs k t (omega arith) a z) (and-false (not (inWindow v t)))
 
 -- a slot by which all windows have reopened is open
 open-from : (c : Calendar) (t : ℕ) → ((k : ℕ) → k < length c → windowOf c k .again ≤ t) → isOpen c t ≡ true
@@ -145,11 +135,7 @@ unfolding isOpen windowOf
 open-from [] t h = refl
 open-from (v ∷ vs) t h =
     let past : ltb t (v .again) ≡ false = le-ltb t (v .again) (h 0 (omega arith)) in
-    rw (past, open-from vs t (λ k l. h (suc k) (omega arith))) (last (leb (v .shut) t))
-  where
-    last : (x : Bool) → (not (x && false) && true) ≡ true
-    last true = refl
-    last false = refl
+    rw (past, open-from vs t (λ k l. h (suc k) (omega arith)), and-false (leb (v .shut) t)) refl
 
 module _ (c : Calendar) (range : CalendarInRange c) where
   pub reopened : (t : ℕ) → mostReopening ≤ t → isOpen c t ≡ true

@@ -61,6 +61,11 @@ pub test-passed : (t : Bool) (n f j : ℕ) (v : Verdict) → (if t then Refused 
 test-passed true n f j v e = not-pass n f j e
 test-passed false n f j v e = (refl, e)
 
+-- a test that has to hold
+pub must-hold : (t : Bool) (n f j : ℕ) → (if t then Pass else Refused n f j) ≡ Pass → t ≡ true
+must-hold true n f j e = refl
+must-hold false n f j e = not-pass n f j e
+
 pub neither-true : (a b : Bool) → (a || b) ≡ false → (a ≡ false) × (b ≡ false)
 neither-true true b e = absurd (true≢false e)
 neither-true false b e = (refl, e)
@@ -191,11 +196,7 @@ pub record BookPasses (s : List ℕ) : Type 0 where
 
 pub nothing-left-over : (s : List ℕ) → leftoverFault s ≡ Pass → flowStart s (byte s 7) ≡ length s
 unfolding leftoverFault
-nothing-left-over s e = go (eqb (flowStart s (byte s 7)) (length s)) refl e
-  where
-    go : (t : Bool) → eqb (flowStart s (byte s 7)) (length s) ≡ t → (if t then Pass else Refused 5 255 255) ≡ Pass → flowStart s (byte s 7) ≡ length s
-    go true q p = eqb-true (flowStart s (byte s 7)) (length s) q
-    go false q p = not-pass 5 255 255 p
+nothing-left-over s e = eqb-true (flowStart s (byte s 7)) (length s) (must-hold _ 5 none none e)
 
 pub book-passes : (s : List ℕ) → bookFault s ≡ Pass → BookPasses s
 unfolding bookFault

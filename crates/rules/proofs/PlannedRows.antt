@@ -6,11 +6,10 @@ use Prim.Native.Nat.{ℕ, zero, suc, _+_, _-_, _≤_, _<_, min}
 use mathlib.Core.List.{List, [], _∷_, _++_}
 use native.Mathlib.Nat.{add-zero, add-suc, lt-suc-self, eq-or-lt-of-le}
 use native.Mathlib.Omega.{arith}
-use lib.ListN.{getD}
 use Rattle.rules.specs.Walks.{sumTo, joinFrom}
 use Rattle.rules.specs.Book.{Flow, Book, flowCount, jobCount, flowOf}
 use Rattle.rules.specs.PseudoJobs.{PseudoJob, rate, work}
-use Rattle.rules.specs.Service.{serviceOrder}
+use Rattle.rules.specs.Service.{servedAt}
 use Rattle.rules.specs.Rows.{Row, rowFor, finishOf}
 use Rattle.rules.specs.Schedule.{scheduleOf}
 use Rattle.rules.specs.Placing.{unitsOf, share, given, slotRows, progress, flowRows, freeProcessors, slotsFor, Plan, planned, infeasible, settled, placeFlow, thenPlace, placeFirst, rowsOf}
@@ -56,10 +55,7 @@ no-rows-yet w f free n none =
     (λ t l. rw (none (0 + t) (omega arith)) (no-slot-rows w f (0 + t) (progress w free (0 + t) .left) (progress w free (0 + t) .done)))
 
 -- ---- flows one after the other
--- the flow at place n of the service order, and what it is
-abbrev pub servedAt : Book → ℕ → ℕ
-servedAt b n = getD (serviceOrder b) n 0
-
+-- the flow at place n of the service order, as it is used
 abbrev pub servedFlow : Book → ℕ → Flow
 servedFlow b n = flowOf b (servedAt b n)
 

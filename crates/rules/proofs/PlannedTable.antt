@@ -8,6 +8,7 @@ use native.Mathlib.Omega.{arith}
 use Rattle.rules.specs.Walks.{joinFrom}
 use Rattle.rules.specs.Limits.{slots}
 use Rattle.rules.specs.Book.{Book, flowCount, jobCount, InRange}
+use Rattle.rules.specs.Service.{servedAt}
 use Rattle.rules.specs.Rows.{Row, rowFor, lateFlows}
 use Rattle.rules.specs.Schedule.{scheduleOf, scheduleRows, scheduleTable}
 use Rattle.rules.specs.Placing.{slotsFor, planned, plan}
@@ -19,7 +20,7 @@ use Rattle.rules.proofs.RowOrder.{Before}
 use Rattle.rules.proofs.OpenSlots.{limit-most}
 use Rattle.rules.proofs.ScheduleRows.{schedule-rows-rising}
 use Rattle.rules.proofs.FlowRows.{flowGrid}
-use Rattle.rules.proofs.PlannedRows.{join-nothing, servedAt, servedFlow, plannedShare, plannedGrid, placed-rows, states-share, states-none-of-flow}
+use Rattle.rules.proofs.PlannedRows.{join-nothing, servedFlow, plannedShare, plannedGrid, placed-rows, states-share, states-none-of-flow}
 use Rattle.rules.proofs.PlannedValid.{all-placed, planned-valid, planned-in-slots}
 
 -- ---- rows of a flow by slot and job

@@ -3,17 +3,16 @@
 -- flows share a slot because each gets at most what those before it leave free. Everything is shown of the first k flows placed, and read off
 -- for the whole plan. Assumes nothing.
 use mathlib.Core.Path.{_≡_, refl, sym, ap, subst, _∙_}
-use Prim.Native.Nat.{ℕ, zero, suc, _+_, _-_, _/_, _%_, _^_, _≤_, _<_}
+use Prim.Native.Nat.{ℕ, zero, suc, _+_, _-_, _≤_, _<_}
 use mathlib.Core.Bool.{Bool, true, false, false≢true}
 use mathlib.Core.List.{List}
 use mathlib.Core.Logic.{_⊎_, inl, inr}
-use native.Mathlib.Nat.{le-trans, div-eq-of-lt, zero-mod, pow-le-pow-right}
+use native.Mathlib.Nat.{le-trans}
 use native.Mathlib.Omega.{arith}
-use lib.Dec.{eqb}
-use borrow.Author.Tests.{eqb-true, eqb-false, eq-eqb}
 use Rattle.rules.specs.Walks.{sumTo, joinFrom}
 use Rattle.rules.specs.Limits.{slots}
-use Rattle.rules.specs.Book.{Job, Book, flowCount, jobCount, flowOf, jobOf, hasBit, precedes, usable, JobInRange, FlowInRange, InRange}
+use Rattle.rules.specs.Book.{Book, flowCount, jobCount, flowOf, jobOf, precedes, usable, FlowInRange, InRange}
+use Rattle.rules.specs.Service.{servedAt}
 use Rattle.rules.specs.Rows.{Row, sumWhere, usedIn, finishOf}
 use Rattle.rules.specs.Schedule.{Schedule, everyFlow, IsJob, Valid, EndsBy, InSlots, scheduleOf}
 use Rattle.rules.specs.Placing.{slotsFor, planned, placeFirst, rowsOf, plan}
@@ -21,11 +20,12 @@ use Rattle.rules.specs.Cut.{amongFirst}
 use Rattle.rules.specs.Demands.{WithinTwice}
 use Rattle.rules.proofs.Caps.{used-in-range}
 use Rattle.rules.proofs.Division.{lt-or-ge}
+use Rattle.rules.proofs.Bits.{bit-below}
 use Rattle.rules.proofs.Sums.{sum-ext, sum-mono, sum-add, sum-zero, sum-up, sum-quiet}
-use Rattle.rules.proofs.Walks.{any-met, any-none, any-true}
 use Rattle.rules.proofs.Ideal.{Sized, in-range-sized}
 use Rattle.rules.proofs.PseudoJobs.{chain-live, chain-works}
-use Rattle.rules.proofs.ServiceOrder.{service-below, service-position}
+use Rattle.rules.proofs.ServiceOrder.{service-below}
+use Rattle.rules.proofs.CutBook.{among-position, position-among, among-all}
 use Rattle.rules.proofs.OpenSlots.{open-none, open-mono, limit-most, limit-count}
 use Rattle.rules.proofs.Usable.{none-free, free-within}
 use Rattle.rules.proofs.Greedy.{givenIn, given-in-le-free, given-and-left}
@@ -36,7 +36,6 @@ use Rattle.rules.proofs.FlowRows.{used-append, grid-used, grid-not-used
 use Rattle.rules.proofs.RowSums.{ends-finish}
 use Rattle.rules.proofs.PlacedFlow.{placed-together, placed-within-cap, placed-within-free, placed-exactly, placed-in-order}
 use Rattle.rules.proofs.PlannedRows.{
-  servedAt,
   servedFlow,
   freeFor,
   plannedShare,
@@ -48,18 +47,6 @@ use Rattle.rules.proofs.PlannedRows.{
   states-share,
   states-none-of-flow,
 }
-
--- a predecessor has a lower number
-pub predecessor-below : {P i : ℕ} {j : Job} → JobInRange P i j → (k : ℕ) → hasBit (j .predecessors) k ≡ true → k < i
-unfolding hasBit
-predecessor-below {P} {i} {j} r k e = go (lt-or-ge k i)
-  where
-    go : (k < i) ⊎ (i ≤ k) → k < i
-    go (inl l) = l
-    go (inr l) =
-        let small : j .predecessors < 2 ^ k = le-trans (r .predecessors-below) (pow-le-pow-right {n = 2} (omega arith) l) in
-        let none : j .predecessors / 2 ^ k % 2 ≡ 0 = rw (div-eq-of-lt small, zero-mod) refl in
-        absurd (omega (arith, eqb-true (j .predecessors / 2 ^ k % 2) 1 e))
 
 -- a row of a plan: a job of the book, at least one processor and at most the cap, within the limit of its flow
 pub record RowFits (b : Book) (r : Row) : Type 0 where
@@ -192,7 +179,7 @@ module _ (b : Book) (range : InRange b) where
       flow-precedence i j t a p g = go (lt-or-ge t (slotsFor b (servedFlow b n)))
         where
           below : j < i
-          below = predecessor-below (range-at n within-count .each-job i a) j p
+          below = bit-below (jobOf (servedFlow b n) i .predecessors) i j (range-at n within-count .each-job i a .predecessors-below) p
 
           go : (t < slotsFor b (servedFlow b n)) ⊎ (slotsFor b (servedFlow b n) ≤ t) → sumTo (scheduleOf rows (servedAt b n) j) t ≡ jobOf (servedFlow b n) j .size
           go (inl c) =
@@ -213,18 +200,8 @@ module _ (b : Book) (range : InRange b) where
               )
           go (inr d) = flow-ends i t d
 
-    -- a flow among the first k stands at a place below k
-    at-place : (f : ℕ) → amongFirst b k f ≡ true → (n : ℕ) × (n < k) × (servedAt b n ≡ f)
-    unfolding amongFirst
-    at-place f c = let m = any-met (λ n. eqb (servedAt b n) f) k c in (m .0, m .1, eqb-true (servedAt b (m .0)) f (m .2))
-
     at-no-place : (f : ℕ) → amongFirst b k f ≡ false → (n : ℕ) → n < k → servedAt b n ≡ f → ⊥
-    unfolding amongFirst
-    at-no-place f c n l q = eqb-false (servedAt b n) f (any-none (λ m. eqb (servedAt b m) f) k c n l) q
-
-    among-at : (n : ℕ) → n < k → amongFirst b k (servedAt b n) ≡ true
-    unfolding amongFirst
-    among-at n l = any-true (λ m. eqb (servedAt b m) (servedAt b n)) k n l (eq-eqb (servedAt b n) (servedAt b n) refl)
+    at-no-place f c n l q = false≢true (sym c ∙ (rw q at (position-among b k n l)))
 
     -- what holds of each flow placed, and trivially of the others, holds of all
     by-flow : (X : ℕ → Type 0) → ((n : ℕ) → n < k → X (servedAt b n)) → ((f : ℕ) → ((i t : ℕ) → scheduleOf rows f i t ≡ 0) → amongFirst b k f ≡ false → X f) →
@@ -232,7 +209,7 @@ module _ (b : Book) (range : InRange b) where
     by-flow X own other f = go (amongFirst b k f) refl
       where
         go : (c : Bool) → amongFirst b k f ≡ c → X f
-        go true q = let m = at-place f q in subst X (m .2) (own (m .0) (m .1))
+        go true q = let m = among-position b k f q in subst X (m .2) (own (m .0) (m .1))
         go false q = other f (λ i t. states-nothing b k rows e f i t (at-no-place f q)) q
 
     -- each row is one of a flow placed
@@ -264,7 +241,7 @@ module _ (b : Book) (range : InRange b) where
     first-planned-valid = record {
       no-others = by-flow (λ f. (i t : ℕ) → (IsJob b (amongFirst b k) f i → ⊥) → scheduleOf rows f i t ≡ 0)
           (λ n l i t ne. states-none-of-flow b k rows e h n i t l
-          (λ a c. ne (record { flow-among = among-at n l; flow-in = service-below b n (omega arith); job-in = a })))
+          (λ a c. ne (record { flow-among = position-among b k n l; flow-in = service-below b n (omega arith); job-in = a })))
           (λ f z q i t ne. z i t);
       caps = by-flow (λ f. (i t : ℕ) → IsJob b (amongFirst b k) f i → scheduleOf rows f i t ≤ jobOf (flowOf b f) i .cap)
           (λ n l i t j. flow-caps n l i t (j .job-in)) (λ f z q i t j. omega (arith, z i t));
@@ -309,19 +286,13 @@ module _ (b : Book) (range : InRange b) where
     first-finish-in-slots f = first-finish-least f slots (first-in-slots f)
 
   -- ---- the whole plan
-  among-all : (f : ℕ) → f < flowCount b → amongFirst b (flowCount b) f ≡ true
-  unfolding amongFirst
-  among-all f l =
-      let m = service-position b f l in
-      any-true (λ n. eqb (servedAt b n) f) (flowCount b) (m .0) (m .1) (eq-eqb (servedAt b (m .0)) f (m .2))
-
   module _ (rows : List Row) (e : plan b ≡ planned rows) where
     pub all-placed : placeFirst b (flowCount b) ≡ planned rows
     all-placed = unfold plan in e
 
     pub planned-valid : Valid b everyFlow (scheduleOf rows)
     planned-valid =
-        valid-among b (amongFirst b (flowCount b)) everyFlow (scheduleOf rows) among-all
+        valid-among b (amongFirst b (flowCount b)) everyFlow (scheduleOf rows) (among-all b)
         (first-planned-valid (flowCount b) rows (omega arith) all-placed)
 
     pub planned-in-slots : InSlots (scheduleOf rows)

@@ -2,7 +2,7 @@
 -- they are. Everything is shown of `runs`, slot by slot from the front, and then read off for the chain. Assumes nothing.
 use mathlib.Core.Path.{_≡_, refl, sym, ap, _∙_}
 use mathlib.Core.Logic.{_⊎_, inl, inr}
-use mathlib.Core.Bool.{Bool, true, false, not}
+use mathlib.Core.Bool.{Bool, true, false, not, not-eq-not}
 use mathlib.Core.List.{List, [], _∷_}
 use Prim.Native.Nat.{ℕ, zero, suc, _+_, _*_, _-_, _≤_, _<_}
 use native.Mathlib.Nat.{add-zero, zero-add, mul-one, not-suc-le-zero, le-of-suc-le-suc}
@@ -207,11 +207,7 @@ module _ (w : Flow) where
       all-true (λ i. eqb (takeOf w i u) (takeOf w i (u + 1))) (jobCount w) (λ i l. eq-eqb (takeOf w i u) (takeOf w i (u + 1)) (h i l))
 
   pub changed-where-one-is : (i u : ℕ) → i < jobCount w → (takeOf w i u ≡ takeOf w i (u + 1) → ⊥) → unchanged w u ≡ false
-  changed-where-one-is i u l ne = go (unchanged w u) refl
-    where
-      go : (b : Bool) → unchanged w u ≡ b → unchanged w u ≡ false
-      go true e = absurd (ne (unchanged-take i u l e))
-      go false e = e
+  changed-where-one-is i u l ne = not-eq-not {b = false} .0 (λ e. ne (unchanged-take i u l e))
 
   -- at every slot of a run the takes are those at its first
   pub take-along-run : (p : PseudoJob) → Run w p → (i j : ℕ) → i < jobCount w → j < p .width → takeOf w i (p .first + j) ≡ takeOf w i (p .first)

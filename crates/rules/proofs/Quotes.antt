@@ -13,7 +13,7 @@ use Rattle.rules.specs.Walks.{sumTo, countTo}
 use Rattle.rules.specs.Calendar.{isOpen, openBefore}
 use Rattle.rules.specs.Book.{Flow, Book, flowCount, jobCount, flowOf, usable, twiceDeadline, InRange}
 use Rattle.rules.specs.Ideal.{path}
-use Rattle.rules.specs.Service.{position}
+use Rattle.rules.specs.Service.{servedAt, position}
 use Rattle.rules.specs.Rows.{Row, usedIn, finishOf}
 use Rattle.rules.specs.Schedule.{Schedule, Valid, EndsBy, scheduleOf}
 use Rattle.rules.specs.Placing.{progress, slotsFor, planned, placeFirst, rowsOf, plan}
@@ -33,12 +33,12 @@ use Rattle.rules.proofs.Greedy.{unitsLeftAt, nothing-left}
 use Rattle.rules.proofs.Necessity.{flowWork, worksUpTo}
 use Rattle.rules.proofs.Refusal.{quote-bound, path-fits, area-fits}
 use Rattle.rules.proofs.PlacedFlow.{shareTo}
-use Rattle.rules.proofs.PlannedRows.{servedAt, servedFlow, freeFor, plannedShare, placed-earlier, states-share, states-none-of-flow}
+use Rattle.rules.proofs.PlannedRows.{servedFlow, freeFor, plannedShare, placed-earlier, states-share, states-none-of-flow}
 use Rattle.rules.proofs.PlannedValid.{range-at, sized-at, used-within-work, first-finish-least, all-placed}
 use Rattle.rules.proofs.Infeasible.{free-or-used, sequence-on-time}
 use Rattle.rules.proofs.PlansByTheRules.{plans-by-the-rules}
 use Rattle.rules.proofs.WrittenPlans.{written-finish}
-use Rattle.rules.proofs.PlanNumbers.{plan-number-13, plan-read}
+use Rattle.rules.proofs.CallCases.{call-case, plan-number-13}
 use Rattle.rules.proofs.Finishes.{answered-holds}
 
 -- the work up to the flow at place n is that of the flows at the places up to it
@@ -152,8 +152,7 @@ quotes = record {
       subst (WithinQuote b f) (sym (written-finish book calendar out area b reads z f l))
       (planned-within-quote b (read-in-range book calendar b reads) (rowsOf (plan b)) (plans-by-the-rules book calendar out area b reads z .all-placed) f l);
   in-rows = λ book calendar out area b reads z.
-      planned-within-quote b (read-in-range book calendar b reads) (rowsOf (plan b))
-      (plan-number-13 b out area (ap (λ o. o .answer .number) (sym (plan-read book calendar b reads out area)) ∙ z));
+      planned-within-quote b (read-in-range book calendar b reads) (rowsOf (plan b)) (plan-number-13 (call-case book calendar out area b reads) z .0);
   answered = λ book calendar area f b reads.
       answered-holds book calendar b reads f (WithinQuote b f)
       (λ l rows e. finish-within-quote b (read-in-range book calendar b reads) (suc (position b f)) rows (position-below b f l) e f l (lt-suc-self (position b f))) area;

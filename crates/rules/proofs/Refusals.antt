@@ -6,27 +6,26 @@ use mathlib.Core.Logic.{_⊎_, inl, inr, ⊎-elim}
 use mathlib.Core.Bool.{Bool, true, false, not, _&&_, _||_, and-eq-true-iff, true≢false}
 use Prim.Native.Nat.{ℕ, zero, suc, _+_, _*_, _-_, _%_, _^_, _≤_, _<_}
 use native.Mathlib.Omega.{arith}
-use mathlib.Core.List.{List, _++_}
-use lib.ListN.{length, take, drop, getD}
+use mathlib.Core.List.{List}
+use lib.ListN.{length, take, getD}
 use lib.Dec.{ltb, leb, eqb}
 use borrow.Author.Tests.{leb-true, eqb-true, lt-leb, ne-eqb}
 use Rattle.rules.specs.declared.Verdict.{Verdict}
 use Rattle.rules.specs.declared.Verdict.the-variants.{Pass, Refused}
 use Rattle.rules.specs.Walks.{if_then_else_, anyTo}
 use Rattle.rules.specs.Fields.{byte, field}
-use Rattle.rules.specs.Answers.{none, _andThen_, firstFault, planAccepted, planRefused, checkRefused}
-use Rattle.rules.specs.Limits.{outside, mostProcessors, mostFlows, mostDeadline, mostJobs, mostSize, mostCap, mostWindows, slots, workBytes}
+use Rattle.rules.specs.Answers.{none, _andThen_, firstFault, planRefused, checkRefused}
+use Rattle.rules.specs.Limits.{outside, mostProcessors, mostFlows, mostDeadline, mostJobs, mostSize, mostCap, mostWindows, slots}
 use Rattle.rules.specs.Calendar.{isOpen, calendarHead, windowLength, windowFault, calendarFault}
 use Rattle.rules.specs.Book.{Book, flowCount, jobCount, flowOf, jobOf}
-use Rattle.rules.specs.Reading.{bookHead, versionOf, flowHead, jobRecord, releaseAt, jobsAt, flowStart, jobStart, flowHeadFault, jobFault, flowFault, leftoverFault, bookFault, bookWith, unread, readingOf, readBook}
-use Rattle.rules.specs.Rows.{Row, usedIn, totalOf, finishOf, lateFlows, workUsed, workZero}
-use Rattle.rules.specs.Placing.{Plan, plan}
-use Rattle.rules.specs.Placing.Plan.{planned, infeasible}
-use Rattle.rules.specs.Table.{tableHead, rowLength, tableLength, tableBytes}
-use Rattle.rules.specs.Planner.{PlanOutcome, planOutcome, planReading, planCall}
-use Rattle.rules.specs.Check.{tableRows, tableHeadFault, noRow, rises, lacksPredecessor, beforeRelease, rowFault, totalFault, statedFinish, finishFault, tableFault, CheckOutcome, checkOutcome, checkReading, checkCall}
-use Rattle.rules.specs.Demands.{byEleven, PlannerRefusal, CheckRefusal, Demand1}
+use Rattle.rules.specs.Reading.{bookHead, versionOf, flowHead, jobRecord, releaseAt, jobsAt, flowStart, jobStart, flowHeadFault, jobFault, flowFault, leftoverFault, bookFault, bookWith, Reading, read, unread, readingOf, readBook}
+use Rattle.rules.specs.Rows.{Row, usedIn, totalOf, finishOf, workZero}
+use Rattle.rules.specs.Table.{tableHead, rowLength, finishIn}
+use Rattle.rules.specs.Planner.{PlanOutcome, planReading, planCall}
+use Rattle.rules.specs.Check.{tableRows, tableHeadFault, noRow, rises, lacksPredecessor, beforeRelease, rowFault, totalFault, finishFault, tableFault, CheckOutcome, checkOutcome, checkReading, checkCall}
+use Rattle.rules.specs.Demands.{byEleven, AreaAfterRefusal, PlannerRefusal, CheckRefusal, Demand1}
 use Rattle.rules.proofs.Faults.{not-pass}
+use Rattle.rules.proofs.CallCases.{check-cases, PlanCase, short-11, stopped-12, long-13, written-0, reading-case}
 
 -- where a verdict refuses, the number is one of these, from 1 on
 pub record Numbered (these : ℕ → Bool) (v : Verdict) : Type 0 where
@@ -122,6 +121,16 @@ unread-numbered s calendar n f j = go (bookFault s andThen calendarFault calenda
     go Pass q e = absurd (let z : _≡_ {A = ℕ} 0 1 = cc in omega arith)
     go (Refused m g i) q e = let d : m ≡ n = cc in rw d at (read-numbered s calendar .among m g i q)
 
+-- number 0 is answered of a book that is read, by every call that hands on those numbers
+pub zero-reads : (s calendar : List ℕ) (number : Reading → ℕ) → ((n f j : ℕ) → number (unread n f j) ≡ n) → number (readBook s calendar) ≡ 0 →
+    readBook s calendar ≡ read (bookWith s calendar)
+unfolding readBook
+zero-reads s calendar number refused = go (bookFault s andThen calendarFault calendar) (read-numbered s calendar)
+  where
+    go : (v : Verdict) → Numbered byEleven v → number (readingOf v (bookWith s calendar)) ≡ 0 → readingOf v (bookWith s calendar) ≡ read (bookWith s calendar)
+    go Pass h z = refl
+    go (Refused n f j) h z = absurd (omega (arith, h .among n f j refl .0, refused n f j))
+
 -- ---- "14, then 15 to 19 in order for each row, then 20, 21": these numbers, and with them 25 where slots are shut
 abbrev pub withoutShut : ℕ → Bool
 withoutShut n = leb 14 n && leb n 21
@@ -173,7 +182,7 @@ module _ (these : ℕ → Bool) (b : Book) (s : List ℕ) (those : (n : ℕ) →
 
   finish-numbered : (f : ℕ) → Numbered these (finishFault s rows f)
   unfolding finishFault
-  finish-numbered f = numbered-hold these (eqb (statedFinish s f) (finishOf rows f)) 21 f none (omega arith, those 21 refl)
+  finish-numbered f = numbered-hold these (eqb (finishIn s f) (finishOf rows f)) 21 f none (omega arith, those 21 refl)
 
   pub table-numbered-by : Numbered these (tableFault b s)
   unfolding tableFault
@@ -209,53 +218,33 @@ early-number {X} n e low release last = go (leb n 11) (eqb n 22) refl refl e
 late-number : (n : ℕ) → 12 ≤ n → (n ≡ 22 → ⊥) → (n ≡ 24 → ⊥) → byEleven n ≡ false
 late-number n l m k = ap₂ _||_ (ap₂ _||_ (lt-leb n 11 (omega arith)) (ne-eqb n 22 m)) (ne-eqb n 24 k)
 
-planner-kept : (out area : List ℕ) (n f j : ℕ) → byEleven n ≡ true → PlannerAnswers out area (record { answer = planRefused n f j; output = out; area = area })
-planner-kept out area n f j h = record {
-  number-is = early-number n h (λ l. inl (omega arith)) (λ e. inr (inl e)) (λ e. inr (inr e));
-  refusal = λ l. record {
-    late-zero = refl;
-    length-zero = refl;
-    output-kept = refl;
-    area-left = record { kept = λ k. refl; zeroed = λ k. absurd (true≢false (sym h ∙ k)) };
-  };
-}
+area-kept : (n : ℕ) (area : List ℕ) → byEleven n ≡ true → AreaAfterRefusal n area area
+area-kept n area h = record { kept = λ k. refl; zeroed = λ k. absurd (true≢false (sym h ∙ k)) }
 
-planner-zeroed : (out area : List ℕ) (n f j : ℕ) → 12 ≤ n → n ≤ 13 →
-    PlannerAnswers out area (record { answer = planRefused n f j; output = out; area = workZero slots area })
-planner-zeroed out area n f j h m = record {
-  number-is = inl m;
-  refusal = λ l. record {
-    late-zero = refl;
-    length-zero = refl;
-    output-kept = refl;
-    area-left = record { kept = λ k. absurd (true≢false (sym k ∙ late-number n h (λ e. omega arith) (λ e. omega arith))); zeroed = λ k. refl };
-  };
-}
+area-zeroed : (n : ℕ) (area : List ℕ) → byEleven n ≡ false → AreaAfterRefusal n area (workZero slots area)
+area-zeroed n area h = record { kept = λ k. absurd (true≢false (sym k ∙ h)); zeroed = λ k. refl }
 
-plan-outcome-answers : (b : Book) (out area : List ℕ) (p : Plan) → PlannerAnswers out area (planOutcome b out area p)
-unfolding planOutcome
-plan-outcome-answers b out area (infeasible f) = planner-zeroed out area 12 f none (omega arith) (omega arith)
-plan-outcome-answers b out area (planned rows) = go (ltb (length out) (tableLength b rows))
-  where
-    go : (t : Bool) → PlannerAnswers out area
-        (if t then record { answer = planRefused 13 none none; output = out; area = workZero slots area }
-        else record {
-          answer = planAccepted (lateFlows b rows) (tableLength b rows);
-          output = tableBytes b rows ++ drop (tableLength b rows) out;
-          area = workUsed slots rows area;
-        })
-    go true = planner-zeroed out area 13 none none (omega arith) (omega arith)
-    go false = record { number-is = inl (omega arith); refusal = λ l. absurd (omega arith) }
+module _ (out area : List ℕ) where
+  planner-refused : (n f j : ℕ) (left : List ℕ) → (n ≤ 13) ⊎ ((n ≡ 22) ⊎ (n ≡ 24)) → AreaAfterRefusal n area left →
+      PlannerAnswers out area (record { answer = planRefused n f j; output = out; area = left })
+  planner-refused n f j left is a = record {
+    number-is = is;
+    refusal = λ l. record { late-zero = refl; length-zero = refl; output-kept = refl; area-left = a };
+  }
 
-plan-reading-answers : (out area : List ℕ) (v : Verdict) (b : Book) → Numbered byEleven v → PlannerAnswers out area (planReading out area (readingOf v b))
-unfolding planReading
-plan-reading-answers out area (Refused n f j) b h = planner-kept out area n f j (h .among n f j refl .1)
-plan-reading-answers out area Pass b h = go (ltb (length area) workBytes)
-  where
-    go : (t : Bool) → PlannerAnswers out area
-        (if t then record { answer = planRefused 11 none none; output = out; area = area } else planOutcome b out area (plan b))
-    go true = planner-kept out area 11 none none refl
-    go false = plan-outcome-answers b out area (plan b)
+  planner-kept : (n f j : ℕ) → byEleven n ≡ true → PlannerAnswers out area (record { answer = planRefused n f j; output = out; area = area })
+  planner-kept n f j h =
+      planner-refused n f j area (early-number n h (λ l. inl (omega arith)) (λ e. inr (inl e)) (λ e. inr (inr e))) (area-kept n area h)
+
+  case-answers : {b : Book} {o : PlanOutcome} → PlanCase b out area o → PlannerAnswers out area o
+  case-answers (short-11 h) = planner-kept 11 none none refl
+  case-answers (stopped-12 h f e) = planner-refused 12 f none (workZero slots area) (inl (omega arith)) (area-zeroed 12 area refl)
+  case-answers (long-13 h rows e l) = planner-refused 13 none none (workZero slots area) (inl (omega arith)) (area-zeroed 13 area refl)
+  case-answers (written-0 h rows e l) = record { number-is = inl (omega arith); refusal = λ p. absurd (omega arith) }
+
+  plan-reading-answers : (v : Verdict) (b : Book) → Numbered byEleven v → PlannerAnswers out area (planReading out area (readingOf v b))
+  plan-reading-answers Pass b h = case-answers (reading-case b out area)
+  plan-reading-answers (Refused n f j) b h = unfold planReading in planner-kept n f j (h .among n f j refl .1)
 
 planner-answers : (book calendar out area : List ℕ) → PlannerAnswers out area (planCall book calendar out area)
 unfolding planCall readBook
@@ -271,14 +260,14 @@ record CheckAnswers (area : List ℕ) (o : CheckOutcome) : Type 0 where
 check-kept : (area : List ℕ) (n f j : ℕ) → byEleven n ≡ true → CheckAnswers area (record { answer = checkRefused n f j; area = area })
 check-kept area n f j h = record {
   number-is = early-number n h inl (λ e. inr (inl (omega arith, omega arith))) (λ e. inr (inr (omega arith, omega arith)));
-  refusal = λ l. record { late-zero = refl; area-left = record { kept = λ k. refl; zeroed = λ k. absurd (true≢false (sym h ∙ k)) } };
+  refusal = λ l. record { late-zero = refl; area-left = area-kept n area h };
 }
 
 check-zeroed : (area : List ℕ) (n f j : ℕ) → byEleven n ≡ false → (((14 ≤ n) × (n ≤ 22)) ⊎ ((24 ≤ n) × (n ≤ 25))) →
     CheckAnswers area (record { answer = checkRefused n f j; area = workZero slots area })
 check-zeroed area n f j l is = record {
   number-is = inr is;
-  refusal = λ z. record { late-zero = refl; area-left = record { kept = λ k. absurd (true≢false (sym k ∙ l)); zeroed = λ k. refl } };
+  refusal = λ z. record { late-zero = refl; area-left = area-zeroed n area l };
 }
 
 check-outcome-answers : (b : Book) (s area : List ℕ) (v : Verdict) → Numbered ofTable v → CheckAnswers area (checkOutcome b s area v)
@@ -297,12 +286,9 @@ check-outcome-answers b s area (Refused n f j) h = go (withoutShut n) refl (h .a
 check-reading-answers : (s area : List ℕ) (v : Verdict) (b : Book) → Numbered byEleven v → CheckAnswers area (checkReading s area (readingOf v b))
 unfolding checkReading
 check-reading-answers s area (Refused n f j) b h = check-kept area n f j (h .among n f j refl .1)
-check-reading-answers s area Pass b h = go (ltb (length area) workBytes)
-  where
-    go : (t : Bool) → CheckAnswers area
-        (if t then record { answer = checkRefused 11 none none; area = area } else checkOutcome b s area (tableFault b s))
-    go true = check-kept area 11 none none refl
-    go false = check-outcome-answers b s area (tableFault b s) (table-numbered b s)
+check-reading-answers s area Pass b h =
+    check-cases b s area (CheckAnswers area) (λ l. check-kept area 11 none none refl)
+    (λ l. check-outcome-answers b s area (tableFault b s) (table-numbered b s))
 
 check-answers : (book calendar s area : List ℕ) → CheckAnswers area (checkCall book calendar s area)
 unfolding checkCall readBook

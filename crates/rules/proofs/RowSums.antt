@@ -3,7 +3,7 @@
 -- adds to the jobs of the book in that slot. Assumes nothing.
 use mathlib.Core.Path.{_≡_, refl, sym, ap, _∙_}
 use mathlib.Core.Logic.{_⊎_, inl, inr}
-use mathlib.Core.Bool.{Bool, true, false, _&&_, and-eq-true-iff, and-false}
+use mathlib.Core.Bool.{Bool, true, false, _&&_, not-eq-not, and-eq-true-iff, and-true, and-false}
 use Prim.Native.Nat.{ℕ, zero, suc, _+_, _≤_, _<_}
 use native.Mathlib.Nat.{not-suc-le-zero}
 use native.Mathlib.Omega.{arith}
@@ -116,11 +116,7 @@ at-is f i t r s =
     (and-eq-true-iff (eqb (r .flow) f) (eqb (r .job) i) .1 (eq-eqb (r .flow) f (s .of-flow), eq-eqb (r .job) i (s .of-job)), eq-eqb (r .slot) t (s .of-slot))
 
 pub not-at : (f i t : ℕ) (r : Row) → (IsAt f i t r → ⊥) → isAt f i t r ≡ false
-not-at f i t r n = go (isAt f i t r) refl
-  where
-    go : (c : Bool) → isAt f i t r ≡ c → isAt f i t r ≡ false
-    go true e = absurd (n (is-at f i t r e))
-    go false e = e
+not-at f i t r n = not-eq-not {b = false} .0 (λ e. n (is-at f i t r e))
 
 pub schedule-none : (rows : List Row) (f i t : ℕ) → ((r : Row) → r ∈ rows → IsAt f i t r → ⊥) → scheduleOf rows f i t ≡ 0
 unfolding scheduleOf
@@ -167,10 +163,6 @@ unfolding doneBefore totalOf
 total-by rows f i t h =
     sum-where-ext (λ r. isOf f i r && ltb (r .slot) t) (λ r. isOf f i r) rows
     (λ r m. ap (isOf f i r &&_) (lt-ltb (r .slot) t (h r m)) ∙ and-true (isOf f i r))
-  where
-    and-true : (c : Bool) → (c && true) ≡ c
-    and-true true = refl
-    and-true false = refl
 
 pub done-le-total : (rows : List Row) (f i t : ℕ) → doneBefore rows f i t ≤ totalOf rows f i
 unfolding doneBefore totalOf

@@ -9,11 +9,11 @@ use Prim.Native.Nat.{ℕ, zero, suc, _+_, _*_, _≤_, _<_}
 use native.Mathlib.Nat.{not-suc-le-zero}
 use native.Mathlib.Omega.{arith}
 use mathlib.Core.List.{List, [], _∷_, List·Memᴰ·head, List·Memᴰ·not-nil, List·Memᴰ·cases-cons, List·Memᴰ·eq-of-singleton}
-use lib.ListN.{length, getD}
+use lib.ListN.{length}
 use Rattle.rules.specs.Walks.{if_then_else_, joinFrom}
 use Rattle.rules.specs.Limits.{slots, mostJobs, mostFlows}
 use Rattle.rules.specs.Book.{Book, flowCount, jobCount, flowOf, InRange}
-use Rattle.rules.specs.Service.{serviceOrder}
+use Rattle.rules.specs.Service.{servedAt}
 use Rattle.rules.specs.Rows.{Row, rowFor, sumWhere}
 use Rattle.rules.specs.Schedule.{Schedule, everyFlow, IsJob, Valid, InSlots, scheduleOf, scheduleRows}
 use Rattle.rules.proofs.Caps.{used-in-range}
@@ -116,17 +116,17 @@ module _ (b : Book) (σ : Schedule) where
   pub schedule-rows-rising : Rising (Before b) (scheduleRows b σ)
   unfolding scheduleRows
   schedule-rows-rising =
-      rising-join (Before b) (λ n. rowsOfFlow (getD (serviceOrder b) n 0)) (flowCount b) (λ n l. rows-of-flow-rising (getD (serviceOrder b) n 0))
+      rising-join (Before b) (λ n. rowsOfFlow (servedAt b n)) (flowCount b) (λ n l. rows-of-flow-rising (servedAt b n))
       (λ m n l h x y p q.
       served-before b x y
-      (rw (flow-of-row (getD (serviceOrder b) m 0) p, flow-of-row (getD (serviceOrder b) n 0) q) (service-sorted b m n l h)))
+      (rw (flow-of-row (servedAt b m) p, flow-of-row (servedAt b n) q) (service-sorted b m n l h)))
 
   -- "one for each slot and job where the job has at least 1 processor": each row is such a one
   pub schedule-rows-in : (r : Row) → r ∈ scheduleRows b σ → RowOf b σ r
   unfolding scheduleRows
   schedule-rows-in r m =
-      let v = join-in (λ n. rowsOfFlow (getD (serviceOrder b) n 0)) (flowCount b) m in
-      let f = getD (serviceOrder b) (v .0) 0 in
+      let v = join-in (λ n. rowsOfFlow (servedAt b n)) (flowCount b) m in
+      let f = servedAt b (v .0) in
       let w = rows-of-flow-in f (v .2) in
       let e = row-for-in (w .0) f (w .2) (σ f (w .2) (w .0)) (w .4) in
       subst (RowOf b σ) (sym (e .0))
@@ -146,7 +146,7 @@ module _ (b : Book) (σ : Schedule) where
       let at-slot : r ∈ rowsOfSlot f (r .slot) =
       in-join (rowsOfJob f (r .slot)) (jobCount (flowOf b f)) (r .job) (h .is-row .in-book .job-in) at-job in
       let at-flow : r ∈ rowsOfFlow f = in-join (rowsOfSlot f) slots (r .slot) (h .is-row .slot-in) at-slot in
-      in-join (λ k. rowsOfFlow (getD (serviceOrder b) k 0)) (flowCount b) (n .0) (n .1) (subst (λ f. r ∈ rowsOfFlow f) (sym (n .2)) at-flow)
+      in-join (λ k. rowsOfFlow (servedAt b k)) (flowCount b) (n .0) (n .1) (subst (λ f. r ∈ rowsOfFlow f) (sym (n .2)) at-flow)
 
 -- ---- the schedule that rising rows state
 -- a row states its processors
@@ -247,8 +247,8 @@ unfolding scheduleRows
 schedule-rows-length b σ h =
     omega (
       arith,
-      join-length-le (λ n. rowsOfFlow b σ (getD (serviceOrder b) n 0)) (flowCount b) (mostJobs * slots)
-          (λ n l. flow-length (getD (serviceOrder b) n 0) (service-below b n l)),
+      join-length-le (λ n. rowsOfFlow b σ (servedAt b n)) (flowCount b) (mostJobs * slots)
+          (λ n l. flow-length (servedAt b n) (service-below b n l)),
       h .flows-most,
     )
   where

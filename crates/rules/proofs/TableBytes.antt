@@ -15,8 +15,8 @@ use Rattle.rules.specs.Fields.{byte, field, bytesOf, AllBytes}
 use Rattle.rules.specs.Answers.{none}
 use Rattle.rules.specs.Book.{Book, flowCount, InRange}
 use Rattle.rules.specs.Rows.{Row, finishOf}
-use Rattle.rules.specs.Table.{tableHead, rowLength, tableLength, rowBytes, rowsBytes, tableBytes, rowAt}
-use Rattle.rules.specs.Check.{noRow, tableRows, tableHeadFault, statedFinish}
+use Rattle.rules.specs.Table.{tableHead, rowLength, tableLength, rowBytes, rowsBytes, tableBytes, finishIn, rowAt}
+use Rattle.rules.specs.Check.{noRow, tableRows, tableHeadFault}
 use Rattle.rules.proofs.Walks.{list-length, list-at-zero}
 use Rattle.rules.proofs.Fields.{bytes-length, field-lt, StandsAt, stands-whole, stands-first, stands-after, stands-empty, stands-append, stands-equal, field-written, byte-written, field-read, byte-read, join-bytes-length, join-stands, stands-join-at}
 use Rattle.rules.proofs.Passing.{test-passed, neither-true}
@@ -194,14 +194,14 @@ head-written b rows range fits =
 
 -- the finish of a flow, whatever follows the table
 pub finish-in-front : (b : Book) (rows : List Row) (rest : List ℕ) (f : ℕ) → f < flowCount b → finishOf rows f < 256 ^ 2 →
-    statedFinish (tableBytes b rows ++ rest) f ≡ finishOf rows f
+    finishIn (tableBytes b rows ++ rest) f ≡ finishOf rows f
 finish-in-front b rows rest f l fits =
     let s = tableBytes b rows ++ rest in
     field-written 2 (finishOf rows f) s (8 + 2 * f) fits
     (stands-parts b rows s (stands-first s 0 (tableBytes b rows) rest (stands-whole s)) .finish-stands f l)
 
 pub finish-written : (b : Book) (rows : List Row) (f : ℕ) → f < flowCount b → finishOf rows f < 256 ^ 2 →
-    statedFinish (tableBytes b rows) f ≡ finishOf rows f
+    finishIn (tableBytes b rows) f ≡ finishOf rows f
 finish-written b rows f l fits = rw append-nil at (finish-in-front b rows [] f l fits)
 
 -- ---- writing again what was read
@@ -226,12 +226,12 @@ table-rows-fit b s h r m =
 
 -- what the test of the head leaves
 pub record HeadPasses (b : Book) (s : List ℕ) : Type 0 where
-  head-whole : tableHead b ≤ length s
+  pub head-whole : tableHead b ≤ length s
   pub length-is : field 4 s 0 ≡ length s
   version-is : byte s 4 ≡ 1
   processors-are : field 2 s 5 ≡ b .processors
   flows-are : byte s 7 ≡ flowCount b
-  rows-whole : (length s - tableHead b) % rowLength ≡ 0
+  pub rows-whole : (length s - tableHead b) % rowLength ≡ 0
 
 pub head-passes : (b : Book) (s : List ℕ) → tableHeadFault b s ≡ Pass → HeadPasses b s
 unfolding tableHeadFault
@@ -266,7 +266,7 @@ rows-stand-there b s bytes =
 
 -- a table with the right head and finishes is the one that its rows give
 pub table-read : (b : Book) (s : List ℕ) → AllBytes s → tableHeadFault b s ≡ Pass →
-    ((f : ℕ) → f < flowCount b → statedFinish s f ≡ finishOf (tableRows b s) f) → s ≡ tableBytes b (tableRows b s)
+    ((f : ℕ) → f < flowCount b → finishIn s f ≡ finishOf (tableRows b s) f) → s ≡ tableBytes b (tableRows b s)
 table-read b s bytes pass stated =
     stands-equal s (tableBytes b (tableRows b s)) (sym (table-bytes-length b (tableRows b s) ∙ long)) (parts-stand b (tableRows b s) s parts)
   where

@@ -2,25 +2,25 @@
 -- Each test of a chain of refusals is taken apart by `test-passed`, each walk by `fault-pass`; where the facts hold, every test passes.
 -- Assumes nothing.
 use mathlib.Core.Path.{_≡_, refl, sym, _∙_}
-use mathlib.Core.Bool.{Bool, true, false, _&&_, true≢false}
+use mathlib.Core.Bool.{Bool, true, false, _&&_, _||_, true≢false}
 use Prim.Native.Nat.{ℕ, _+_, _≤_, _<_}
 use native.Mathlib.Omega.{arith}
 use mathlib.Core.List.{List, []}
 use lib.ListN.{length, take, getD}
-use lib.Dec.{eqb}
+use lib.Dec.{leb, eqb}
 use borrow.Author.Tests.{ltb-false, leb-false, eqb-false, eqb-true, le-ltb, lt-leb, eq-eqb, ne-eqb, not-false}
 use Rattle.rules.specs.declared.Verdict.{Verdict}
 use Rattle.rules.specs.declared.Verdict.the-variants.{Pass, Refused}
-use Rattle.rules.specs.Walks.{if_then_else_}
 use Rattle.rules.specs.Answers.{none, _andThen_, firstFault}
 use Rattle.rules.specs.Limits.{slots}
 use Rattle.rules.specs.Calendar.{Calendar, isOpen}
 use Rattle.rules.specs.Book.{Book, withCalendar, flowCount, jobCount, flowOf, jobOf, precedes}
 use Rattle.rules.specs.Rows.{Row, usedIn, totalOf, doneBefore, finishOf}
-use Rattle.rules.specs.Check.{noRow, rises, beforeRelease, lacksPredecessor, rowFault, totalFault, statedFinish, finishFault, tableRows, tableHeadFault, tableFault}
+use Rattle.rules.specs.Table.{finishIn}
+use Rattle.rules.specs.Check.{noRow, rises, beforeRelease, lacksPredecessor, rowFault, totalFault, finishFault, tableRows, tableHeadFault, tableFault}
 use Rattle.rules.proofs.Walks.{any-none, any-false}
-use Rattle.rules.proofs.Faults.{not-pass, both-pass, fault-pass, all-pass}
-use Rattle.rules.proofs.Passing.{test-passed, neither-true}
+use Rattle.rules.proofs.Faults.{both-pass, fault-pass, all-pass}
+use Rattle.rules.proofs.Passing.{test-passed, must-hold, neither-true}
 use Rattle.rules.proofs.SameUse.{with-same, faults-same}
 use Rattle.rules.proofs.Usable.{always-open}
 
@@ -67,6 +67,20 @@ none-lacks b soFar r h =
 positive : (n : ℕ) → (n ≡ 0 → ⊥) → 0 < n
 positive n h = omega arith
 
+-- what 15 leaves of a row
+pub in-book-of : (b : Book) (r : Row) →
+    (leb slots (r .slot) || leb (flowCount b) (r .flow) || leb (jobCount (flowOf b (r .flow))) (r .job) || eqb (r .processors) 0) ≡ false →
+    (r .slot < slots) × (r .flow < flowCount b) × (r .job < jobCount (flowOf b (r .flow))) × (0 < r .processors)
+in-book-of b r e =
+    let takes = neither-true _ _ e in
+    let job = neither-true _ _ (takes .0) in
+    let flow = neither-true _ _ (job .0) in (
+      leb-false slots (r .slot) (flow .0),
+      leb-false (flowCount b) (r .flow) (flow .1),
+      leb-false (jobCount (flowOf b (r .flow))) (r .job) (job .1),
+      positive (r .processors) (eqb-false (r .processors) 0 (takes .1)),
+    )
+
 -- "25 when a row uses a shut slot, between 15 and 16" (02, Req 07): a row in range that uses one is 25, wherever it stands in the order
 pub shut-is-25 : (b : Book) (opened : ℕ → Bool) (rows : List Row) (k : ℕ) →
     getD rows k noRow .slot < slots → getD rows k noRow .flow < flowCount b → getD rows k noRow .job < jobCount (flowOf b (getD rows k noRow .flow)) →
@@ -94,14 +108,12 @@ row-passes b opened rows k pass =
     let used = test-passed _ 18 (r .flow) (r .job) _ (cap .1) in
     let begun = test-passed _ 19 (r .flow) (r .job) _ (used .1) in
     let done = neither-true _ _ (begun .0) in
-    let takes = neither-true _ _ (place .0) in
-    let job = neither-true _ _ (takes .0) in
-    let flow = neither-true _ _ (job .0) in
+    let inside = in-book-of b r (place .0) in
     record {
-      slot-in = leb-false slots (r .slot) (flow .0);
-      flow-in = leb-false (flowCount b) (r .flow) (flow .1);
-      job-in = leb-false (jobCount (flowOf b (r .flow))) (r .job) (job .1);
-      takes = positive (r .processors) (eqb-false (r .processors) 0 (takes .1));
+      slot-in = inside .0;
+      flow-in = inside .1;
+      job-in = inside .2;
+      takes = inside .3;
       slot-open = not-false (opened (r .slot)) (shut .0);
       comes-after = not-false (rises b rows k) (order .0);
       cap-kept = ltb-false (jobOf (flowOf b (r .flow)) (r .job) .cap) (r .processors) (cap .0);
@@ -136,30 +148,24 @@ pub record RowsPass (b : Book) (rows : List Row) : Type 0 where
 pub record TablePasses (b : Book) (s : List ℕ) : Type 0 where
   pub head-passes : tableHeadFault b s ≡ Pass
   pub rows-pass : RowsPass b (tableRows b s)
-  pub finishes : (f : ℕ) → f < flowCount b → statedFinish s f ≡ finishOf (tableRows b s) f
-
--- a test that has to hold
-must-hold : (t : Bool) (n f j : ℕ) → (if t then Pass else Refused n f j) ≡ Pass → t ≡ true
-must-hold true n f j e = refl
-must-hold false n f j e = not-pass n f j e
+  pub finishes : (f : ℕ) → f < flowCount b → finishIn s f ≡ finishOf (tableRows b s) f
 
 total-passes : (b : Book) (rows : List Row) (f i : ℕ) → totalFault b rows f i ≡ Pass → totalOf rows f i ≡ jobOf (flowOf b f) i .size
 unfolding totalFault
 total-passes b rows f i pass =
-    eqb-true (totalOf rows f i) (jobOf (flowOf b f) i .size)
-    (must-hold (eqb (totalOf rows f i) (jobOf (flowOf b f) i .size)) 20 f i pass)
+    eqb-true (totalOf rows f i) (jobOf (flowOf b f) i .size) (must-hold _ 20 f i pass)
 
 passes-total : (b : Book) (rows : List Row) (f i : ℕ) → totalOf rows f i ≡ jobOf (flowOf b f) i .size → totalFault b rows f i ≡ Pass
 unfolding totalFault
 passes-total b rows f i e = rw (eq-eqb (totalOf rows f i) (jobOf (flowOf b f) i .size) e) refl
 
-finish-passes : (s : List ℕ) (rows : List Row) (f : ℕ) → finishFault s rows f ≡ Pass → statedFinish s f ≡ finishOf rows f
+finish-passes : (s : List ℕ) (rows : List Row) (f : ℕ) → finishFault s rows f ≡ Pass → finishIn s f ≡ finishOf rows f
 unfolding finishFault
-finish-passes s rows f pass = eqb-true (statedFinish s f) (finishOf rows f) (must-hold (eqb (statedFinish s f) (finishOf rows f)) 21 f none pass)
+finish-passes s rows f pass = eqb-true (finishIn s f) (finishOf rows f) (must-hold _ 21 f none pass)
 
-passes-finish : (s : List ℕ) (rows : List Row) (f : ℕ) → statedFinish s f ≡ finishOf rows f → finishFault s rows f ≡ Pass
+passes-finish : (s : List ℕ) (rows : List Row) (f : ℕ) → finishIn s f ≡ finishOf rows f → finishFault s rows f ≡ Pass
 unfolding finishFault
-passes-finish s rows f e = rw (eq-eqb (statedFinish s f) (finishOf rows f) e) refl
+passes-finish s rows f e = rw (eq-eqb (finishIn s f) (finishOf rows f) e) refl
 
 module _ (b : Book) (s : List ℕ) where
   abbrev rows : List Row

@@ -1,7 +1,7 @@
 -- The slots that a flow can use, the open ones from its release on, and the processors that are free for it there. Assumes nothing.
-use mathlib.Core.Path.{_≡_, refl, sym, _∙_}
+use mathlib.Core.Path.{_≡_, refl, _∙_}
 use Prim.Native.Nat.{ℕ, zero, suc, _+_, _-_, _≤_, _<_}
-use mathlib.Core.Bool.{Bool, true, false, _&&_, and-eq-true-iff}
+use mathlib.Core.Bool.{Bool, true, false, not-eq-not, and-true, and-false, and-eq-true-iff}
 use mathlib.Core.List.{List, []}
 use mathlib.Core.Logic.{_⊎_, inl, inr}
 use native.Mathlib.Omega.{arith}
@@ -11,6 +11,7 @@ use Rattle.rules.specs.Walks.{if_then_else_, sumTo, bit, countTo}
 use Rattle.rules.specs.Calendar.{isOpen, openBefore}
 use Rattle.rules.specs.Book.{Flow, Book, flowOf, usable}
 use Rattle.rules.specs.Rows.{Row, usedIn}
+use Rattle.rules.specs.Schedule.{Schedule, IsJob, Valid}
 use Rattle.rules.specs.Placing.{freeProcessors}
 use Rattle.rules.proofs.Division.{lt-or-ge}
 use Rattle.rules.proofs.OpenSlots.{open-none, open-next, open-mono, always}
@@ -31,22 +32,14 @@ module _ (b : Book) (w : Flow) (t : ℕ) where
   -- from the release on the usable slots are the open ones
   pub usable-released : w .release ≤ t → usable b w t ≡ isOpen (b .calendar) t
   unfolding usable
-  usable-released h = rw (le-leb (w .release) t h) (alone (isOpen (b .calendar) t))
-    where
-      alone : (x : Bool) → (x && true) ≡ x
-      alone true = refl
-      alone false = refl
+  usable-released h = rw (le-leb (w .release) t h) (and-true (isOpen (b .calendar) t))
 
   pub usable-from : isOpen (b .calendar) t ≡ true → w .release ≤ t → usable b w t ≡ true
   usable-from o h = usable-released h ∙ o
 
   pub not-released : t < w .release → usable b w t ≡ false
   unfolding usable
-  not-released h = rw (lt-leb (w .release) t h) (no (isOpen (b .calendar) t))
-    where
-      no : (x : Bool) → (x && false) ≡ false
-      no true = refl
-      no false = refl
+  not-released h = rw (lt-leb (w .release) t h) (and-false (isOpen (b .calendar) t))
 
   pub shut-unusable : isOpen (b .calendar) t ≡ false → usable b w t ≡ false
   unfolding usable
@@ -63,6 +56,11 @@ module _ (b : Book) (w : Flow) where
           countTo (usable b w) t + bit (usable b w t) ≡ openBefore (b .calendar) (suc t) - openBefore (b .calendar) (w .release)
       go (inl l) ih = rw (not-released b w t l) (omega (arith, open-mono (b .calendar) l, open-next (b .calendar) t))
       go (inr l) ih = rw (usable-released b w t l) (omega (arith, open-next (b .calendar) t, open-mono (b .calendar) l))
+
+-- a slot in which a valid schedule gives something to a flow is one that it can use
+pub given-usable : (b : Book) (among : ℕ → Bool) (σ : Schedule) → Valid b among σ → (f i t : ℕ) → IsJob b among f i → 0 < σ f i t →
+    usable b (flowOf b f) t ≡ true
+given-usable b among σ valid f i t j some = not-eq-not {b = true} .0 (λ e. omega (arith, some, valid .in-usable f i t j e))
 
 module _ (b : Book) (f : ℕ) (rows : List Row) (t : ℕ) where
   -- in a slot that the flow can use, all that the rows before leave

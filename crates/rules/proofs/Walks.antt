@@ -6,8 +6,10 @@ use mathlib.Core.List.{List, _++_, append-assoc, append-nil}
 use mathlib.Core.Logic.{⊎-elim, _⊎_, inl, inr}
 use native.Mathlib.Nat.{add-zero, zero-add, le-of-suc-le-suc, not-suc-le-zero, eq-or-lt-of-le, lt-suc-self}
 use native.Mathlib.Omega.{arith}
-use lib.ListN.{getD, length, length-append}
-use lib.Seq.{ext-getD}
+use lib.ListN.{getD, set, length, length-append}
+use lib.Seq.{ext-getD, getD-set-same, getD-set-other}
+use lib.Dec.{eqb}
+use borrow.Author.Tests.{eqb-true, eqb-false}
 use Rattle.rules.specs.Walks.{sumTo, maxTo, anyTo, allTo, listFrom, joinFrom}
 use Rattle.rules.proofs.Division.{lt-or-ge}
 use Rattle.rules.proofs.Sums.{sum-ext}
@@ -15,6 +17,14 @@ use Rattle.rules.proofs.Sums.{sum-ext}
 -- k is the last number below n + 1, or below n
 pub last-or : {X : Type 0} (k n : ℕ) → k < suc n → (k ≡ n → X) → (k < n → X) → X
 last-or k n h a b = ⊎-elim (λ e. a e) (λ l. b l) (eq-or-lt-of-le (le-of-suc-le-suc h))
+
+-- what holds of the value that is set at place n, and of the values before at the other places, holds of each value after
+pub after-set : (X : ℕ → ℕ → Type 0) (l : List ℕ) (n v : ℕ) → n < length l → X n v → ((i : ℕ) → (i ≡ n → ⊥) → X i (getD l i 0)) → (i : ℕ) → X i (getD (set l n v) i 0)
+after-set X l n v room here others i = go (eqb i n) refl
+  where
+    go : (t : Bool) → eqb i n ≡ t → X i (getD (set l n v) i 0)
+    go true e = rw (eqb-true i n e, getD-set-same l n v 0 room) here
+    go false e = let other = eqb-false i n e in rw (getD-set-other l n i v 0 other) (others i other)
 
 -- ---- maxima
 pub max-ext : (g h : ℕ → ℕ) (n : ℕ) → ((k : ℕ) → k < n → g k ≡ h k) → maxTo g n ≡ maxTo h n

@@ -106,7 +106,7 @@ pub used-row : (n : ℕ) (rows : List Row) (r : Row) (area : List ℕ) → r .sl
 used-row n rows r area l = used-more n (r .slot) (r .processors) rows (r ∷ []) area l (row-used r) (row-not-used r)
 
 -- ---- a cleared area: clearing it again changes nothing, and rows counted over it are counted over the area that it was
-cleared-past : (n : ℕ) (area : List ℕ) → drop (2 * n) (workZero n area) ≡ drop (2 * n) area
+pub cleared-past : (n : ℕ) (area : List ℕ) → drop (2 * n) (workZero n area) ≡ drop (2 * n) area
 unfolding workZero
 cleared-past n area = drop-at (replicate (2 * n) 0) (drop (2 * n) area) (2 * n) (length-replicate (2 * n) 0)
 

@@ -9,10 +9,10 @@ use Rattle.rules.specs.Book.{Book, flowCount, InRange}
 use Rattle.rules.specs.Reading.{read, readBook}
 use Rattle.rules.specs.Rows.{finishOf}
 use Rattle.rules.specs.Placing.{rowsOf, plan}
-use Rattle.rules.specs.Table.{tableLength, tableBytes}
+use Rattle.rules.specs.Table.{tableLength, tableBytes, finishIn}
 use Rattle.rules.specs.Planner.{planCall}
 use Rattle.rules.specs.Check.{tableRows}
-use Rattle.rules.specs.Demands.{PlansByTheRules, WritesPlan, finishIn, tableOf}
+use Rattle.rules.specs.Demands.{PlansByTheRules, WritesPlan, tableOf}
 use Rattle.rules.proofs.Passing.{read-in-range}
 use Rattle.rules.proofs.TableBytes.{table-bytes-length, finish-in-front}
 use Rattle.rules.proofs.PlannedValid.{planned-valid, planned-in-slots}
@@ -29,7 +29,7 @@ module _ (book calendar out area : List ℕ) (b : Book) (reads : readBook book c
   unfolding PlansByTheRules
   writes = plans-by-the-rules book calendar out area b reads accepted
 
-  written-table : tableOf (planCall book calendar out area) ≡ tableBytes b (rowsOf (plan b))
+  pub written-table : tableOf (planCall book calendar out area) ≡ tableBytes b (rowsOf (plan b))
   written-table =
       let rows = rowsOf (plan b) in
       ap (λ n. take n (planCall book calendar out area .output)) (writes .table-length) ∙ ap (take (tableLength b rows)) (writes .table)

@@ -1,6 +1,5 @@
 -- The calendar of the cluster (document 02, Req 07; "calendar" and "window" are its words): the windows in which maintenance shuts it, which slots are
 -- open, and the bytes of a calendar with their fault, 24. Assumes nothing.
-use mathlib.Core.Path.{_≡_}
 use Prim.Native.Nat.{ℕ, zero, suc, _+_, _*_, _<_, _≤_}
 use mathlib.Core.Bool.{Bool, true, false, not, _&&_, _||_}
 use mathlib.Core.List.{List, [], _∷_}

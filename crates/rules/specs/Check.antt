@@ -18,7 +18,7 @@ use Rattle.rules.specs.Book.{Book, flowCount, jobCount, flowOf, jobOf, p
 use Rattle.rules.specs.Reading.{Reading, read, unread, readBook}
 use Rattle.rules.specs.Service.{servedBefore}
 use Rattle.rules.specs.Rows.{Row, usedIn, totalOf, doneBefore, finishOf, lateFlows, workUsed, workZero}
-use Rattle.rules.specs.Table.{tableHead, rowLength, rowAt}
+use Rattle.rules.specs.Table.{tableHead, rowLength, finishIn, rowAt}
 
 -- the rows that stand behind head and finishes
 unfoldable pub tableRows : Book → List ℕ → List Row
@@ -84,13 +84,9 @@ rowFault b opened rows k =
 unfoldable pub totalFault : Book → List Row → ℕ → ℕ → Verdict
 totalFault b rows f i = if eqb (totalOf rows f i) (jobOf (flowOf b f) i .size) then Pass else Refused 20 f i
 
--- the finish that the table states for flow f
-abbrev pub statedFinish : List ℕ → ℕ → ℕ
-statedFinish s f = field 2 s (8 + 2 * f)
-
 -- "a stated finish differs (lowest flow)"
 unfoldable pub finishFault : List ℕ → List Row → ℕ → Verdict
-finishFault s rows f = if eqb (statedFinish s f) (finishOf rows f) then Pass else Refused 21 f none
+finishFault s rows f = if eqb (finishIn s f) (finishOf rows f) then Pass else Refused 21 f none
 
 -- ---- the check of a table against a book: "14, then 15 to 19 in order for each row, then 20, 21; the first fault met ends the walk", 25
 -- between 15 and 16

@@ -2,15 +2,14 @@
 use Prim.Native.Nat.{ℕ, _+_}
 use mathlib.Core.Bool.{Bool}
 use mathlib.Core.List.{List, [], _∷_}
-use lib.ListN.{getD}
 use lib.Dec.{eqb}
 use Rattle.rules.specs.Walks.{if_then_else_, countTo, anyTo}
 use Rattle.rules.specs.Book.{Flow, Book}
-use Rattle.rules.specs.Service.{serviceOrder}
+use Rattle.rules.specs.Service.{servedAt}
 
 -- flow f is among the first k flows in service order
 unfoldable pub amongFirst : Book → ℕ → ℕ → Bool
-amongFirst b k f = anyTo (λ n. eqb (getD (serviceOrder b) n 0) f) k
+amongFirst b k f = anyTo (λ n. eqb (servedAt b n) f) k
 
 -- of these flows, numbered from f on, those that pass a test
 unfoldable pub keepFlows : (ℕ → Bool) → ℕ → List Flow → List Flow

@@ -18,7 +18,7 @@ use Rattle.rules.specs.Reading.{versionOf, bookOf, bookFault, read, unre
 use Rattle.rules.specs.Service.{servedBefore}
 use Rattle.rules.specs.Rows.{Row, usedIn, finishOf, isLate, lateFlows, workZero}
 use Rattle.rules.specs.Placing.{slotsFor, planned, rowsOf, plan}
-use Rattle.rules.specs.Table.{tableLength, tableBytes}
+use Rattle.rules.specs.Table.{tableLength, tableBytes, finishIn}
 use Rattle.rules.specs.Planner.{PlanOutcome, planCall}
 use Rattle.rules.specs.Check.{noRow, tableRows, CheckOutcome, checkCall}
 use Rattle.rules.specs.Dispatch.{listedBefore, listHead, listLength, rowsInList, DispatchOutcome, dispatchCall}
@@ -260,10 +260,6 @@ pub record FinishRefusal (area : List ℕ) (o : FinishOutcome) : Type 0 where
   pub finish-zero : o .answer .finish ≡ 0
   pub kept : finishByEleven (o .answer .number) ≡ true → o .area ≡ area
   pub zeroed : finishByEleven (o .answer .number) ≡ false → o .area ≡ workZero slots area
-
--- the finish of flow f that stands in a table: "the finish of each flow in book order (2 each)", behind 8 bytes
-abbrev pub finishIn : List ℕ → ℕ → ℕ
-finishIn table f = field 2 table (8 + 2 * f)
 
 -- what the planner leaves for "the book cut after that flow in service order"
 abbrev pub planOfCut : List ℕ → List ℕ → Book → ℕ → List ℕ → List ℕ → PlanOutcome

@@ -1,14 +1,14 @@
 -- Rules 4 to 6: placing slot by slot, rows by units, infeasible books. Assumes nothing.
-use Prim.Native.Nat.{ℕ, zero, suc, _+_, _*_, _-_, min}
+use Prim.Native.Nat.{ℕ, zero, suc, _+_, _-_, min}
 use mathlib.Core.List.{List, [], _∷_, _++_}
-use lib.ListN.{take, drop, replicate, getD}
+use lib.ListN.{take, drop, replicate}
 use lib.Dec.{eqb}
 use Rattle.rules.specs.Walks.{if_then_else_, bit, joinFrom}
 use Rattle.rules.specs.Calendar.{slotAfter}
 use Rattle.rules.specs.Book.{Flow, Book, flowCount, jobCount, flowOf, usable, twiceDeadline}
 use Rattle.rules.specs.Ideal.{takeOf}
 use Rattle.rules.specs.PseudoJobs.{PseudoJob, chain, rate, work}
-use Rattle.rules.specs.Service.{serviceOrder}
+use Rattle.rules.specs.Service.{servedAt}
 use Rattle.rules.specs.Rows.{Row, rowFor, usedIn}
 
 -- ---- rule 5: the units of a pseudo-job, in the order of their numbers; a unit is given as its job
@@ -93,7 +93,7 @@ thenPlace (infeasible f) next = infeasible f
 -- "Flows are placed in service order": the first k of them
 unfoldable pub placeFirst : Book → ℕ → Plan
 placeFirst b zero = planned []
-placeFirst b (suc k) = thenPlace (placeFirst b k) (placeFlow b (getD (serviceOrder b) k 0))
+placeFirst b (suc k) = thenPlace (placeFirst b k) (placeFlow b (servedAt b k))
 
 unfoldable pub plan : Book → Plan
 plan b = placeFirst b (flowCount b)

@@ -3,12 +3,11 @@ use mathlib.Core.Path.{_≡_}
 use Prim.Native.Nat.{ℕ, _≤_, _<_}
 use mathlib.Core.Bool.{Bool, true, false, _&&_}
 use mathlib.Core.List.{List}
-use lib.ListN.{getD}
 use lib.Dec.{eqb}
 use Rattle.rules.specs.Walks.{sumTo, joinFrom}
 use Rattle.rules.specs.Limits.{slots}
 use Rattle.rules.specs.Book.{Book, flowCount, jobCount, flowOf, jobOf, precedes, usable}
-use Rattle.rules.specs.Service.{serviceOrder}
+use Rattle.rules.specs.Service.{servedAt}
 use Rattle.rules.specs.Rows.{Row, rowFor, isOf, sumWhere}
 use Rattle.rules.specs.Table.{tableBytes}
 
@@ -65,7 +64,7 @@ scheduleOf rows f i t = sumWhere (λ r. isOf f i r && eqb (r .slot) t) rows
 -- job"
 unfoldable pub scheduleRows : Book → Schedule → List Row
 scheduleRows b σ =
-    joinFrom (λ n. let f = getD (serviceOrder b) n 0 in
+    joinFrom (λ n. let f = servedAt b n in
     joinFrom (λ t. joinFrom (λ i. rowFor t f i (σ f i t)) (jobCount (flowOf b f)) 0) slots 0) (flowCount b) 0
 
 -- its table: these rows "under the right head and finishes"

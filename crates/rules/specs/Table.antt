@@ -31,6 +31,10 @@ tableBytes b rows =
     bytesOf 4 (tableLength b rows) ++ bytesOf 1 1 ++ bytesOf 2 (b .processors) ++ bytesOf 1 (flowCount b)
     ++ joinFrom (λ f. bytesOf 2 (finishOf rows f)) (flowCount b) 0 ++ rowsBytes rows
 
+-- the finish of flow f that stands in a table: "the finish of each flow in book order (2 each)", behind 8 bytes
+abbrev pub finishIn : List ℕ → ℕ → ℕ
+finishIn table f = field 2 table (8 + 2 * f)
+
 -- the row that stands at `at`
 unfoldable pub rowAt : List ℕ → ℕ → Row
 rowAt s at = record { slot = field 2 s at; flow = byte s (at + 2); job = byte s (at + 3); processors = field 2 s (at + 4) }

@@ -26,6 +26,7 @@ use Rattle.rules.proofs.Division.{lt-or-ge}
 use Rattle.rules.proofs.Faults.{fault-next}
 use Rattle.rules.proofs.Walks.{any-true, any-false}
 use Rattle.rules.proofs.Bits.{no-bit-left}
+use Rattle.rules.proofs.TablePasses.{in-book-of}
 use Rattle.rules.proofs.WorkArea.{used-row, used-rest, used-cleared}
 use Rattle.table_check.specs.declared.row.Row.{Row}
 use Rattle.table_check.specs.declared.row.Current.{Current}
@@ -38,7 +39,7 @@ use Rattle.table_check.proofs.SoFar.{finish-here, finish-there}
 use Rattle.table_check.proofs.Tallies.{tally-next, total-others}
 use Rattle.table_check.proofs.Started.{started}
 use Rattle.table_check.proofs.Turns.{Going, Lent, Turn, range, known}
-use Rattle.table_check.proofs.RowFaults.{in-book-of, release-fault, lacks-fault, row-passes, lacks-by-ready}
+use Rattle.table_check.proofs.RowFaults.{release-fault, lacks-fault, row-passes, lacks-by-ready}
 
 -- the use of each slot does not depend on what the area was
 used-self : (n : ℕ) (rows : List rules.Row) (area s : List ℕ) → s ≡ workUsed n rows area → s ≡ workUsed n rows s

@@ -13,7 +13,8 @@ use Rattle.rules.specs.Walks.{if_then_else_}
 use Rattle.rules.specs.Answers.{firstFault}
 use Rattle.rules.specs.Book.{Book, flowCount, jobCount, flowOf, jobOf, InRange}
 use Rattle.rules.specs.Rows.{Row, totalOf, lateFlows}
-use Rattle.rules.specs.Check.{totalFault, statedFinish, finishFault}
+use Rattle.rules.specs.Table.{finishIn}
+use Rattle.rules.specs.Check.{totalFault, finishFault}
 use Rattle.rules.proofs.Caps.{used-in-range}
 use Rattle.rules.proofs.Faults.{not-pass, fault-stop, fault-next, fault-ext}
 use Rattle.rules.proofs.Passing.{pass-in-range}
@@ -82,14 +83,14 @@ module _ (b : Book) (f : ℕ) (totals : List ℕ) (jobs : ℕ) (jobs-are : jobs 
   closes-right job h l e =
       off-none f 64 (omega arith) ∙ sym (all-walked (totalFaultBy b f totals) job (jobCount (flowOf b f)) (omega arith) (omega arith) e)
 
-module _ (table finish : List ℕ) (f v : ℕ) (v-is : v ≡ statedFinish table f) where
+module _ (table finish : List ℕ) (f v : ℕ) (v-is : v ≡ finishIn table f) where
   pub finish-right : v ≡ getD finish f 0 → finishFaultBy table finish f ≡ Pass
   unfolding finishFaultBy
-  finish-right e = rw (eq-eqb (statedFinish table f) (getD finish f 0) (sym v-is ∙ e)) refl
+  finish-right e = rw (eq-eqb (finishIn table f) (getD finish f 0) (sym v-is ∙ e)) refl
 
   pub finish-wrong : (v ≡ getD finish f 0 → ⊥) → finishFaultBy table finish f ≡ Refused 21 f 255
   unfolding finishFaultBy
-  finish-wrong n = rw (ne-eqb (statedFinish table f) (getD finish f 0) (λ e. n (v-is ∙ e))) refl
+  finish-wrong n = rw (ne-eqb (finishIn table f) (getD finish f 0) (λ e. n (v-is ∙ e))) refl
 
 -- ---- the totals of a flow give its verdict
 pub flow-totals : (b : Book) (f : ℕ) (soFar : List Row) (totals : List ℕ) → jobCount (flowOf b f) ≤ 64 →
@@ -111,7 +112,7 @@ module _ (b : Book) (range : InRange b) (rows : List Row) (off finish : List ℕ
   unfolding finishFaultBy finishFault
   finishes-same table =
       fault-ext (finishFaultBy table finish) (finishFault table rows) (flowCount b)
-      (λ f h. ap (λ (n : ℕ). if eqb (statedFinish table f) n then Pass else Refused 21 f 255) (closed .finish-of f (omega (arith, range .flows-most))))
+      (λ f h. ap (λ (n : ℕ). if eqb (finishIn table f) n then Pass else Refused 21 f 255) (closed .finish-of f (omega (arith, range .flows-most))))
 
   pub late-same : (deadlines : List ℕ) → ((f : ℕ) → f < flowCount b → getD deadlines f 0 ≡ flowOf b f .deadline) →
       lateCount deadlines finish (flowCount b) ≡ lateFlows b rows

@@ -2,14 +2,14 @@
 -- flow's than the last one, so that service order alone tells whether it comes after it. Assumes nothing.
 use mathlib.Core.Path.{_≡_, refl, sym, ap, _∙_}
 use Prim.Native.Nat.{ℕ, suc, _+_, _*_, _≤_, _<_}
-use mathlib.Core.Bool.{Bool, true, false}
+use mathlib.Core.Bool.{Bool}
 use mathlib.Core.Logic.{_⊎_, inl, inr}
 use mathlib.Core.List.{List, []}
 use native.Mathlib.Omega.{arith}
 use lib.ListN.{length, getD, take, set, replicate, length-set, length-replicate, getD-replicate}
-use lib.Seq.{take-all, getD-set-same, getD-set-other}
+use lib.Seq.{take-all}
 use lib.Dec.{leb, eqb}
-use borrow.Author.Tests.{le-leb, lt-leb, leb-true, eqb-true, eqb-false, ne-eqb}
+use borrow.Author.Tests.{le-leb, lt-leb, leb-true, ne-eqb}
 use Rattle.rules.specs.declared.Verdict.{Verdict}
 use Rattle.rules.specs.declared.Verdict.the-variants.{Pass, Refused}
 use Rattle.rules.specs.Walks.{if_then_else_}
@@ -23,6 +23,7 @@ use Rattle.rules.specs.Table.{tableHead, rowLength, rowAt}
 use Rattle.rules.specs.Check.{noRow, tableRows, tableHeadFault, rowFault, totalFault}
 use Rattle.rules.proofs.Caps.{used-in-range}
 use Rattle.rules.proofs.Division.{lt-or-ge}
+use Rattle.rules.proofs.Walks.{after-set}
 use Rattle.rules.proofs.Faults.{not-pass, fault-stop, fault-ext}
 use Rattle.rules.proofs.Passing.{pass-in-range}
 use Rattle.rules.proofs.WorkArea.{used-none, used-over-cleared, cleared-twice, cleared-length}
@@ -294,25 +295,15 @@ module _ {book : List ℕ} {opened : ℕ → Bool} {table : List ℕ} {x : Index
 
       off-next : (g : ℕ) → g < flowCount (bookOf book) →
           offFault g (getD (set off f (w .off)) g 0) ≡ flowTotals (bookOf book) (take (rowsTo (bookOf book) (w .next)) (tableRows (bookOf book) table)) g
-      off-next g h = go (eqb g f) refl
-        where
-          go : (t : Bool) → eqb g f ≡ t →
-              offFault g (getD (set off f (w .off)) g 0) ≡ flowTotals (bookOf book) (take (rowsTo (bookOf book) (w .next)) (tableRows (bookOf book) table)) g
-          go true e = rw (eqb-true g f e, getD-set-same off f (w .off) 0 (omega (arith, few, between .off-long))) (walked .off pass)
-          go false e =
-              let other = eqb-false g f e in
-              ap (offFault g) (getD-set-other off f g (w .off) 0 other) ∙ between .closed .off-of g h ∙ sym (off-others g other)
+      off-next =
+          after-set (λ g v. g < flowCount b → offFault g v ≡ flowTotals b (take m rows) g) off f (w .off) (omega (arith, few, between .off-long))
+          (λ h. walked .off pass) (λ g other h. between .closed .off-of g h ∙ sym (off-others g other))
 
       finish-next : (g : ℕ) → g < 64 →
           getD (set finish f (w .finish)) g 0 ≡ finishOf (take (rowsTo (bookOf book) (w .next)) (tableRows (bookOf book) table)) g
-      finish-next g h = go (eqb g f) refl
-        where
-          go : (t : Bool) → eqb g f ≡ t →
-              getD (set finish f (w .finish)) g 0 ≡ finishOf (take (rowsTo (bookOf book) (w .next)) (tableRows (bookOf book) table)) g
-          go true e = rw (eqb-true g f e, getD-set-same finish f (w .finish) 0 (omega (arith, few, between .finish-long))) (went .finish-of)
-          go false e =
-              let other = eqb-false g f e in
-              getD-set-other finish f g (w .finish) 0 other ∙ between .closed .finish-of g h ∙ sym (went .others-finish g other)
+      finish-next =
+          after-set (λ g v. g < 64 → v ≡ finishOf (take m rows) g) finish f (w .finish) (omega (arith, few, between .finish-long))
+          (λ h. went .finish-of) (λ g other h. between .closed .finish-of g h ∙ sym (went .others-finish g other))
 
       another-next : (g : ℕ) → g < 64 → rowsTo (bookOf book) (w .next) < length (tableRows (bookOf book) table) →
           getD (tableRows (bookOf book) table) (rowsTo (bookOf book) (w .next)) noRow .flow ≡ g → serviceKey (bookOf book) g ≡ serviceKey (bookOf book) f → ⊥

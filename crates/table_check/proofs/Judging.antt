@@ -19,6 +19,7 @@ use Rattle.rules.specs.Check.{tableRows, tableHeadFault, totalFault, finishFaul
 use Rattle.rules.proofs.Faults.{not-pass, fault-stands}
 use Rattle.rules.proofs.Passing.{pass-in-range, pass-reads}
 use Rattle.rules.proofs.SameUse.{with-same, faults-same, judged-same}
+use Rattle.rules.proofs.TableBytes.{head-passes}
 use Rattle.book.specs.declared.Index.{Index}
 use Rattle.book.specs.Promise.{Indexed}
 use Rattle.table_check.specs.declared.walk.Walked.{Walked}
@@ -26,7 +27,7 @@ use Rattle.table_check.specs.declared.Judged.{Judged}
 use Rattle.table_check.specs.Tests.{headFault}
 use Rattle.table_check.specs.Walk.{rowsFault, flowTotals, Ready, Closed, TableWalked, offsFault, finishFaultBy, faultBy, TableJudged}
 use Rattle.book.specs.Late.{lateCount}
-use Rattle.table_check.proofs.Heads.{head-of-book, head-passes}
+use Rattle.table_check.proofs.Heads.{head-of-book}
 use Rattle.table_check.proofs.Finals.{offs-same, finishes-same, late-same}
 
 -- ---- stages
@@ -85,7 +86,7 @@ module _ {book : List ℕ} {x : Index} (indexed : Indexed book x) (table : List 
     walk-ready h = record { indexed = indexed; headed = headed; room = h }
 
     pub finishes-inside : 8 + 2 * x .flows ≤ length table
-    finishes-inside = omega (arith, indexed .flows, head-passes b table headed .head-inside)
+    finishes-inside = omega (arith, indexed .flows, head-passes b table headed .head-whole)
 
     module _ {opened : ℕ → Bool} {before after : List ℕ} {w : Walked} (walked : TableWalked (bookOf book) opened table before after w) where
       after-head : faultBy (bookOf book) opened table ≡ (w .verdict andThen totalsFault (bookOf book) table andThen finishesFault (bookOf book) table)

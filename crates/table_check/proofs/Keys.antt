@@ -2,7 +2,7 @@
 -- or with the same first part and the lesser second part. Assumes nothing.
 use mathlib.Core.Path.{_≡_, refl, sym, ap, _∙_}
 use Prim.Native.Nat.{ℕ, zero, suc, _+_, _*_, _≤_, _<_}
-use mathlib.Core.Bool.{Bool, true, false, _&&_, _||_}
+use mathlib.Core.Bool.{Bool, true, false, _&&_, _||_, and-false}
 use mathlib.Core.Logic.{_⊎_, inl, inr}
 use mathlib.Core.List.{List}
 use native.Mathlib.Nat.{mul-le-mul-right}
@@ -73,11 +73,7 @@ same-flow b g f h l = pair-eq 64 (flowOf b g .deadline) g (flowOf b f .deadline)
   where
     go : (t : Bool) → eqb g f ≡ t → (eqb (flowOf b g .deadline) (flowOf b f .deadline) && eqb g f) ≡ eqb g f
     go true e = rw (e, eq-eqb (flowOf b g .deadline) (flowOf b f .deadline) (ap (λ (k : ℕ). flowOf b k .deadline) (eqb-true g f e))) refl
-    go false e = rw e (falls (eqb (flowOf b g .deadline) (flowOf b f .deadline)))
-      where
-        falls : (t : Bool) → (t && false) ≡ false
-        falls true = refl
-        falls false = refl
+    go false e = rw e (and-false (eqb (flowOf b g .deadline) (flowOf b f .deadline)))
 
 -- two flows have two numbers
 pub service-apart : (b : Book) (g f : ℕ) → g < 64 → f < 64 → (g ≡ f → ⊥) → serviceKey b g ≡ serviceKey b f → ⊥

@@ -2,12 +2,12 @@
 -- predecessors stand one after the other, each group counting where those before it pass. Assumes nothing.
 use mathlib.Core.Path.{_≡_, refl, sym, ap, _∙_, subst}
 use Prim.Native.Nat.{ℕ, _+_, _≤_, _<_}
-use mathlib.Core.Bool.{Bool, true, false, not, _&&_, _||_}
+use mathlib.Core.Bool.{Bool, true, false, not, _&&_, _||_, or-true, or-false}
 use mathlib.Core.List.{List}
 use native.Mathlib.Omega.{arith}
 use lib.ListN.{getD, take}
 use lib.Dec.{ltb, leb, eqb}
-use borrow.Author.Tests.{le-leb, lt-leb, ltb-true, ltb-false, leb-true, leb-false}
+use borrow.Author.Tests.{le-leb, lt-leb, ltb-true, ltb-false, leb-true}
 use Rattle.rules.specs.declared.Verdict.{Verdict}
 use Rattle.rules.specs.declared.Verdict.the-variants.{Pass, Refused}
 use Rattle.rules.specs.Walks.{if_then_else_, anyTo}
@@ -19,7 +19,8 @@ use Rattle.rules.specs.Check.{noRow, rises, beforeRelease, lacksPredecessor, ro
 use Rattle.rules.proofs.Caps.{used-in-range}
 use Rattle.rules.proofs.Walks.{any-ext}
 use Rattle.rules.proofs.Faults.{fault-pass}
-use Rattle.rules.proofs.Passing.{test-passed, neither-true}
+use Rattle.rules.proofs.Passing.{test-passed}
+use Rattle.rules.proofs.TablePasses.{in-book-of}
 use Rattle.table_check.specs.Tests.{rowKey, leastKey, earlyNumber, lateNumber, lacksAt}
 use Rattle.table_check.specs.Tally.{FlowTally}
 use Rattle.table_check.proofs.Keys.{KeyFits, rises-key}
@@ -54,30 +55,9 @@ verdictAt b opened rows k r =
     (lacksPredecessor b (take k rows) r) (r .flow) (r .job)
 
 -- the tests of a row that is in the book
-or-false : (s : Bool) → (s || false) ≡ s
-or-false true = refl
-or-false false = refl
-
-or-true : (s j p : Bool) → (s || true || j || p) ≡ true
-or-true true j p = refl
-or-true false j p = refl
-
 out-of-known : (b : Book) (r : Row) → r .flow < flowCount b →
     outOfBook b r ≡ (leb slots (r .slot) || leb (jobCount (flowOf b (r .flow))) (r .job) || eqb (r .processors) 0)
 out-of-known b r h = rw (lt-leb (flowCount b) (r .flow) h, or-false (leb slots (r .slot))) refl
-
-pub in-book-of : (b : Book) (r : Row) → outOfBook b r ≡ false → (r .slot < slots) × (r .flow < flowCount b) × (r .job < jobCount (flowOf b (r .flow)))
-in-book-of b r e =
-    let s = leb slots (r .slot) in
-    let f = leb (flowCount b) (r .flow) in
-    let j = leb (jobCount (flowOf b (r .flow))) (r .job) in
-    let some = neither-true (s || f || j) (eqb (r .processors) 0) e in
-    let job-test = neither-true (s || f) j (some .0) in
-    let flow-test = neither-true s f (job-test .0) in (
-      leb-false slots (r .slot) (flow-test .0),
-      leb-false (flowCount b) (r .flow) (flow-test .1),
-      leb-false (jobCount (flowOf b (r .flow))) (r .job) (job-test .1),
-    )
 
 key-fits : (b : Book) (r : Row) → InRange b → outOfBook b r ≡ false → KeyFits r
 key-fits b r h e =
@@ -117,7 +97,7 @@ module _ (b : Book) (opened : ℕ → Bool) (rows : List Row) (k : ℕ) (r : Row
   pub flow-unknown : flowCount b ≤ r .flow → rowFault b opened rows k ≡ Refused 15 (r .flow) (r .job)
   flow-unknown h =
       let out : outOfBook b r ≡ true =
-      rw (le-leb (flowCount b) (r .flow) h) (or-true (leb slots (r .slot)) (leb (jobCount (flowOf b (r .flow))) (r .job)) (eqb (r .processors) 0)) in
+      rw (le-leb (flowCount b) (r .flow) h, or-true (leb slots (r .slot))) refl in
       tests ∙ rw out refl
 
   -- 15, 25 and 16, by a key that tells whether the row rises

@@ -11,8 +11,8 @@ use Rattle.rules.specs.Rows.{Row}
 use Rattle.rules.specs.Table.{tableHead, rowLength, rowAt}
 use Rattle.rules.specs.Check.{noRow, tableRows, tableHeadFault}
 use Rattle.rules.proofs.Walks.{list-length, list-at}
+use Rattle.rules.proofs.TableBytes.{head-passes}
 use Rattle.table_check.specs.Tally.{rowsTo, Reached}
-use Rattle.table_check.proofs.Heads.{head-passes}
 
 pub rows-length : (b : Book) (s : List ℕ) → length (tableRows b s) ≡ (length s - tableHead b) / rowLength
 unfolding tableRows
@@ -27,7 +27,7 @@ row-at b s k h =
 
 -- the rows fill the table behind its head
 pub table-length : (b : Book) (s : List ℕ) → tableHeadFault b s ≡ Pass → length s ≡ tableHead b + rowLength * length (tableRows b s)
-table-length b s e = let p = head-passes b s e in omega (arith, rows-length b s, p .head-inside, p .rows-whole)
+table-length b s e = let p = head-passes b s e in omega (arith, rows-length b s, p .head-whole, p .rows-whole)
 
 pub rows-to : (b : Book) (at k : ℕ) → at ≡ tableHead b + rowLength * k → rowsTo b at ≡ k
 unfolding rowsTo

@@ -9,15 +9,15 @@ use mathlib.Core.List.{List, [], _∷_, _++_}
 use native.Mathlib.Nat.{add-zero}
 use native.Mathlib.Omega.{arith}
 use lib.ListN.{getD, set, replicate, length-set, length-replicate, getD-replicate}
-use lib.Seq.{getD-set-same, getD-set-other}
-use lib.Dec.{ltb, leb, eqb}
-use borrow.Author.Tests.{lt-ltb, le-ltb, eq-eqb, ne-eqb, ltb-true, ltb-false, leb-true, leb-false, eqb-true, eqb-false}
+use lib.Dec.{ltb, leb}
+use borrow.Author.Tests.{lt-ltb, le-ltb, eq-eqb, ne-eqb, ltb-true, ltb-false, leb-true, leb-false}
 use Rattle.rules.specs.Walks.{if_then_else_, sumTo}
 use Rattle.rules.specs.Limits.{slots}
 use Rattle.rules.specs.Book.{Book, flowCount, jobCount, flowOf, jobOf, InRange}
 use Rattle.rules.specs.Rows.{Row, isOf, totalOf, doneBefore, finishOf}
 use Rattle.rules.proofs.Caps.{used-in-range}
 use Rattle.rules.proofs.Division.{lt-or-ge}
+use Rattle.rules.proofs.Walks.{after-set}
 use Rattle.rules.proofs.RowsSoFar.{total-last, done-last, finish-last, done-is-total}
 use Rattle.rules.proofs.RowSums.{done-le-total, sum-schedule}
 use Rattle.table_check.specs.Tests.{readyAfter}
@@ -97,25 +97,22 @@ module _ (b : Book) (f : ℕ) (soFar : List Row) (r : Row) (own : r .flow ≡ f)
       abbrev totals′ : List ℕ
       totals′ = set totals (r .job) (getD totals (r .job) 0 + r .processors)
 
+      abbrev readyFrom : ℕ
+      readyFrom = readyAfter (getD ready (r .job) 0) (getD totals (r .job) 0) (getD totals (r .job) 0 + r .processors) size (r .slot)
+
       abbrev ready′ : List ℕ
-      ready′ = set ready (r .job) (readyAfter (getD ready (r .job) 0) (getD totals (r .job) 0) (getD totals (r .job) 0 + r .processors) size (r .slot))
+      ready′ = set ready (r .job) readyFrom
 
       total-next : (i : ℕ) → i < 64 → getD totals′ i 0 ≡ totalOf (soFar ++ r ∷ []) f i
-      total-next i h = go (eqb (r .job) i) refl
-        where
-          go : (t : Bool) → eqb (r .job) i ≡ t → getD totals′ i 0 ≡ totalOf (soFar ++ r ∷ []) f i
-          go true e =
-              let same = eqb-true (r .job) i e in
-              rw (← same) (getD-set-same totals (r .job) _ 0 (omega (arith, tally .totals-long))
-              ∙ ap (λ (n : ℕ). n + r .processors) (tally .total (r .job) few) ∙ sym total-here)
-          go false e =
-              let other = eqb-false (r .job) i e in
-              getD-set-other totals (r .job) i _ 0 (λ q. other (sym q)) ∙ tally .total i h ∙ sym (total-there i other)
+      total-next =
+          after-set (λ i v. i < 64 → v ≡ totalOf (soFar ++ r ∷ []) f i) totals (r .job) _ (omega (arith, tally .totals-long))
+          (λ h. ap (λ (n : ℕ). n + r .processors) (tally .total (r .job) few) ∙ sym total-here)
+          (λ i other h. tally .total i h ∙ sym (total-there i (λ e. other (sym e))))
 
       complete-here : (t : ℕ) → r .slot ≤ t → t < slots →
-          ltb (doneBefore (soFar ++ r ∷ []) f (r .job) t) (jobOf (flowOf b f) (r .job) .size) ≡ ltb t (getD ready′ (r .job) 0)
+          ltb (doneBefore (soFar ++ r ∷ []) f (r .job) t) (jobOf (flowOf b f) (r .job) .size) ≡ ltb t readyFrom
       complete-here t h l =
-          rw (getD-set-same ready (r .job) (readyAfter (getD ready (r .job) 0) (getD totals (r .job) 0) (getD totals (r .job) 0 + r .processors) size (r .slot)) 0 (omega (arith, tally .ready-long)), tally .total (r .job) few, size-is)
+          rw (tally .total (r .job) few, size-is)
           (ready-decides (getD ready (r .job) 0) (totalOf soFar f (r .job)) (r .processors) (jobOf (flowOf b f) (r .job) .size) (r .slot) t
           (doneBefore soFar f (r .job) t) (doneBefore (soFar ++ r ∷ []) f (r .job) t) h (done-le-total soFar f (r .job) t)
           (done-in-it t) (done-past t) (λ k. done-is-total soFar f (r .job) t (omega arith))
@@ -123,14 +120,12 @@ module _ (b : Book) (f : ℕ) (soFar : List Row) (r : Row) (own : r .flow ≡ f)
 
       complete-next : (i t : ℕ) → i < jobCount (flowOf b f) → finishOf (soFar ++ r ∷ []) f ≤ t + 1 → t < slots →
           ltb (doneBefore (soFar ++ r ∷ []) f i t) (jobOf (flowOf b f) i .size) ≡ ltb t (getD ready′ i 0)
-      complete-next i t h m l = go (eqb (r .job) i) refl
-        where
-          go : (u : Bool) → eqb (r .job) i ≡ u → ltb (doneBefore (soFar ++ r ∷ []) f i t) (jobOf (flowOf b f) i .size) ≡ ltb t (getD ready′ i 0)
-          go true e = rw (← eqb-true (r .job) i e) (complete-here t (omega (arith, finish-here soFar r f own latest)) l)
-          go false e =
-              let other = eqb-false (r .job) i e in
-              rw (done-there i t other, getD-set-other ready (r .job) i (readyAfter (getD ready (r .job) 0) (getD totals (r .job) 0) (getD totals (r .job) 0 + r .processors) size (r .slot)) 0 (λ q. other (sym q)))
-              (tally .complete i t h (omega (arith, finish-last soFar r f)) l)
+      complete-next =
+          after-set
+          (λ i v. (t : ℕ) → i < jobCount (flowOf b f) → finishOf (soFar ++ r ∷ []) f ≤ t + 1 → t < slots →
+          ltb (doneBefore (soFar ++ r ∷ []) f i t) (jobOf (flowOf b f) i .size) ≡ ltb t v) ready (r .job) readyFrom (omega (arith, tally .ready-long))
+          (λ t h m l. complete-here t (omega (arith, finish-here soFar r f own latest)) l)
+          (λ i other t h m l. rw (done-there i t (λ e. other (sym e))) (tally .complete i t h (omega (arith, finish-last soFar r f)) l))
 
       pub tally-next : FlowTally b f (soFar ++ r ∷ []) totals′ ready′
       tally-next = record {

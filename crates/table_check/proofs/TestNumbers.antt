@@ -1,7 +1,7 @@
 -- Laws of the tests of a row as numbers: the first that is not 0 counts; and of what 19 asks. Assumes nothing.
 use mathlib.Core.Path.{_≡_, refl, sym, _∙_}
 use Prim.Native.Nat.{ℕ, _*_, _≤_, _<_}
-use mathlib.Core.Bool.{Bool, true, false, not, _||_}
+use mathlib.Core.Bool.{Bool, true, false, not, or-true}
 use mathlib.Core.List.{List}
 use native.Mathlib.Omega.{arith}
 use lib.ListN.{getD}
@@ -35,11 +35,7 @@ first-none m n e = go (eqb m 0) refl
 -- 15 by the job, and by the slot
 pub early-by-job : (jobs : ℕ) (opened : Bool) (least key : ℕ) (r : Row) → jobs ≤ r .job → 15 ≡ earlyNumber jobs opened least key r
 unfolding earlyNumber
-early-by-job jobs opened least key r h = rw (le-leb jobs (r .job) h) (go (leb slots (r .slot)))
-  where
-    go : (s : Bool) → _≡_ {A = ℕ} 15 (if s || true || eqb (r .processors) 0 then 15 else if not opened then 25 else if ltb key least then 16 else 0)
-    go true = refl
-    go false = refl
+early-by-job jobs opened least key r h = rw (le-leb jobs (r .job) h, or-true (leb slots (r .slot))) refl
 
 pub early-by-slot : (jobs : ℕ) (opened : Bool) (least key : ℕ) (r : Row) → slots ≤ r .slot → 15 ≡ earlyNumber jobs opened least key r
 unfolding earlyNumber

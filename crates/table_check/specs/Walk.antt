@@ -15,7 +15,8 @@ use Rattle.rules.specs.Book.{Book, flowCount, jobCount, flowOf, jobOf}
 use Rattle.rules.specs.Reading.{bookOf}
 use Rattle.rules.specs.Rows as rules
 use Rattle.rules.specs.Rows.{totalOf, finishOf, lateFlows, workUsed, workZero}
-use Rattle.rules.specs.Check.{noRow, tableRows, tableHeadFault, rowFault, totalFault, statedFinish, finishFault}
+use Rattle.rules.specs.Table.{finishIn}
+use Rattle.rules.specs.Check.{noRow, tableRows, tableHeadFault, rowFault, totalFault, finishFault}
 use Rattle.book.specs.Promise.{Indexed}
 use Rattle.book.specs.declared.Index.{Index}
 use Rattle.table_check.specs.declared.row.Current.{Current}
@@ -101,7 +102,7 @@ offsFault off flows = firstFault (λ f. offFault f (getD off f 0)) flows
 
 -- 21 at flow f, by the finishes
 unfoldable pub finishFaultBy : List ℕ → List ℕ → ℕ → Verdict
-finishFaultBy table finish f = if eqb (statedFinish table f) (getD finish f 0) then Pass else Refused 21 f none
+finishFaultBy table finish f = if eqb (finishIn table f) (getD finish f 0) then Pass else Refused 21 f none
 
 -- ---- the table judged: 14 to 21 and 25
 -- the first fault of the table, with these slots open
