@@ -17,7 +17,8 @@ use Rattle.rules.specs.Dispatch.{listRows}
 use Rattle.rules.proofs.Division.{lt-or-ge}
 use Rattle.rules.proofs.Walks.{join-last, join-split}
 use Rattle.rules.proofs.Rising.{_∈_, first-in, in-at, join-in, in-join, Rising, rising-join, rising-unique}
-use Rattle.rules.proofs.RowOrder.{Before, Lexical, lexical-rest, before-same-flow}
+use Rattle.rules.proofs.Lexical.{Lexical, lexical-rest}
+use Rattle.rules.proofs.RowOrder.{Before, before-same-flow}
 use Rattle.rules.proofs.ListOrder as order
 use Rattle.rules.proofs.ListOrder.{listed-asymmetric, list-in, in-list, list-length, list-rising}
 use Rattle.dispatch.specs.Merge.{Accepted, rowsOf, keepRows, rowsAt, rowsIn, rowsBelow}

@@ -19,6 +19,7 @@ pub mod Division
 pub mod Bits
 pub mod Sums
 pub mod Walks
+pub mod Lexical
 pub mod Faults
 pub mod Fields
 -- the reading of books

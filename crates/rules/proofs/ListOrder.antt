@@ -2,11 +2,11 @@
 -- The test of two rows says the order, as in the table's. A row put into its place is counted once, so the list has each row as often as the table, as
 -- many rows and the same sums. Of two rows that differ in slot, flow or job one comes before the other, so putting rows into their places one by one
 -- gives rising order; rows that rise in the table's order differ so. Assumes nothing.
-use mathlib.Core.Path.{_≡_, refl, sym, subst, _∙_}
+use mathlib.Core.Path.{_≡_, refl, sym, subst}
 use mathlib.Core.Logic.{_⊎_, inl, inr, ⊎-elim}
-use mathlib.Core.Bool.{Bool, true, false, _&&_, _||_, and-eq-true-iff, false≢true}
-use Prim.Native.Nat.{ℕ, zero, suc, _+_, _≤_, _<_}
-use native.Mathlib.Nat.{not-suc-le-zero}
+use mathlib.Core.Bool.{Bool, true, false, _&&_, _||_, and-eq-true-iff}
+use Prim.Native.Nat.{ℕ, suc, _+_, _≤_, _<_}
+use native.Mathlib.Nat.{not-suc-le-zero, lt-suc-self}
 use native.Mathlib.Omega.{arith}
 use mathlib.Core.List.{List, [], _∷_, List·Memᴰ·tail, List·Memᴰ·not-nil, List·Memᴰ·cases-cons}
 use lib.ListN.{length, getD}
@@ -19,8 +19,9 @@ use Rattle.rules.specs.Check.{noRow}
 use Rattle.rules.specs.Dispatch.{listedBefore, insertRow, listRows}
 use Rattle.rules.specs.Demands.{sameRow, timesIn}
 use Rattle.rules.proofs.Division.{lt-or-ge}
-use Rattle.rules.proofs.Rising.{_∈_, first-in, at-in, Rising, rising-unique}
-use Rattle.rules.proofs.RowOrder.{Lexical, lexical-trans, lexical-rest, lexical-map, less-or-same, less-or-same-test, Before, before-differs, before-asymmetric}
+use Rattle.rules.proofs.Rising.{_∈_, first-in, Rising, rising-at, rising-unique, Inserts, insert-rising}
+use Rattle.rules.proofs.Lexical.{Lexical, lexical-trans, lexical-rest, lexical-map, lexical-either, less-or-more, less-or-same, less-or-same-test}
+use Rattle.rules.proofs.RowOrder.{Before, before-differs, before-asymmetric}
 use Rattle.rules.proofs.RowSums.{counted}
 
 -- ---- the order
@@ -50,22 +51,10 @@ before-listed q r l =
     (lexical-map (λ x. less-or-same-test (q .flow) (r .flow) (ltb (q .job) (r .job)) (lexical-map (lt-ltb (q .job) (r .job)) x)) l)
 
 -- of two rows that differ in slot, flow or job one comes before the other
-lexical-either : {X Y : Type 0} (a b : ℕ) → (a ≡ b → X ⊎ Y) → Lexical a b X ⊎ Lexical b a Y
-lexical-either {X} {Y} a b rest = go (lt-or-ge a b) (lt-or-ge b a)
-  where
-    go : (a < b) ⊎ (b ≤ a) → (b < a) ⊎ (a ≤ b) → Lexical a b X ⊎ Lexical b a Y
-    go (inl l) o = inl (inl l)
-    go (inr l) (inl m) = inr (inl m)
-    go (inr l) (inr m) = let e : a ≡ b = omega arith in ⊎-elim (λ x. inl (inr (e, x))) (λ y. inr (inr (sym e, y))) (rest e)
-
 differ-listed : (q r : Row) → (q .flow ≡ r .flow → q .slot ≡ r .slot → q .job ≡ r .job → ⊥) → Listed q r ⊎ Listed r q
 unfolding Listed
 differ-listed q r differ =
-    lexical-either (q .slot) (r .slot) (λ s. lexical-either (q .flow) (r .flow) (λ f. jobs s f (lt-or-ge (q .job) (r .job))))
-  where
-    jobs : q .slot ≡ r .slot → q .flow ≡ r .flow → (q .job < r .job) ⊎ (r .job ≤ q .job) → (q .job < r .job) ⊎ (r .job < q .job)
-    jobs s f (inl l) = inl l
-    jobs s f (inr l) = inr (omega (arith, differ f s))
+    lexical-either (q .slot) (r .slot) (λ s. lexical-either (q .flow) (r .flow) (λ f. less-or-more (q .job) (r .job) (differ f s)))
 
 -- ---- what is counted of rows
 -- a count to which each row adds something of its own is the same of the list
@@ -142,39 +131,17 @@ list-in rows r = as-often-in r (listRows rows) rows (list-as-often r rows)
 pub in-list : (rows : List Row) (r : Row) → r ∈ rows → r ∈ listRows rows
 in-list rows r = as-often-in r rows (listRows rows) (sym (list-as-often r rows))
 
-insert-in : (r : Row) (qs : List Row) (x : Row) → x ∈ insertRow r qs → (x ≡ r) ⊎ (x ∈ qs)
-insert-in r qs x m =
-    List·Memᴰ·cases-cons
-    (as-often-in x (insertRow r qs) (r ∷ qs) (insert-count (timesIn x) (λ q. bit (sameRow q x)) (times-more x) r qs ∙ sym (times-more x r qs)) m)
-
 -- ---- rising order
-insert-rising : (r : Row) (qs : List Row) → ((q : Row) → q ∈ qs → Listed q r ⊎ Listed r q) → Rising Listed qs → Rising Listed (insertRow r qs)
-unfolding insertRow Rising
-insert-rising r [] differ h = (λ y m. absurd (List·Memᴰ·not-nil m), tt)
-insert-rising r (q ∷ qs) differ h = go (listedBefore q r) refl (insert-rising r qs (λ x m. differ x (List·Memᴰ·tail m)) (h .1))
-  where
-    after : Listed q r → (y : Row) → (y ≡ r) ⊎ (y ∈ qs) → Listed q y
-    after l y (inl e) = rw e l
-    after l y (inr m) = h .0 y m
-
-    first : Listed r q → (y : Row) → (y ≡ q) ⊎ (y ∈ qs) → Listed r y
-    first l y (inl e) = rw e l
-    first l y (inr m) = listed-trans r q y l (h .0 y m)
-
-    other : listedBefore q r ≡ false → Listed q r ⊎ Listed r q → Listed r q
-    other e (inl l) = absurd (false≢true (sym e ∙ before-listed q r l))
-    other e (inr l) = l
-
-    go : (t : Bool) → listedBefore q r ≡ t → Rising Listed (insertRow r qs) → Rising Listed (if t then q ∷ insertRow r qs else r ∷ q ∷ qs)
-    go true e ih = (λ y m. after (listed-before q r e) y (insert-in r qs y m), ih)
-    go false e ih = (λ y m. first (other e (differ q (first-in q qs))) y (List·Memᴰ·cases-cons m), h)
+inserts : Inserts listedBefore insertRow
+unfolding insertRow
+inserts = record { first = λ r. refl; next = λ r q qs. refl }
 
 -- rows that rise in the table's order, listed
 pub list-rising : (b : Book) (rows : List Row) → Rising (Before b) rows → Rising Listed (listRows rows)
 unfolding Rising listRows
 list-rising b [] h = tt
 list-rising b (r ∷ rs) h =
-    insert-rising r (listRows rs)
+    insert-rising inserts Listed listed-trans listed-before before-listed r (listRows rs)
     (λ q m. ⊎-elim inr inl (differ-listed r q (before-differs b r q (h .0 q (list-in rs q m))))) (list-rising b rs (h .1))
 
 -- equal lists are of the same rows, since these have one order in a table
@@ -186,10 +153,7 @@ list-injective b xs ys p q e =
 
 -- ---- rows in rising order: each comes before the next one, and none is there twice
 pub listed-next : (rows : List Row) → Rising Listed rows → (k : ℕ) → suc k < length rows → listedBefore (getD rows k noRow) (getD rows (suc k) noRow) ≡ true
-unfolding Rising
-listed-next [] h k l = absurd (not-suc-le-zero l)
-listed-next (r ∷ rs) h zero l = before-listed r (getD rs 0 noRow) (h .0 (getD rs 0 noRow) (at-in rs 0 noRow (omega arith)))
-listed-next (r ∷ rs) h (suc k) l = listed-next rs (h .1) k (omega arith)
+listed-next rows h k l = before-listed (getD rows k noRow) (getD rows (suc k) noRow) (rising-at Listed rows noRow h k (suc k) (lt-suc-self k) l)
 
 pub listed-once : (r : Row) (rows : List Row) → Rising Listed rows → timesIn r rows ≤ 1
 unfolding Rising timesIn

@@ -4,7 +4,7 @@ use mathlib.Core.Path.{_≡_, refl, ap, ap₂}
 use Prim.Native.Nat.{ℕ, zero, suc, _+_, _*_, _^_, _≤_, _<_}
 use mathlib.Core.Bool.{Bool, true, false, not, _||_, true≢false}
 use mathlib.Core.List.{List, []}
-use mathlib.Core.Logic.{_⊎_, inl, inr}
+use mathlib.Core.Logic.{_⊎_, inl, inr, ⊎-elim}
 use native.Mathlib.Omega.{arith}
 use lib.ListN.{length}
 use lib.Dec.{ltb, leb, eqb}
@@ -19,7 +19,7 @@ use Rattle.rules.specs.Calendar.{Calendar, CalendarInRange, calendarHead
 use Rattle.rules.specs.Book.{Book, withCalendar, flowCount, jobCount, noFlow, noJob, flowIn, jobOf, JobInRange, FlowInRange, InRange}
 use Rattle.rules.specs.Reading.{bookHead, versionOf, flowHead, jobRecord, releaseAt, jobsAt, flowStart, jobStart, jobAt, flowAt, bookOf, flowHeadFault, jobFault, flowFault, leftoverFault, bookFault, bookWith, readingOf, readBook}
 use Rattle.rules.specs.Reading.Reading.{read}
-use Rattle.rules.proofs.Walks.{list-length, list-at-zero, any-none}
+use Rattle.rules.proofs.Walks.{or-cases, list-length, list-at-zero, any-none}
 use Rattle.rules.proofs.Faults.{not-pass, both-pass, fault-pass, all-pass}
 
 -- ---- the values of the book that bytes hold
@@ -173,11 +173,7 @@ abbrev pub Known : ℕ → Type 0
 Known version = (version ≡ 1) ⊎ (version ≡ 2)
 
 known : (version : ℕ) → (eqb version 1 || eqb version 2) ≡ true → Known version
-known version e = go (eqb version 1) refl e
-  where
-    go : (t : Bool) → eqb version 1 ≡ t → (t || eqb version 2) ≡ true → Known version
-    go true q p = inl (eqb-true version 1 q)
-    go false q p = inr (eqb-true version 2 p)
+known version e = ⊎-elim (λ q. inl (eqb-true version 1 q)) (λ q. inr (eqb-true version 2 q)) (or-cases (eqb version 1) (eqb version 2) e)
 
 known-passes : (version : ℕ) → Known version → (eqb version 1 || eqb version 2) ≡ true
 known-passes version (inl e) = rw e refl

@@ -24,6 +24,7 @@ use Rattle.rules.specs.Table.{tableHead, rowLength, finishIn}
 use Rattle.rules.specs.Planner.{PlanOutcome, planReading, planCall}
 use Rattle.rules.specs.Check.{tableRows, tableHeadFault, noRow, rises, lacksPredecessor, beforeRelease, rowFault, totalFault, finishFault, tableFault, CheckOutcome, checkOutcome, checkReading, checkCall}
 use Rattle.rules.specs.Demands.{byEleven, AreaAfterRefusal, PlannerRefusal, CheckRefusal, Demand1}
+use Rattle.rules.proofs.Walks.{or-cases}
 use Rattle.rules.proofs.Faults.{not-pass}
 use Rattle.rules.proofs.CallCases.{check-cases, PlanCase, short-11, stopped-12, long-13, written-0, reading-case}
 
@@ -208,12 +209,9 @@ record PlannerAnswers (out area : List ℕ) (o : PlanOutcome) : Type 0 where
 
 -- a refusal before or by 11, and one after it
 pub early-number : {X : Type 0} (n : ℕ) → byEleven n ≡ true → (n ≤ 11 → X) → (n ≡ 22 → X) → (n ≡ 24 → X) → X
-early-number {X} n e low release last = go (leb n 11) (eqb n 22) refl refl e
-  where
-    go : (t u : Bool) → leb n 11 ≡ t → eqb n 22 ≡ u → (t || u || eqb n 24) ≡ true → X
-    go true u q r p = low (leb-true n 11 q)
-    go false true q r p = release (eqb-true n 22 r)
-    go false false q r p = last (eqb-true n 24 p)
+early-number n e low release last =
+    ⊎-elim (λ p. ⊎-elim (λ q. low (leb-true n 11 q)) (λ q. release (eqb-true n 22 q)) (or-cases (leb n 11) (eqb n 22) p)) (λ p. last (eqb-true n 24 p))
+    (or-cases (leb n 11 || eqb n 22) (eqb n 24) e)
 
 late-number : (n : ℕ) → 12 ≤ n → (n ≡ 22 → ⊥) → (n ≡ 24 → ⊥) → byEleven n ≡ false
 late-number n l m k = ap₂ _||_ (ap₂ _||_ (lt-leb n 11 (omega arith)) (ne-eqb n 22 m)) (ne-eqb n 24 k)
@@ -273,15 +271,14 @@ check-zeroed area n f j l is = record {
 check-outcome-answers : (b : Book) (s area : List ℕ) (v : Verdict) → Numbered ofTable v → CheckAnswers area (checkOutcome b s area v)
 unfolding checkOutcome
 check-outcome-answers b s area Pass h = record { number-is = inl (omega arith); refusal = λ l. absurd (omega arith) }
-check-outcome-answers b s area (Refused n f j) h = go (withoutShut n) refl (h .among n f j refl .1)
-  where
-    go : (t : Bool) → withoutShut n ≡ t → (t || eqb n 25) ≡ true → CheckAnswers area (record { answer = checkRefused n f j; area = workZero slots area })
-    go true e p =
-        let both = and-eq-true-iff (leb 14 n) (leb n 21) .0 e in
-        let least = leb-true 14 n (both .0) in
-        let most = leb-true n 21 (both .1) in
-        check-zeroed area n f j (late-number n (omega (arith, least)) (λ q. omega (arith, most)) (λ q. omega (arith, most))) (inl (least, omega (arith, most)))
-    go false e p = rw (eqb-true n 25 p) (check-zeroed area 25 f j refl (inr (omega arith, omega arith)))
+check-outcome-answers b s area (Refused n f j) h =
+    ⊎-elim
+    (λ e.
+    let both = and-eq-true-iff (leb 14 n) (leb n 21) .0 e in
+    let least = leb-true 14 n (both .0) in
+    let most = leb-true n 21 (both .1) in
+    check-zeroed area n f j (late-number n (omega (arith, least)) (λ q. omega (arith, most)) (λ q. omega (arith, most))) (inl (least, omega (arith, most))))
+    (λ e. rw (eqb-true n 25 e) (check-zeroed area 25 f j refl (inr (omega arith, omega arith)))) (or-cases (withoutShut n) (eqb n 25) (h .among n f j refl .1))
 
 check-reading-answers : (s area : List ℕ) (v : Verdict) (b : Book) → Numbered byEleven v → CheckAnswers area (checkReading s area (readingOf v b))
 unfolding checkReading

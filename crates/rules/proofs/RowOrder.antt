@@ -1,11 +1,11 @@
 -- The order of rows: by deadline, flow number, slot and job, one after the other.
 -- A test of two rows is true where the first number in which they differ is less in the first row; so the order is transitive and
 -- asymmetric, and rows each of which comes after the one before it are in rising order. Assumes nothing.
-use mathlib.Core.Path.{_≡_, refl, ap, _∙_}
+use mathlib.Core.Path.{_≡_, refl, ap}
 use mathlib.Core.Logic.{_⊎_, inl, inr}
-use mathlib.Core.Bool.{Bool, true, false, _&&_, _||_, and-eq-true-iff, false≢true}
+use mathlib.Core.Bool.{Bool, true, _&&_, _||_, and-eq-true-iff, or-true}
 use Prim.Native.Nat.{ℕ, zero, suc, _≤_, _<_}
-use native.Mathlib.Nat.{not-suc-le-zero}
+use native.Mathlib.Nat.{lt-suc-self}
 use native.Mathlib.Omega.{arith}
 use mathlib.Core.List.{List, [], _∷_, List·Memᴰ·cases-cons, List·Memᴰ·not-nil}
 use lib.ListN.{length, getD}
@@ -15,23 +15,10 @@ use Rattle.rules.specs.Book.{Book, flowOf}
 use Rattle.rules.specs.Service.{servedBefore}
 use Rattle.rules.specs.Rows.{Row}
 use Rattle.rules.specs.Check.{rowBefore, noRow, rises}
+use Rattle.rules.proofs.Walks.{or-cases}
+use Rattle.rules.proofs.Lexical.{Lexical, lexical-trans, lexical-rest, lexical-map, less-or-same, less-or-same-test}
 use Rattle.rules.proofs.ServiceOrder.{Earlier, served-earlier, earlier-served}
-use Rattle.rules.proofs.Rising.{_∈_, at-in, Rising}
-
--- ---- one number after another
--- the first number is less, or it is the same and the rest decides
-abbrev pub Lexical : ℕ → ℕ → Type 0 → Type 0
-Lexical a b Rest = (a < b) ⊎ ((a ≡ b) × Rest)
-
-pub lexical-trans : {a b c : ℕ} {X Y Z : Type 0} → Lexical a b X → Lexical b c Y → (X → Y → Z) → Lexical a c Z
-lexical-trans (inl l) (inl m) rest = inl (omega arith)
-lexical-trans (inl l) (inr m) rest = inl (omega (arith, m .0))
-lexical-trans (inr l) (inl m) rest = inl (omega (arith, l .0))
-lexical-trans (inr l) (inr m) rest = inr (l .0 ∙ m .0, rest (l .1) (m .1))
-
-pub lexical-rest : {a b : ℕ} {X : Type 0} → Lexical a b X → a ≡ b → X
-lexical-rest (inl l) e = absurd (omega arith)
-lexical-rest (inr l) e = l .1
+use Rattle.rules.proofs.Rising.{_∈_, Rising, rising-at}
 
 -- ---- rows
 unfoldable pub deadlineOf : Book → Row → ℕ
@@ -65,36 +52,6 @@ before-slot b q r x e = go (before-same-flow b q r x e)
     go (inr l) = omega (arith, l .0)
 
 -- ---- the test
-or-cases : (p q : Bool) → (p || q) ≡ true → (p ≡ true) ⊎ (q ≡ true)
-or-cases true q e = inl refl
-or-cases false q e = inr e
-
-or-left : (p q : Bool) → p ≡ true → (p || q) ≡ true
-or-left true q e = refl
-or-left false q e = absurd (false≢true e)
-
-or-right : (p q : Bool) → q ≡ true → (p || q) ≡ true
-or-right true q e = refl
-or-right false q e = e
-
-both-true : (p q : Bool) → p ≡ true → q ≡ true → (p && q) ≡ true
-both-true p q x y = and-eq-true-iff p q .1 (x, y)
-
-pub less-or-same : (a b : ℕ) (rest : Bool) → (ltb a b || eqb a b && rest) ≡ true → Lexical a b (rest ≡ true)
-less-or-same a b rest e = go (or-cases (ltb a b) (eqb a b && rest) e)
-  where
-    go : (ltb a b ≡ true) ⊎ ((eqb a b && rest) ≡ true) → Lexical a b (rest ≡ true)
-    go (inl l) = inl (ltb-true a b l)
-    go (inr s) = let w = and-eq-true-iff (eqb a b) rest .0 s in inr (eqb-true a b (w .0), w .1)
-
-pub less-or-same-test : (a b : ℕ) (rest : Bool) → Lexical a b (rest ≡ true) → (ltb a b || eqb a b && rest) ≡ true
-less-or-same-test a b rest (inl l) = or-left (ltb a b) (eqb a b && rest) (lt-ltb a b l)
-less-or-same-test a b rest (inr s) = or-right (ltb a b) (eqb a b && rest) (both-true (eqb a b) rest (eq-eqb a b (s .0)) (s .1))
-
-pub lexical-map : {a b : ℕ} {X Y : Type 0} → (X → Y) → Lexical a b X → Lexical a b Y
-lexical-map h (inl l) = inl l
-lexical-map h (inr s) = inr (s .0, h (s .1))
-
 pub served-before : (b : Book) (q r : Row) → servedBefore b (q .flow) (r .flow) ≡ true → Before b q r
 unfolding Before deadlineOf
 served-before b q r e = lexical-map (λ l. inl l) (served-earlier b (q .flow) (r .flow) e)
@@ -127,15 +84,14 @@ before-row b q r x = go x
     later = ltb (q .slot) (r .slot) || eqb (q .slot) (r .slot) && ltb (q .job) (r .job)
 
     served : Earlier b (q .flow) (r .flow) → (servedBefore b (q .flow) (r .flow) || eqb (q .flow) (r .flow) && later) ≡ true
-    served s = or-left (servedBefore b (q .flow) (r .flow)) (eqb (q .flow) (r .flow) && later) (earlier-served b (q .flow) (r .flow) s)
+    served s = rw (earlier-served b (q .flow) (r .flow) s) refl
 
     go : Before b q r → (servedBefore b (q .flow) (r .flow) || eqb (q .flow) (r .flow) && later) ≡ true
     go (inl d) = served (inl d)
     go (inr (d, inl f)) = served (inr (d, f))
     go (inr (d, inr (e, s))) =
-        or-right (servedBefore b (q .flow) (r .flow)) (eqb (q .flow) (r .flow) && later)
-        (both-true (eqb (q .flow) (r .flow)) later (eq-eqb (q .flow) (r .flow) e)
-        (less-or-same-test (q .slot) (r .slot) (ltb (q .job) (r .job)) (lexical-map (lt-ltb (q .job) (r .job)) s)))
+        rw (eq-eqb (q .flow) (r .flow) e, less-or-same-test (q .slot) (r .slot) (ltb (q .job) (r .job)) (lexical-map (lt-ltb (q .job) (r .job)) s))
+        (or-true (servedBefore b (q .flow) (r .flow)))
 
 -- ---- rows each of which comes after the one before it
 pub rises-rising : (b : Book) (rows : List Row) → ((k : ℕ) → k < length rows → rises b rows k ≡ true) → Rising (Before b) rows
@@ -160,8 +116,6 @@ rises-rising b (r ∷ rs) h = let rest = rises-rising b rs (later rs h) in (abov
         go (inr l) = before-trans b r q y next (rest .0 y l)
 
 pub rising-rises : (b : Book) (rows : List Row) → Rising (Before b) rows → (k : ℕ) → k < length rows → rises b rows k ≡ true
-unfolding Rising rises
+unfolding rises
 rising-rises b rows h zero l = refl
-rising-rises b [] h (suc k) l = absurd (not-suc-le-zero l)
-rising-rises b (r ∷ rs) h (suc zero) l = before-row b r (getD rs 0 noRow) (h .0 (getD rs 0 noRow) (at-in rs 0 noRow (omega arith)))
-rising-rises b (r ∷ rs) h (suc (suc k)) l = rising-rises b rs (h .1) (suc k) (omega arith)
+rising-rises b rows h (suc k) l = before-row b (getD rows k noRow) (getD rows (suc k) noRow) (rising-at (Before b) rows noRow h k (suc k) (lt-suc-self k) l)

@@ -18,6 +18,11 @@ use Rattle.rules.proofs.Sums.{sum-ext}
 pub last-or : {X : Type 0} (k n : ℕ) → k < suc n → (k ≡ n → X) → (k < n → X) → X
 last-or k n h a b = ⊎-elim (λ e. a e) (λ l. b l) (eq-or-lt-of-le (le-of-suc-le-suc h))
 
+-- one of two tests passes
+pub or-cases : (p q : Bool) → (p || q) ≡ true → (p ≡ true) ⊎ (q ≡ true)
+or-cases true q e = inl refl
+or-cases false q e = inr e
+
 -- what holds of the value that is set at place n, and of the values before at the other places, holds of each value after
 pub after-set : (X : ℕ → ℕ → Type 0) (l : List ℕ) (n v : ℕ) → n < length l → X n v → ((i : ℕ) → (i ≡ n → ⊥) → X i (getD l i 0)) → (i : ℕ) → X i (getD (set l n v) i 0)
 after-set X l n v room here others i = go (eqb i n) refl
