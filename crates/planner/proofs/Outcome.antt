@@ -18,6 +18,7 @@ use Rattle.rules.specs.Rows.{Row, lateFlows, workUsed, workZero}
 use Rattle.rules.specs.Placing.{Plan, planned, infeasible, placeFirst, plan}
 use Rattle.rules.specs.Planner.{PlanOutcome, planOutcome, planReading, planCall}
 use Rattle.rules.specs.Table.{tableHead, tableLength, tableBytes}
+use Rattle.rules.proofs.CallCases.{outcome-infeasible, outcome-longer, outcome-written}
 use Rattle.rules.proofs.WorkArea.{used-none, cleared-twice, used-over-cleared}
 use Rattle.rules.proofs.SameUse.{with-same, late-same}
 use Rattle.book.specs.declared.Index.{Index}
@@ -47,28 +48,6 @@ pub outcome-by-rest : (b : Book) (out a c : List ℕ) (p : Plan) → workZero sl
 unfolding planOutcome
 outcome-by-rest b out a c (planned rows) e = rw (e, used-by-rest slots rows a c e) refl
 outcome-by-rest b out a c (infeasible f) e = rw e refl
-
--- ---- the outcome of a book that passes
-module _ (b : Book) (out area : List ℕ) where
-  pub outcome-infeasible : (f : ℕ) → plan b ≡ infeasible f →
-      planOutcome b out area (plan b) ≡ record { answer = planRefused 12 f none; output = out; area = workZero slots area }
-  unfolding planOutcome
-  outcome-infeasible f p = rw p refl
-
-  pub outcome-longer : (rows : List Row) → plan b ≡ planned rows → length out < tableLength b rows →
-      planOutcome b out area (plan b) ≡ record { answer = planRefused 13 none none; output = out; area = workZero slots area }
-  unfolding planOutcome
-  outcome-longer rows p l = rw (p, lt-ltb (length out) (tableLength b rows) l) refl
-
-  pub outcome-written : (rows : List Row) → plan b ≡ planned rows → tableLength b rows ≤ length out →
-      planOutcome b out area (plan b)
-      ≡ record {
-        answer = planAccepted (lateFlows b rows) (tableLength b rows);
-        output = tableBytes b rows ++ drop (tableLength b rows) out;
-        area = workUsed slots rows area;
-      }
-  unfolding planOutcome
-  outcome-written rows p l = rw (p, le-ltb (length out) (tableLength b rows) l) refl
 
 -- ---- the outcome of a call
 module _ (s calendar out area : List ℕ) where
