@@ -18,13 +18,14 @@ impl Junk {
         Junk { pool }
     }
 
-    fn fill(&self, from: usize, bytes: &mut [u8]) {
+    /// So many bytes of the pool, from a place on, in place of what `bytes` has.
+    fn fill(&self, from: usize, length: usize, bytes: &mut Vec<u8>) {
+        bytes.clear();
+        bytes.reserve_exact(length);
         let mut from = from % self.pool.len();
-        let mut done = 0;
-        while done < bytes.len() {
-            let step = (bytes.len() - done).min(self.pool.len() - from);
-            bytes[done..done + step].copy_from_slice(&self.pool[from..from + step]);
-            done += step;
+        while bytes.len() < length {
+            let step = (length - bytes.len()).min(self.pool.len() - from);
+            bytes.extend_from_slice(&self.pool[from..from + step]);
             from = 0;
         }
     }
@@ -54,14 +55,24 @@ pub struct Lent {
 impl Lent {
     /// A buffer of the length, all junk.
     pub fn junk(rng: &mut Rng, junk: &Junk, length: usize) -> Lent {
+        Lent::junk_in(Vec::new(), rng, junk, length)
+    }
+
+    /// The same in memory that is at hand: a long buffer costs more to allocate than to
+    /// fill.
+    pub fn junk_in(mut bytes: Vec<u8>, rng: &mut Rng, junk: &Junk, length: usize) -> Lent {
         let from = GUARD + rng.index(8);
-        let mut bytes = vec![0; from + length + GUARD];
-        junk.fill(rng.index(1 << 17), &mut bytes);
+        junk.fill(rng.index(1 << 17), from + length + GUARD, &mut bytes);
         Lent {
             bytes,
             from,
             length,
         }
+    }
+
+    /// The memory, for another buffer.
+    pub fn memory(self) -> Vec<u8> {
+        self.bytes
     }
 
     /// A buffer that holds the given bytes, with junk around them.

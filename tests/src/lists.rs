@@ -42,7 +42,7 @@ pub fn tells_orders_apart(book: &Book, list: &[u8]) -> bool {
 
 /// How often each row stands in bytes that are rows alone.
 fn times(rows: &[u8]) -> HashMap<&[u8], usize> {
-    let mut times = HashMap::new();
+    let mut times = HashMap::with_capacity(rows.len() / ROW);
     for row in rows.chunks(ROW) {
         *times.entry(row).or_insert(0) += 1;
     }

@@ -98,12 +98,7 @@ pub fn hold(plan: Planner, check: Check, version: Version, seed: u64, cases: usi
             by_plan[changed][answers.0.number as usize] += 1;
         }
 
-        let valid = if rng.chance(1, 2) {
-            tables::planned_table(&values, &calendar)
-        } else {
-            tables::delayed_table(&mut rng, &values, &calendar)
-        };
-        let Some(valid) = valid else {
+        let Some(valid) = tables::either_table(&mut rng, &values, &calendar) else {
             continue;
         };
         for case in 0..4 {

@@ -6,7 +6,7 @@
 use crate::answer::{CheckAnswer, NUMBERS, SLOTS};
 use crate::books::{encode_table, fit_length};
 use crate::calendar::Calendar;
-use crate::reader::{predecessors, Book, Flow, Job};
+use crate::reader::{Book, Flow, Job};
 use crate::rng::Rng;
 use crate::second_check::{row_at, Row, FINISH, ROW, TABLE_HEAD};
 use crate::second_planner;
@@ -53,59 +53,82 @@ pub fn finishes_of(book: &Book, rows: &[Row]) -> Vec<u16> {
     finishes
 }
 
+/// A job that is not finished, and what the list scheduler asks of it.
+struct Unfinished {
+    flow: u8,
+    job: u8,
+    release: u32,
+    cap: u32,
+    precedence: u64,
+    left: u32,
+}
+
 /// A valid schedule by a list scheduler that delays at random and uses open slots
 /// only; it may end far beyond twice a deadline. Nothing where it passes slot 8,191.
 pub fn delayed_table(rng: &mut Rng, book: &Book, calendar: &Calendar) -> Option<Table> {
-    let mut left: Vec<Vec<u32>> = Vec::new();
-    let mut jobs: Vec<(usize, usize)> = Vec::new();
+    let mut jobs: Vec<Unfinished> = Vec::new();
     for (flow, record) in book.flows.iter().enumerate() {
-        left.push(record.jobs.iter().map(|job| job.size).collect());
-        jobs.extend((0..record.jobs.len()).map(|job| (flow, job)));
+        let of_flow = record.jobs.iter().enumerate();
+        jobs.extend(of_flow.map(|(number, job)| Unfinished {
+            flow: flow as u8,
+            job: number as u8,
+            release: record.release,
+            cap: job.cap_in_use(book.processors),
+            precedence: job.precedence,
+            left: job.size,
+        }));
     }
+    // The finished jobs of each flow, as bits.
+    let mut done = vec![0u64; book.flows.len()];
     let idle = rng.pick(&[0, 0, 1, 3, 6]);
     let skip = rng.pick(&[0, 1, 3, 6]);
     let greedy = rng.pick(&[0, 4, 7, 8]);
     let mut rows = Vec::new();
     let wait = rng.range(2, 500);
-    let first = rng.pick(&[0, 0, 0, 1, wait]) as usize;
-    for slot in first..SLOTS {
+    let first = rng.pick(&[0, 0, 0, 1, wait]) as u32;
+    for slot in first..SLOTS as u32 {
         if jobs.is_empty() {
             break;
         }
-        if rng.chance(idle, 8) || !calendar.is_open(slot as u32) {
+        if rng.chance(idle, 8) || !calendar.is_open(slot) {
             continue;
         }
         if rng.chance(1, 3) {
             rng.shuffle(&mut jobs);
         }
         let mut free = book.processors;
-        let rows_before = rows.len();
-        for &(flow, job) in &jobs {
-            let record = &book.flows[flow].jobs[job];
-            let released = slot >= book.flows[flow].release as usize;
-            let ready = released && predecessors(record.precedence).all(|k| left[flow][k] == 0);
-            let cap = record.cap_in_use(book.processors);
-            let most = cap.min(left[flow][job]).min(free);
-            if !ready || most == 0 || rng.chance(skip, 8) {
+        let mut finishes = false;
+        for job in &mut jobs {
+            if free == 0 {
+                break;
+            }
+            let before = done[job.flow as usize];
+            let ready = slot >= job.release && job.precedence & !before == 0;
+            if !ready || rng.chance(skip, 8) {
                 continue;
             }
+            let most = job.cap.min(job.left).min(free);
             let take = if rng.chance(greedy, 8) {
                 most
             } else {
                 rng.range(1, u64::from(most)) as u32
             };
             free -= take;
+            job.left -= take;
+            finishes |= job.left == 0;
             rows.push(Row {
                 slot: slot as u16,
-                flow: flow as u8,
-                job: job as u8,
+                flow: job.flow,
+                job: job.job,
                 take: take as u16,
             });
         }
-        for row in &rows[rows_before..] {
-            left[row.flow as usize][row.job as usize] -= u32::from(row.take);
+        if finishes {
+            for job in jobs.iter().filter(|job| job.left == 0) {
+                done[job.flow as usize] |= 1 << job.job;
+            }
+            jobs.retain(|job| job.left > 0);
         }
-        jobs.retain(|&(flow, job)| left[flow][job] > 0);
     }
     if !jobs.is_empty() {
         return None;
@@ -125,6 +148,15 @@ pub fn delayed_table(rng: &mut Rng, book: &Book, calendar: &Calendar) -> Option<
         finishes: finishes_of(book, &rows),
         rows,
     })
+}
+
+/// The planner's own table or another valid one, where there is.
+pub fn either_table(rng: &mut Rng, book: &Book, calendar: &Calendar) -> Option<Table> {
+    if rng.chance(1, 2) {
+        planned_table(book, calendar)
+    } else {
+        delayed_table(rng, book, calendar)
+    }
 }
 
 /// A table near a valid one, which may be valid too: rows later, units in another

@@ -133,12 +133,7 @@ pub fn hold(plan: Planner, check: Check, seed: u64, cases: usize) {
         assert!(planned[0] == planned[1], "books {of_twins:02x?}");
         by_plan[planned[0].0.number as usize] += 1;
 
-        let table = if rng.chance(1, 2) {
-            tables::planned_table(&book, &calendar)
-        } else {
-            tables::delayed_table(&mut rng, &book, &calendar)
-        };
-        let Some(table) = table else {
+        let Some(table) = tables::either_table(&mut rng, &book, &calendar) else {
             continue;
         };
         let table = if rng.chance(1, 3) {

@@ -103,6 +103,8 @@ fn stated(table: &[u8], flow: usize) -> u32 {
 struct Calls {
     rng: Rng,
     junk: Junk,
+    /// The memory of outputs that are done with.
+    spare: Vec<Vec<u8>>,
 }
 
 impl Calls {
@@ -110,6 +112,7 @@ impl Calls {
         Calls {
             rng: Rng::new(seed),
             junk: Junk::new(!seed),
+            spare: Vec::new(),
         }
     }
 
@@ -119,10 +122,17 @@ impl Calls {
     }
 
     fn plan(&mut self, case: &Case, room: usize) -> Planned {
-        let mut output = Lent::junk(&mut self.rng, &self.junk, room);
+        let memory = self.spare.pop().unwrap_or_default();
+        let mut output = Lent::junk_in(memory, &mut self.rng, &self.junk, room);
         let mut work = self.work();
         let answer = linked_plan::plan(&case.bytes, &case.lent, output.slice(), work.slice());
         Planned { answer, output }
+    }
+
+    /// Outputs that are done with.
+    fn take_back<const N: usize>(&mut self, planned: [Planned; N]) {
+        self.spare
+            .extend(planned.map(|planned| planned.output.memory()));
     }
 
     /// An output that is mostly as long as said, and at times short.
@@ -319,6 +329,7 @@ impl Trial {
             number => assert_eq!(number, 12),
         }
         self.hold_finishes(case, planned.answer);
+        self.calls.take_back([planned]);
     }
 
     /// The finishes that stand in a written table.
@@ -696,6 +707,7 @@ impl Appended {
             self.finishes += 1;
             self.finishes_by_appended += u64::from(by_appended && shorter.0.number == 0);
         }
+        calls.take_back([shorter, longer]);
     }
 }
 
@@ -761,6 +773,7 @@ fn flows_appended_out_of_order_alter_plans() {
                     *met += u64::from(altered);
                 }
             }
+            calls.take_back([shorter, longer]);
         }
     }
     let [pairs, rows, finishes, quotes] = met;

@@ -405,12 +405,7 @@ fn one_pass_check_is_the_one_by_definition() {
     for case in 0..8_000 {
         let book = books::drawn(&mut rng, VERSIONS[case % 2], books::tiny_book);
         let (book, calendar) = calendars::with_calendar(&mut rng, book);
-        let table = if rng.chance(1, 2) {
-            tables::planned_table(&book, &calendar)
-        } else {
-            tables::delayed_table(&mut rng, &book, &calendar)
-        };
-        let Some(table) = table else {
+        let Some(table) = tables::either_table(&mut rng, &book, &calendar) else {
             continue;
         };
         if table.rows.len() > 100 {
