@@ -1,7 +1,7 @@
 -- Where the cursor stands at another slot nothing is listed and it stays; otherwise the run that is copied is the flow's rows in the slot, and the
 -- cursor goes behind it. Assumes nothing.
 use mathlib.Core.Path.{_≡_, _∙_}
-use Prim.Native.Nat.{ℕ, suc, _≤_, _<_}
+use Prim.Native.Nat.{suc, _≤_, _<_}
 use lib.ListN.{length, getD}
 use Rattle.rules.specs.Fields.{AllBytes}
 use Rattle.rules.specs.Book.{flowCount}

@@ -19,27 +19,24 @@ Inv-loop book table jobs out₀ ats₀ dues₀ to flows slot next₀ f₀ out at
 abbrev μ-loop : tie.MeasureT-loop
 μ-loop book table jobs out₀ ats₀ dues₀ to flows slot next₀ f₀ out ats dues next f = flows - f
 
+-- where the function begins
+abbrev start : tie.At-loop Inv-loop μ-loop → tie.Start Inv-loop μ-loop
+start c = c .before .before .before .before .before .before .before
+
 loop-holds : tie.Need-loop-holds Inv-loop μ-loop
 unfolding rowsIn joinFrom
-loop-holds c =
-    let s = c .before .before .before .before .before .before in
-    let a = s .args in
-    let accepted = s .pre .0 .accepted in
-    let rows = rowsOf (a .book .now) (a .table .now) in
-    (search needs, refl, s .pre .0 .cursors, listed-none (a .to) (a .out .now))
+loop-holds c = (search needs, refl, c .before .before .before .before .before .before .pre .0 .cursors, listed-none _ _)
 
 list-flow-requires : tie.Need-list-flow-requires Inv-loop μ-loop
 unfolding placeAfter
 list-flow-requires c κs =
-    let s = c .before .before .before .before .before .before .before .before .before .before .before in
+    let s = start (c .before .before .before .before) in
     let a = s .args in
-    let accepted = s .pre .0 .accepted in
-    let rows = rowsOf (a .book .now) (a .table .now) in
     let l = c .before .before .before .before .loop in (
-      record { accepted = accepted; a-slot = s .pre .0 .a-slot; cursors = l .inv .2 },
+      record { accepted = s .pre .0 .accepted; a-slot = s .pre .0 .a-slot; cursors = l .inv .2 },
       s .pre .1,
       omega (arith, s .pre .2),
-      omega (arith, l .inv .1, l .inv .3 .next-is, flow-room rows (a .slot) (l .f) (a .flows) (omega arith), s .pre .3),
+      omega (arith, l .inv .1, l .inv .3 .next-is, flow-room (rowsOf (a .book .now) (a .table .now)) (a .slot) (l .f) (a .flows) (omega arith), s .pre .3),
     )
 
 add-f : tie.Need-add-f Inv-loop μ-loop
@@ -50,10 +47,6 @@ loop-less c = search needs
 
 loop-again : tie.Need-loop-again Inv-loop μ-loop
 loop-again c =
-    let s = c .before .before .before .before .before .before .before .before .before .before .before .before .before .before .before .before .before .before in
-    let a = s .args in
-    let accepted = s .pre .0 .accepted in
-    let rows = rowsOf (a .book .now) (a .table .now) in
     let l = c .before .before .before .before .before .before .before .before .before .before .before .loop in
     let r = c .before .before .before .before .before .before .list-flow .ensures in
     let e : suc (l .f) ≡ l .f + 1 = omega arith in (
@@ -74,16 +67,10 @@ same-length-3 c = search needs
 
 returns : tie.Need-returns Inv-loop μ-loop
 returns c =
-    let s = c .before .before .before .before .before .before .before .before in
-    let a = s .args in
-    let accepted = s .pre .0 .accepted in
-    let rows = rowsOf (a .book .now) (a .table .now) in
+    let s = start (c .before) in
     let l = c .before .loop in
-    let all : l .f ≡ flowCount (bookOf (a .book .now)) = omega (arith, s .pre .2) in
-    record {
-      cursors = cursors-next (bookOf (a .book .now)) (a .table .now) (a .slot) (l .ats) (l .dues) (rw all at (l .inv .2));
-      listed = rw all at (l .inv .3);
-    }
+    let all : l .f ≡ flowCount (bookOf (s .args .book .now)) = omega (arith, s .pre .2) in
+    record { cursors = cursors-next _ _ _ _ _ (rw all at (l .inv .2)); listed = rw all at (l .inv .3) }
 
 pub list-slot-spec : {M : Type 1} → statement M
 list-slot-spec =

@@ -20,31 +20,26 @@ mul-read16 c = omega (arith, c .wide16 .ensures .1)
 
 read16-requires : tie.Need-read16-requires
 read16-requires c κs =
-    let s = c .before .before .before .before .before .before .before .before in
-    let a = s .args in
-    let accepted = s .pre .0 .accepted in
-    omega (arith, c .wide16 .ensures .0, s .pre .0 .a-slot, s .pre .2 .room)
+    let p = c .before .before .before .before .before .before .before .before .pre in
+    omega (arith, c .wide16 .ensures .0, p .0 .a-slot, p .2 .room)
 
 returns : tie.Need-returns
 returns c =
     let s = c .before .before .before .before .before .before .before .before .before .before in
     let a = s .args in
-    let accepted = s .pre .0 .accepted in
+    let p = s .pre .0 in
     let e : 2 * c .before .before .wide16 .result ≡ 2 * a .slot = ap (2 *_) (c .before .before .wide16 .ensures .0) in
     let unused : usedIn (rowsOf (a .book .now) (a .table .now)) (a .slot) ≡ 0 =
-    sym (pair-used (a .book .now) (a .table .now) accepted (a .slot) (s .pre .0 .a-slot) (a .work .now) (s .pre .2))
-    ∙ ap (field 2 (a .work .now)) (sym e) ∙ sym (c .before .read16 .ensures) ∙ c .if1 .taken in
+    sym (pair-used _ _ (p .accepted) _ (p .a-slot) (a .work .now) (s .pre .2)) ∙ ap (field 2 (a .work .now)) (sym e) ∙ sym (c .before .read16 .ensures) ∙ c .if1 .taken in
     record {
-      cursors = cursors-pass (a .book .now) (a .table .now) accepted (a .slot) (s .pre .0 .a-slot) unused (a .ats .now) (a .dues .now) (s .pre .0 .cursors);
-      listed = rw (no-rows-in (a .book .now) (a .table .now) accepted (a .slot) (s .pre .0 .a-slot) unused (flowCount (bookOf (a .book .now)))) (listed-none (a .to) (a .out .now));
+      cursors = cursors-pass _ _ (p .accepted) _ (p .a-slot) unused _ _ (p .cursors);
+      listed = rw (no-rows-in _ _ (p .accepted) _ (p .a-slot) unused (flowCount (bookOf (a .book .now)))) (listed-none _ _);
     }
 
 list-slot-requires : tie.Need-list-slot-requires
 list-slot-requires c κs =
-    let s = c .before .before .before .before .before .before .before .before .before .before .before .before .before in
-    let a = s .args in
-    let accepted = s .pre .0 .accepted in
-    (s .pre .0, s .pre .1, s .pre .3, s .pre .4)
+    let p = c .before .before .before .before .before .before .before .before .before .before .before .before .before .pre in
+    (p .0, p .1, p .3, p .4)
 
 same-length : tie.Need-same-length
 same-length c = search needs
