@@ -48,6 +48,27 @@ unfolding PredecessorsDone
 done-at b r f i t at-r soFar k below p h =
     rw (at-r .of-flow, at-r .of-slot) at (h k (rw (at-r .of-job) below) (rw (at-r .of-flow, at-r .of-job) p))
 
+-- the use of a slot never passes P
+pub use-kept : (b : Book) (opened : ℕ → Bool) (rows : List Row) (t k : ℕ) → k ≤ length rows → ((j : ℕ) → j < k → RowPasses b opened rows j) →
+    usedIn (take k rows) t ≤ b .processors
+unfolding usedIn sumWhere
+use-kept b opened rows t zero l pass = omega arith
+use-kept b opened rows t (suc k) l pass =
+    go (eqb (getD rows k noRow .slot) t) refl (use-kept b opened rows t k (omega arith) (λ j h. pass j (omega arith)))
+  where
+    r : Row
+    r = getD rows k noRow
+
+    in-slot : Row → Bool
+    in-slot q = eqb (q .slot) t
+
+    go : (c : Bool) → eqb (r .slot) t ≡ c → sumWhere in-slot (take k rows) ≤ b .processors → sumWhere in-slot (take (suc k) rows) ≤ b .processors
+    go true e ih =
+        let there : r .slot ≡ t = eqb-true (r .slot) t e in
+        let kept : sumWhere in-slot (take k rows) + r .processors ≤ b .processors = rw there at (pass k (omega arith) .processors-kept) in
+        omega (arith, sum-where-next in-slot rows k noRow l, counted-true in-slot r e)
+    go false e ih = omega (arith, sum-where-next in-slot rows k noRow l, counted-false in-slot r e)
+
 -- ---- rows that pass are those of a valid schedule
 module _ (b : Book) (range : InRange b) (rows : List Row) (pass : RowsPass b rows) where
   -- what is said of every place of the list is said of every row
@@ -93,27 +114,8 @@ module _ (b : Book) (range : InRange b) (rows : List Row) (pass : RowsPass b row
           omega (arith, kept, stated)
       go (inr l) = omega arith
 
-  -- the use of a slot never passes P
-  use-kept : (t k : ℕ) → k ≤ length rows → usedIn (take k rows) t ≤ b .processors
-  unfolding usedIn sumWhere
-  use-kept t zero l = omega arith
-  use-kept t (suc k) l = go (eqb (getD rows k noRow .slot) t) refl (use-kept t k (omega arith))
-    where
-      r : Row
-      r = getD rows k noRow
-
-      in-slot : Row → Bool
-      in-slot q = eqb (q .slot) t
-
-      go : (c : Bool) → eqb (r .slot) t ≡ c → sumWhere in-slot (take k rows) ≤ b .processors → sumWhere in-slot (take (suc k) rows) ≤ b .processors
-      go true e ih =
-          let there : r .slot ≡ t = eqb-true (r .slot) t e in
-          let kept : sumWhere in-slot (take k rows) + r .processors ≤ b .processors = rw there at (pass .each-row k l .processors-kept) in
-          omega (arith, sum-where-next in-slot rows k noRow l, counted-true in-slot r e)
-      go false e ih = omega (arith, sum-where-next in-slot rows k noRow l, counted-false in-slot r e)
-
   pub passing-use : (t : ℕ) → usedIn rows t ≤ b .processors
-  passing-use t = rw (← take-length rows) (use-kept t (length rows) (omega arith))
+  passing-use t = rw (← take-length rows) (use-kept b (isOpen (b .calendar)) rows t (length rows) (omega arith) (pass .each-row))
 
   slot-in : (f i t : ℕ) → slots ≤ t → scheduleOf rows f i t ≡ 0
   slot-in f i t l = schedule-none rows f i t (λ r m at-r. omega (arith, passing-is-row r m .slot-in, at-r .of-slot))

@@ -23,6 +23,7 @@ use Rattle.rules.proofs.Rising.{_∈_, first-in, Rising, rising-at, ris
 use Rattle.rules.proofs.Lexical.{Lexical, lexical-trans, lexical-rest, lexical-map, lexical-either, less-or-more, less-or-same, less-or-same-test}
 use Rattle.rules.proofs.RowOrder.{Before, before-differs, before-asymmetric}
 use Rattle.rules.proofs.RowSums.{counted}
+use Rattle.rules.proofs.ScheduleRows.{row-ext}
 
 -- ---- the order
 -- row q comes before row r
@@ -93,11 +94,8 @@ same-row q r e =
     let last = and-eq-true-iff (eqb (q .slot) (r .slot) && eqb (q .flow) (r .flow) && eqb (q .job) (r .job)) (eqb (q .processors) (r .processors)) .0 e in
     let job = and-eq-true-iff (eqb (q .slot) (r .slot) && eqb (q .flow) (r .flow)) (eqb (q .job) (r .job)) .0 (last .0) in
     let flow = and-eq-true-iff (eqb (q .slot) (r .slot)) (eqb (q .flow) (r .flow)) .0 (job .0) in
-    let s = eqb-true (q .slot) (r .slot) (flow .0) in
-    let f = eqb-true (q .flow) (r .flow) (flow .1) in
-    let i = eqb-true (q .job) (r .job) (job .1) in
-    let n = eqb-true (q .processors) (r .processors) (last .1) in
-    λ x. record { slot = s x; flow = f x; job = i x; processors = n x }
+    row-ext q r (eqb-true (q .slot) (r .slot) (flow .0)) (eqb-true (q .flow) (r .flow) (flow .1)) (eqb-true (q .job) (r .job) (job .1))
+    (eqb-true (q .processors) (r .processors) (last .1))
 
 row-itself : (r : Row) → sameRow r r ≡ true
 row-itself r =

@@ -1,4 +1,4 @@
--- What one row more adds to use, totals and finishes, and what a job has before a slot that no row of its flow has passed.
+-- What one row more adds to totals and finishes, and what a job has before a slot that no row of its flow has passed.
 -- Each is the sum over the rows of one test, so one law of `sumWhere` carries them. Assumes nothing.
 use mathlib.Core.Path.{_≡_, refl, _∙_}
 use Prim.Native.Nat.{ℕ, _+_, _≤_, max}
@@ -9,15 +9,11 @@ use lib.Dec.{ltb, eqb}
 use borrow.Author.Tests.{lt-ltb}
 use Rattle.rules.specs.Walks.{if_then_else_}
 use Rattle.rules.proofs.RowSums.{counted, sum-where-append}
-use Rattle.rules.specs.Rows.{Row, sumWhere, usedIn, isOf, totalOf, doneBefore, finishOf}
+use Rattle.rules.specs.Rows.{Row, sumWhere, isOf, totalOf, doneBefore, finishOf}
 
 pub sum-where-last : (q : Row → Bool) (rows : List Row) (r : Row) → sumWhere q (rows ++ r ∷ []) ≡ sumWhere q rows + counted q r
 unfolding sumWhere
 sum-where-last q rows r = sum-where-append q rows (r ∷ []) ∙ omega arith
-
-pub used-last : (rows : List Row) (r : Row) (t : ℕ) → usedIn (rows ++ r ∷ []) t ≡ usedIn rows t + (if eqb (r .slot) t then r .processors else 0)
-unfolding usedIn
-used-last rows r t = sum-where-last (λ p. eqb (p .slot) t) rows r
 
 pub total-last : (rows : List Row) (r : Row) (f i : ℕ) → totalOf (rows ++ r ∷ []) f i ≡ totalOf rows f i + (if isOf f i r then r .processors else 0)
 unfolding totalOf

@@ -182,10 +182,8 @@ rising-schedule b (q ∷ qs) h r m = go (List·Memᴰ·cases-cons m) (rising-sch
           ih l,
         )
 
-row-ext : (q r : Row) → q .slot ≡ r .slot → q .flow ≡ r .flow → q .job ≡ r .job → q .processors ≡ r .processors → q ≡ r
-row-ext q r s f i n =
-    ap (λ x. rowWith x (q .flow) (q .job) (q .processors)) s ∙ ap (λ x. rowWith (r .slot) x (q .job) (q .processors)) f
-    ∙ ap (λ x. rowWith (r .slot) (r .flow) x (q .processors)) i ∙ ap (λ x. rowWith (r .slot) (r .flow) (r .job) x) n
+pub row-ext : (q r : Row) → q .slot ≡ r .slot → q .flow ≡ r .flow → q .job ≡ r .job → q .processors ≡ r .processors → q ≡ r
+row-ext q r s f i n = λ x. rowWith (s x) (f x) (i x) (n x)
 
 -- rows in rising order are the rows of the schedule that they state
 pub rows-of-schedule : (b : Book) (rows : List Row) → Rising (Before b) rows → ((r : Row) → r ∈ rows → IsRow b r) →

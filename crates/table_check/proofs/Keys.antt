@@ -11,10 +11,11 @@ use lib.ListN.{getD}
 use lib.Dec.{ltb, leb, eqb}
 use borrow.Author.Tests.{lt-ltb, le-ltb, eq-eqb, ne-eqb, eqb-true, eqb-false, le-leb}
 use Rattle.rules.specs.Limits.{slots}
-use Rattle.rules.specs.Book.{Book, flowOf}
+use Rattle.rules.specs.Book.{Book, flowCount, jobCount, flowOf, InRange}
 use Rattle.rules.specs.Service.{servedBefore}
 use Rattle.rules.specs.Rows.{Row}
 use Rattle.rules.specs.Check.{noRow, rowBefore, rises}
+use Rattle.rules.proofs.Caps.{used-in-range}
 use Rattle.rules.proofs.Division.{lt-or-ge}
 use Rattle.table_check.specs.Tests.{serviceKey, placeOf, places, rowKey, leastKey}
 
@@ -62,6 +63,14 @@ pub record KeyFits (r : Row) : Type 0 where
   pub flow-fits : r .flow < 64
   pub slot-fits : r .slot < slots
   pub job-fits : r .job < 64
+
+-- a row of the book in a slot of a table has it
+pub key-fits : (b : Book) (r : Row) → InRange b → r .slot < slots → r .flow < flowCount b → r .job < jobCount (flowOf b (r .flow)) → KeyFits r
+key-fits b r range s f j = record {
+  flow-fits = omega (arith, range .flows-most);
+  slot-fits = s;
+  job-fits = omega (arith, used-in-range range (r .flow) f .jobs-most);
+}
 
 -- flows compare as their deadlines and numbers do
 served : (b : Book) (g f : ℕ) → g < 64 → f < 64 → ltb (serviceKey b g) (serviceKey b f) ≡ servedBefore b g f

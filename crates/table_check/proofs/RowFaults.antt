@@ -16,14 +16,13 @@ use Rattle.rules.specs.Answers.{firstFault}
 use Rattle.rules.specs.Book.{Book, flowCount, jobCount, flowOf, jobOf, hasBit, InRange}
 use Rattle.rules.specs.Rows.{Row, usedIn, doneBefore, finishOf}
 use Rattle.rules.specs.Check.{noRow, rises, beforeRelease, lacksPredecessor, rowFault}
-use Rattle.rules.proofs.Caps.{used-in-range}
 use Rattle.rules.proofs.Walks.{any-ext}
 use Rattle.rules.proofs.Faults.{fault-pass}
 use Rattle.rules.proofs.Passing.{test-passed}
 use Rattle.rules.proofs.TablePasses.{in-book-of}
 use Rattle.table_check.specs.Tests.{rowKey, leastKey, earlyNumber, lateNumber, lacksAt}
 use Rattle.table_check.specs.Tally.{FlowTally}
-use Rattle.table_check.proofs.Keys.{KeyFits, rises-key}
+use Rattle.table_check.proofs.Keys.{KeyFits, key-fits, rises-key}
 
 -- ---- the verdict by its tests
 abbrev verdictBy : (out shut falls over crowded early lacks : Bool) → ℕ → ℕ → Verdict
@@ -59,14 +58,8 @@ out-of-known : (b : Book) (r : Row) → r .flow < flowCount b →
     outOfBook b r ≡ (leb slots (r .slot) || leb (jobCount (flowOf b (r .flow))) (r .job) || eqb (r .processors) 0)
 out-of-known b r h = rw (lt-leb (flowCount b) (r .flow) h, or-false (leb slots (r .slot))) refl
 
-key-fits : (b : Book) (r : Row) → InRange b → outOfBook b r ≡ false → KeyFits r
-key-fits b r h e =
-    let i = in-book-of b r e in
-    record {
-      flow-fits = omega (arith, h .flows-most, i .1);
-      slot-fits = i .0;
-      job-fits = omega (arith, used-in-range h (r .flow) (i .1) .jobs-most, i .2);
-    }
+inside-fits : (b : Book) (r : Row) → InRange b → outOfBook b r ≡ false → KeyFits r
+inside-fits b r h e = let i = in-book-of b r e in key-fits b r h (i .0) (i .1) (i .2)
 
 -- what 15, 25 and 16 leave of row k, which is r
 pub record EarlyPassed (b : Book) (opened : ℕ → Bool) (rows : List Row) (k : ℕ) (r : Row) : Type 0 where
@@ -88,7 +81,7 @@ module _ (b : Book) (opened : ℕ → Bool) (rows : List Row) (k : ℕ) (r : Row
 
   -- a row that passes has a key
   pub passed-fits : InRange b → rowFault b opened rows k ≡ Pass → KeyFits r
-  passed-fits h e = key-fits b r h (test-passed _ _ _ _ _ (sym by-tests ∙ e) .0)
+  passed-fits h e = inside-fits b r h (test-passed _ _ _ _ _ (sym by-tests ∙ e) .0)
 
 module _ (b : Book) (opened : ℕ → Bool) (rows : List Row) (k : ℕ) (r : Row) (at-k : getD rows k noRow ≡ r) where
   tests : rowFault b opened rows k ≡ verdictAt b opened rows k r
@@ -109,11 +102,11 @@ module _ (b : Book) (opened : ℕ → Bool) (rows : List Row) (k : ℕ) (r : Row
     n-by-tests = n-is ∙ ap (λ (t : Bool). if t then 15 else if not (opened (r .slot)) then 25 else if ltb key least then 16 else 0) (sym (out-of-known b r known))
 
     rises-by-key : outOfBook b r ≡ false → rises b rows k ≡ leb least key
-    rises-by-key e = rises-at-key ∙ rw at-k (order (key-fits b r range e))
+    rises-by-key e = rises-at-key ∙ rw at-k (order (inside-fits b r range e))
       where
         rises-at-key : rises b rows k ≡ leb (leastKey b rows k) (rowKey b (getD rows k noRow))
         rises-at-key =
-            rises-key b rows k (λ j h. earlier j (fault-pass (rowFault b opened rows) k passed j h)) (subst KeyFits (sym at-k) (key-fits b r range e))
+            rises-key b rows k (λ j h. earlier j (fault-pass (rowFault b opened rows) k passed j h)) (subst KeyFits (sym at-k) (inside-fits b r range e))
           where
             earlier : (j : ℕ) → rowFault b opened rows j ≡ Pass → KeyFits (getD rows j noRow)
             earlier j d = passed-fits b opened rows j (getD rows j noRow) refl range d
@@ -140,11 +133,11 @@ module _ (b : Book) (opened : ℕ → Bool) (rows : List Row) (k : ℕ) (r : Row
         go false e true s false d =
             let at-least : leb least key ≡ true = le-leb least key (ltb-false key least d) in
             record {
-              fits = key-fits b r range e;
+              fits = inside-fits b r range e;
               inside = e;
               in-open = s;
               rising = rises-by-key e ∙ at-least;
-              after-least = leb-true (leastKey b rows k) (rowKey b r) (order (key-fits b r range e) ∙ at-least);
+              after-least = leb-true (leastKey b rows k) (rowKey b r) (order (inside-fits b r range e) ∙ at-least);
             }
 
   -- 17 and 18

@@ -17,11 +17,12 @@ use Rattle.rules.specs.Rows.{Row, sumWhere, usedIn, isOf, totalOf, doneBefore, 
 use Rattle.rules.specs.Check.{noRow, rowFault}
 use Rattle.rules.proofs.Caps.{used-in-range}
 use Rattle.rules.proofs.Faults.{both-pass, fault-pass}
-use Rattle.rules.proofs.RowsSoFar.{used-last, total-last, done-last, finish-last}
+use Rattle.rules.proofs.RowsSoFar.{total-last, done-last, finish-last}
 use Rattle.rules.proofs.RowSums.{done-le-total}
 use Rattle.rules.proofs.TablePasses.{RowPasses, row-passes}
+use Rattle.rules.proofs.AcceptedRows.{use-kept}
 use Rattle.table_check.specs.Tests.{serviceKey, places, rowKey, leastKey}
-use Rattle.table_check.proofs.Keys.{KeyFits, rises-key, key-slots, key-slots-less}
+use Rattle.table_check.proofs.Keys.{KeyFits, key-fits, rises-key, key-slots, key-slots-less}
 
 -- ---- one row more, of any rows
 -- what a row adds to finish and totals, of its flow and of the others
@@ -45,17 +46,16 @@ pub record SoFar (b : Book) (rows : List Row) (k : ℕ) : Type 0 where
 
 module _ (b : Book) (opened : ℕ → Bool) (range : InRange b) (rows : List Row) where
   fits : (k : ℕ) → RowPasses b opened rows k → KeyFits (getD rows k noRow)
-  fits k p = record {
-    flow-fits = omega (arith, range .flows-most, p .flow-in);
-    slot-fits = p .slot-in;
-    job-fits = omega (arith, used-in-range range (getD rows k noRow .flow) (p .flow-in) .jobs-most, p .job-in);
-  }
+  fits k p = key-fits b (getD rows k noRow) range (p .slot-in) (p .flow-in) (p .job-in)
+
+  passed : (k : ℕ) → firstFault (rowFault b opened rows) k ≡ Pass → (j : ℕ) → j < k → RowPasses b opened rows j
+  passed k e j l = row-passes b opened rows j (fault-pass (rowFault b opened rows) k e j l)
 
   -- the rows that pass rise by their keys
   key-least : (k : ℕ) → firstFault (rowFault b opened rows) k ≡ Pass → RowPasses b opened rows k → leastKey b rows k ≤ rowKey b (getD rows k noRow)
   key-least k e p =
       leb-true (leastKey b rows k) (rowKey b (getD rows k noRow))
-      (sym (rises-key b rows k (λ j h. fits j (row-passes b opened rows j (fault-pass (rowFault b opened rows) k e j h))) (fits k p)) ∙ p .comes-after)
+      (sym (rises-key b rows k (λ j l. fits j (passed k e j l)) (fits k p)) ∙ p .comes-after)
 
   module _ (k : ℕ) (more : k < length rows) (p : RowPasses b opened rows k) (after : leastKey b rows k ≤ rowKey b (getD rows k noRow)) (was : SoFar b rows k) where
     abbrev r : Row
@@ -63,13 +63,6 @@ module _ (b : Book) (opened : ℕ → Bool) (range : InRange b) (rows : List Row
 
     one : take (suc k) rows ≡ take k rows ++ r ∷ []
     one = take-suc rows k noRow more
-
-    used-next : (t : ℕ) → usedIn (take (suc k) rows) t ≤ b .processors
-    used-next t = rw one (go (eqb (r .slot) t) refl)
-      where
-        go : (u : Bool) → eqb (r .slot) t ≡ u → usedIn (take k rows ++ r ∷ []) t ≤ b .processors
-        go true e = rw (used-last (take k rows) r t, e) (rw (← eqb-true (r .slot) t e) (p .processors-kept))
-        go false e = rw (used-last (take k rows) r t, e) (omega (arith, was .used t))
 
     few-next : (f i t : ℕ) → doneBefore (take (suc k) rows) f i t ≤ 4096 * t
     few-next f i t = rw (one, done-last (take k rows) r f i t) (go (isOf f i r) refl (ltb (r .slot) t) refl)
@@ -142,7 +135,7 @@ module _ (b : Book) (opened : ℕ → Bool) (range : InRange b) (rows : List Row
       let was = so-far k (omega arith) (both .0) in
       let after = key-least k (both .0) p in
       record {
-        used = used-next k h p after was;
+        used = λ t. use-kept b opened rows t (suc k) h (passed (suc k) e);
         few = few-next k h p after was;
         earlier = earlier-next k h p after was;
         rising = rising-next k h p after was;
