@@ -368,8 +368,9 @@ fn plans_are_valid_and_cuts_agree() {
             Ok(schedule) => {
                 planned[above] += 1;
                 let (bytes, lent) = (encode_book(&book), calendar.encode());
-                let table = tables::planned_table(&book, &calendar).unwrap();
-                let table = table.encode(&book);
+                let finishes = schedule.finishes.clone();
+                let rows = schedule.rows;
+                let table = Table { finishes, rows }.encode(&book);
                 let answer = second_check::check(&bytes, &lent, &table, &mut work);
                 assert_eq!(answer, CheckAnswer::accepted(schedule.late));
                 let shut = calendar.shut_slots().count() as u32;
