@@ -268,7 +268,8 @@ fn marked_chains() {
     let in_a_row =
         |jobs: u32, size, cap| Vec::from_iter((0..jobs).map(|i| job(size, cap, (1 << i) >> 1)));
     let run = |width, takes| PseudoJob { width, takes };
-    let alone = |jobs, job, take| Vec::from_iter((0..jobs).map(|k| if k == job { take } else { 0 }));
+    let alone =
+        |jobs, job, take| Vec::from_iter((0..jobs).map(|k| if k == job { take } else { 0 }));
 
     let twice = Vec::from_iter((0..10).map(|u| run(1, alone(5, u / 2, 2 - u % 2))));
     let longest = Vec::from_iter((0..64).map(|i| run(1_000_000, alone(64, i, 1))));
