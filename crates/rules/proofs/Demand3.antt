@@ -21,6 +21,7 @@ use Rattle.rules.proofs.CallCases.{PlanCase, short-11, stopped-12, long
 use Rattle.rules.proofs.PlansByTheRules.{writes-plan}
 
 module _ (c : Book) (range : InRange c) (out area : List ℕ) (room : workBytes ≤ length area) where
+  -- "Where the work area is long enough the answer is 0, 12 or 13."
   answered : {o : PlanOutcome} → PlanCase c out area o → (o .answer .number ≡ 0) ⊎ ((o .answer .number ≡ 12) ⊎ (o .answer .number ≡ 13))
   answered (short-11 h) = absurd (omega arith)
   answered (stopped-12 h f e) = inr (inl refl)

@@ -207,7 +207,7 @@ record PlannerAnswers (out area : List ℕ) (o : PlanOutcome) : Type 0 where
   number-is : (o .answer .number ≤ 13) ⊎ ((o .answer .number ≡ 22) ⊎ (o .answer .number ≡ 24))
   refusal : 0 < o .answer .number → PlannerRefusal out area o
 
--- a refusal before or by 11, and one after it
+-- the numbers before or by 11, and those after it
 pub early-number : {X : Type 0} (n : ℕ) → byEleven n ≡ true → (n ≤ 11 → X) → (n ≡ 22 → X) → (n ≡ 24 → X) → X
 early-number n e low release last =
     ⊎-elim (λ p. ⊎-elim (λ q. low (leb-true n 11 q)) (λ q. release (eqb-true n 22 q)) (or-cases (leb n 11) (eqb n 22) p)) (λ p. last (eqb-true n 24 p))
@@ -216,6 +216,7 @@ early-number n e low release last =
 late-number : (n : ℕ) → 12 ≤ n → (n ≡ 22 → ⊥) → (n ≡ 24 → ⊥) → byEleven n ≡ false
 late-number n l m k = ap₂ _||_ (ap₂ _||_ (lt-leb n 11 (omega arith)) (ne-eqb n 22 m)) (ne-eqb n 24 k)
 
+-- what they leave of the area
 area-kept : (n : ℕ) (area : List ℕ) → byEleven n ≡ true → AreaAfterRefusal n area area
 area-kept n area h = record { kept = λ k. refl; zeroed = λ k. absurd (true≢false (sym h ∙ k)) }
 

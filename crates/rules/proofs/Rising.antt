@@ -70,7 +70,7 @@ module _ {A : Type 0} (Before : A → A → Type 0) where
   rising-after [] ys p = p
   rising-after (x ∷ xs) ys p = rising-after xs ys (p .1)
 
-  -- so does each of two places
+  -- of two places the earlier one comes before the later one
   pub rising-at : (xs : List A) (d : A) → Rising xs → (m n : ℕ) → m < n → n < length xs → Before (getD xs m d) (getD xs n d)
   unfolding Rising
   rising-at [] d h m n l k = absurd (not-suc-le-zero k)
