@@ -4,21 +4,22 @@ use mathlib.Core.Path.{_≡_, refl, sym, ap, ap₂, subst, _∙_}
 use Prim.Native.Nat.{ℕ, _+_, _*_, _≤_, _<_}
 use native.Mathlib.Omega.{arith}
 use mathlib.Core.List.{List, [], _++_}
-use lib.ListN.{length, drop}
+use lib.ListN.{length}
 use lib.Seq.{sets}
-use borrow.Author.Tests.{lt-ltb, le-ltb}
+use borrow.Author.Tests.{lt-ltb}
 use Rattle.rules.specs.declared.Verdict.the-variants.{Pass, Refused}
 use Rattle.rules.specs.declared.PlanAnswer.{PlanAnswer}
 use Rattle.rules.specs.Answers.{none, planAccepted, planRefused}
 use Rattle.rules.specs.Limits.{slots, workBytes}
 use Rattle.rules.specs.Calendar.{Calendar, calendarOf, calendarFault, CalendarInRange}
 use Rattle.rules.specs.Book.{Book, withCalendar, flowCount}
-use Rattle.rules.specs.Reading.{bookOf, bookFault, readBook}
+use Rattle.rules.specs.Reading.{bookOf, bookFault, bookWith, readBook}
 use Rattle.rules.specs.Rows.{Row, lateFlows, workUsed, workZero}
 use Rattle.rules.specs.Placing.{Plan, planned, infeasible, placeFirst, plan}
 use Rattle.rules.specs.Planner.{PlanOutcome, planOutcome, planReading, planCall}
-use Rattle.rules.specs.Table.{tableHead, tableLength, tableBytes}
-use Rattle.rules.proofs.CallCases.{outcome-infeasible, outcome-longer, outcome-written}
+use Rattle.rules.specs.Table.{tableHead, tableLength}
+use Rattle.rules.proofs.CallCases.{outcome-infeasible, outcome-longer, outcome-written, call-plans}
+use Rattle.rules.proofs.Passing.{pass-reads}
 use Rattle.rules.proofs.WorkArea.{used-none, cleared-twice, used-over-cleared}
 use Rattle.rules.proofs.SameUse.{with-same, late-same}
 use Rattle.book.specs.declared.Index.{Index}
@@ -67,8 +68,7 @@ module _ (s calendar out area : List ℕ) where
 
   call-passing : bookFault s ≡ Pass → calendarFault calendar ≡ Pass → workBytes ≤ length area →
       planCall s calendar out area ≡ planOf (calendarOf calendar) s out area
-  unfolding planCall readBook planReading
-  call-passing e d l = rw (e, d, le-ltb (length area) workBytes l) refl
+  call-passing e d l = call-plans s calendar out area (bookWith s calendar) (pass-reads s calendar e d) l
 
 -- ---- what is left in each case
 pub leaves : (o : PlanOutcome) (answer : PlanAnswer) (output area : List ℕ) → o ≡ record { answer = answer; output = output; area = area } →
