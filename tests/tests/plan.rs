@@ -254,17 +254,20 @@ fn hold_trial(version: Version, seed: u64) {
     trial.infeasible.hold(version, "infeasible", &[]);
 }
 
+fn job(size: u32, cap: u32, precedence: u64) -> Job {
+    Job {
+        size,
+        cap,
+        precedence,
+    }
+}
+
 /// Three flows whose chains are told here by hand: 2 × n pseudo-jobs, the longest
 /// path there is, and takes that change while the rate does not. The second planner
 /// cuts them so, and the proved one has its rows, or refuses the path that is too long.
 #[test]
 fn marked_chains() {
     let mut trial = Trial::new(0x5eed_0015);
-    let job = |size, cap, precedence| Job {
-        size,
-        cap,
-        precedence,
-    };
     let in_a_row =
         |jobs: u32, size, cap| Vec::from_iter((0..jobs).map(|i| job(size, cap, (1 << i) >> 1)));
     let run = |width, takes| PseudoJob { width, takes };
@@ -299,11 +302,6 @@ fn marked_chains() {
 #[test]
 fn sizes_about_multiples_of_the_cap() {
     let mut trial = Trial::new(0x5eed_0041);
-    let job = |size, cap, precedence| Job {
-        size,
-        cap,
-        precedence,
-    };
     for cap in [1, 2, 3, 5, 64, 1_000, 4_095, 4_096] {
         for whole in [1, 2, 3, 100, 243, 4_095, 8_191, 8_192, 1_000_000 / cap] {
             for size in whole * cap - 1..=whole * cap + 1 {

@@ -1,4 +1,4 @@
--- What one flow's rows add to the finishes, and the late flows by deadlines and finishes.
+-- What one flow's rows add to the finishes.
 -- All rows of a flow are its own, so that they change its finish alone. Assumes nothing.
 use mathlib.Core.Path.{_≡_, sym, ap, subst, _∙_}
 use Prim.Native.Nat.{ℕ}
