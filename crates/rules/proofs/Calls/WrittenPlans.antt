@@ -12,7 +12,8 @@ use Rattle.rules.specs.Placing.{rowsOf, plan}
 use Rattle.rules.specs.Table.{tableLength, tableBytes, finishIn}
 use Rattle.rules.specs.Planner.{planCall}
 use Rattle.rules.specs.Check.{tableRows}
-use Rattle.rules.specs.Demands.{PlansByTheRules, WritesPlan, tableOf}
+use Rattle.rules.specs.Demands.Planner.{PlansByTheRules, WritesPlan}
+use Rattle.rules.specs.Demands.Quote.{tableOf}
 use Rattle.rules.proofs.Reading.Passing.{read-in-range}
 use Rattle.rules.proofs.Tables.TableBytes.{table-bytes-length, finish-in-front}
 use Rattle.rules.proofs.Placing.PlannedValid.{planned-valid, planned-in-slots}

@@ -18,7 +18,7 @@ use Rattle.rules.specs.Rows.{Row, lateFlows}
 use Rattle.rules.specs.Table.{tableLength, tableBytes}
 use Rattle.rules.specs.Check.{tableRows, tableFault, checkOutcome, checkReading, checkCall}
 use Rattle.rules.specs.Schedule.{Schedule, everyFlow, Valid, InSlots, scheduleOf, scheduleRows, scheduleTable}
-use Rattle.rules.specs.Demands.{IsScheduleTable, AcceptsExactly}
+use Rattle.rules.specs.Demands.Check.{IsScheduleTable, AcceptsExactly}
 use Rattle.rules.proofs.Reading.Caps.{used-in-range}
 use Rattle.rules.proofs.Reading.Passing.{read-in-range}
 use Rattle.rules.proofs.Rows.Rising.{_∈_}

@@ -8,7 +8,8 @@ use Rattle.rules.specs.Placing.{rowsOf, plan}
 use Rattle.rules.specs.Table.{tableBytes}
 use Rattle.rules.specs.Planner.{planReading, planCall}
 use Rattle.rules.specs.Check.{checkCall}
-use Rattle.rules.specs.Demands.{PlansByTheRules, AcceptsPlans}
+use Rattle.rules.specs.Demands.Planner.{PlansByTheRules}
+use Rattle.rules.specs.Demands.Check.{AcceptsPlans}
 use Rattle.rules.proofs.Reading.Passing.{read-in-range}
 use Rattle.rules.proofs.Demands.Refusals.{zero-reads}
 use Rattle.rules.proofs.Placing.PlannedTable.{planned-table-is-schedule-table}

@@ -20,7 +20,8 @@ use Rattle.rules.specs.Planner.{planCall}
 use Rattle.rules.specs.Check.{tableRows}
 use Rattle.rules.specs.Finish.{finishReading}
 use Rattle.rules.specs.Quote.{workOf, workUpTo, quote, appended}
-use Rattle.rules.specs.Demands.{PlansByTheRules, Appended, tableOf, KeepsTable, Appends}
+use Rattle.rules.specs.Demands.Planner.{PlansByTheRules}
+use Rattle.rules.specs.Demands.Quote.{Appended, tableOf, KeepsTable, Appends}
 use Rattle.rules.proofs.Laws.Sums.{sum-ext, sum-split, sum-up, count-none}
 use Rattle.rules.proofs.Laws.Walks.{join-split}
 use Rattle.rules.proofs.Reading.ServiceOrder.{service-below, served-asymmetric}

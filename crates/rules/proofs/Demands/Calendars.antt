@@ -20,7 +20,8 @@ use Rattle.rules.specs.Planner.{planReading, planCall}
 use Rattle.rules.specs.Check.{tableRows, tableFault, checkOutcome, checkReading, checkCall}
 use Rattle.rules.specs.Dispatch.{dispatchChecked, dispatchCall}
 use Rattle.rules.specs.Schedule.{Schedule, IsJob, inUse, Valid}
-use Rattle.rules.specs.Demands.{byEleven, Calendars, NoWindows}
+use Rattle.rules.specs.Demands.Refusals.{byEleven}
+use Rattle.rules.specs.Demands.Calendar.{Calendars, NoWindows}
 use Rattle.rules.proofs.Laws.Faults.{not-pass}
 use Rattle.rules.proofs.Placing.OpenSlots.{always, open-all, limit-without}
 use Rattle.rules.proofs.Placing.Usable.{always-open, not-released, shut-unusable}

@@ -12,7 +12,7 @@ use Rattle.rules.specs.Reading.{versionOf, read, readBook, bookBytes}
 use Rattle.rules.specs.Placing.{planned, rowsOf, plan}
 use Rattle.rules.specs.Planner.{PlanOutcome}
 use Rattle.rules.specs.Cut.{cut}
-use Rattle.rules.specs.Demands.{PlannerOwes, PlannedWell, Demand3}
+use Rattle.rules.specs.Demands.Planner.{PlannerOwes, PlannedWell, Demand3}
 use Rattle.rules.proofs.Reading.Passing.{read-in-range}
 use Rattle.rules.proofs.Reading.Versions.{read-writable, read-beside}
 use Rattle.rules.proofs.Reading.CutBook.{cut-calendar, cut-in-range, cut-writable}

@@ -8,7 +8,7 @@ use Rattle.rules.specs.Book.{Book, flowCount, flowOf, InRange}
 use Rattle.rules.specs.Rows.{Row, finishOf}
 use Rattle.rules.specs.Schedule.{Schedule, everyFlow, Valid, EndsBy, scheduleOf}
 use Rattle.rules.specs.Placing.{planned, infeasible, plan}
-use Rattle.rules.specs.Demands.{PlannedWell, NoneOnTime}
+use Rattle.rules.specs.Demands.Planner.{PlannedWell, NoneOnTime}
 use Rattle.rules.proofs.Rows.RowSums.{finish-ends}
 use Rattle.rules.proofs.Placing.PlannedRows.{placing-stops}
 use Rattle.rules.proofs.Placing.PlannedValid.{all-placed, planned-valid, planned-in-slots, first-finish-least, first-finish-within-twice, first-finish-in-slots}

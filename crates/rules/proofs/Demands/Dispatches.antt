@@ -25,7 +25,11 @@ use Rattle.rules.specs.Table.{tableBytes}
 use Rattle.rules.specs.Planner.{planCall}
 use Rattle.rules.specs.Check.{noRow, tableRows, tableFault, CheckOutcome, checkOutcome, checkReading, checkCall}
 use Rattle.rules.specs.Dispatch.{listedBefore, listRows, listLength, listBytes, rowsInList, DispatchOutcome, listOutcome, dispatchChecked, dispatchCall}
-use Rattle.rules.specs.Demands.{PlansByTheRules, AcceptsPlans, Version1Kept, CheckRefusal, DispatchRefusal, timesIn, listOf, ListsRows, Dispatches}
+use Rattle.rules.specs.Demands.Refusals.{CheckRefusal}
+use Rattle.rules.specs.Demands.Books.{Version1Kept}
+use Rattle.rules.specs.Demands.Planner.{PlansByTheRules}
+use Rattle.rules.specs.Demands.Check.{AcceptsPlans}
+use Rattle.rules.specs.Demands.DispatchList.{DispatchRefusal, timesIn, listOf, ListsRows, Dispatches}
 use Rattle.rules.proofs.Laws.Division.{lt-or-ge}
 use Rattle.rules.proofs.Reading.Passing.{read-passes, read-in-range}
 use Rattle.rules.proofs.Rows.Rising.{_∈_, Rising}

@@ -26,7 +26,9 @@ use Rattle.rules.specs.Planner.{PlanOutcome, planCall}
 use Rattle.rules.specs.Cut.{cut, numberInCut}
 use Rattle.rules.specs.Service.{servedAt, position}
 use Rattle.rules.specs.Finish.{upToNamed, FinishOutcome, finishOutcome, finishReading, unknownFlow, inputFault, finishCall}
-use Rattle.rules.specs.Demands.{byEleven, PlansByTheRules, WithinTwice, finishByEleven, FinishRefusal, planOfCut, AsForCut, RefusedFlow, Finishes}
+use Rattle.rules.specs.Demands.Refusals.{byEleven}
+use Rattle.rules.specs.Demands.Planner.{PlansByTheRules, WithinTwice}
+use Rattle.rules.specs.Demands.Finish.{finishByEleven, FinishRefusal, planOfCut, AsForCut, RefusedFlow, Finishes}
 use Rattle.rules.proofs.Laws.Division.{lt-or-ge}
 use Rattle.rules.proofs.Reading.Passing.{ReadWith, read-passes, read-in-range}
 use Rattle.rules.proofs.Reading.Versions.{version-2-reads}

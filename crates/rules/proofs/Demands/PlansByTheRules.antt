@@ -6,7 +6,7 @@ use mathlib.Core.List.{List}
 use native.Mathlib.Omega.{arith}
 use Rattle.rules.specs.Book.{Book}
 use Rattle.rules.specs.Planner.{PlanOutcome}
-use Rattle.rules.specs.Demands.{WritesPlan, PlansByTheRules}
+use Rattle.rules.specs.Demands.Planner.{WritesPlan, PlansByTheRules}
 use Rattle.rules.proofs.Calls.CallCases.{PlanCase, short-11, stopped-12, long-13, written-0, call-case}
 
 pub writes-plan : {b : Book} {out area : List ℕ} {o : PlanOutcome} → PlanCase b out area o → o .answer .number ≡ 0 → WritesPlan b out o

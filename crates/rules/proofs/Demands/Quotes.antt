@@ -18,7 +18,8 @@ use Rattle.rules.specs.Rows.{Row, usedIn, finishOf}
 use Rattle.rules.specs.Schedule.{Schedule, Valid, EndsBy, scheduleOf}
 use Rattle.rules.specs.Placing.{progress, slotsFor, planned, placeFirst, rowsOf, plan}
 use Rattle.rules.specs.Quote.{workOf, workUpTo, quote}
-use Rattle.rules.specs.Demands.{PlansByTheRules, upTo, WithinQuote, Quotes}
+use Rattle.rules.specs.Demands.Planner.{PlansByTheRules, upTo}
+use Rattle.rules.specs.Demands.Quote.{WithinQuote, Quotes}
 use Rattle.rules.proofs.Laws.Division.{lt-or-ge}
 use Rattle.rules.proofs.Laws.Sums.{sum-ext}
 use Rattle.rules.proofs.Reading.Passing.{read-in-range}

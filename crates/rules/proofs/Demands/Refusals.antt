@@ -23,7 +23,7 @@ use Rattle.rules.specs.Rows.{Row, usedIn, totalOf, finishOf, workZero}
 use Rattle.rules.specs.Table.{tableHead, rowLength, finishIn}
 use Rattle.rules.specs.Planner.{PlanOutcome, planReading, planCall}
 use Rattle.rules.specs.Check.{tableRows, tableHeadFault, noRow, rises, lacksPredecessor, beforeRelease, rowFault, totalFault, finishFault, tableFault, CheckOutcome, checkOutcome, checkReading, checkCall}
-use Rattle.rules.specs.Demands.{byEleven, AreaAfterRefusal, PlannerRefusal, CheckRefusal, Demand1}
+use Rattle.rules.specs.Demands.Refusals.{byEleven, AreaAfterRefusal, PlannerRefusal, CheckRefusal, Demand1}
 use Rattle.rules.proofs.Laws.Walks.{or-cases}
 use Rattle.rules.proofs.Laws.Faults.{not-pass}
 use Rattle.rules.proofs.Calls.CallCases.{check-cases, PlanCase, short-11, stopped-12, long-13, written-0, reading-case}

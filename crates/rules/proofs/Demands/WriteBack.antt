@@ -12,7 +12,7 @@ use borrow.Author.Tests.{leb-true, leb-false, le-leb}
 use Rattle.rules.specs.Book.{Flow, Book, flowCount, flowOf, InRange}
 use Rattle.rules.specs.Rows.{Row, finishOf, isLate}
 use Rattle.rules.specs.Schedule.{Schedule, everyFlow, Valid, EndsBy, InSlots, scheduleOf, scheduleRows}
-use Rattle.rules.specs.Demands.{LeftForWriteBack, LateMeans, WriteBack}
+use Rattle.rules.specs.Demands.LateFlows.{LeftForWriteBack, LateMeans, WriteBack}
 use Rattle.rules.proofs.Reading.Caps.{used-in-range}
 use Rattle.rules.proofs.Laws.Division.{lt-or-ge}
 use Rattle.rules.proofs.Reading.Passing.{read-in-range}

@@ -18,7 +18,7 @@ use Rattle.rules.specs.Service.{servedBefore, servedAt}
 use Rattle.rules.specs.Rows.{Row, usedIn}
 use Rattle.rules.specs.Schedule.{Schedule, IsJob, inUse, Valid, EndsBy}
 use Rattle.rules.specs.Placing.{slotsFor, planned, placeFirst}
-use Rattle.rules.specs.Demands.{upTo, NoneOnTime}
+use Rattle.rules.specs.Demands.Planner.{upTo, NoneOnTime}
 use Rattle.rules.proofs.Laws.Sums.{sum-quiet, sum-distinct}
 use Rattle.rules.proofs.Laws.Walks.{last-or}
 use Rattle.rules.proofs.Chains.PseudoJobs.{chain-live}

@@ -13,7 +13,7 @@ use Rattle.rules.specs.Rows.{Row, rowFor, lateFlows}
 use Rattle.rules.specs.Schedule.{scheduleOf, scheduleRows, scheduleTable}
 use Rattle.rules.specs.Placing.{slotsFor, planned, plan}
 use Rattle.rules.specs.Table.{tableBytes}
-use Rattle.rules.specs.Demands.{IsScheduleTable}
+use Rattle.rules.specs.Demands.Check.{IsScheduleTable}
 use Rattle.rules.proofs.Laws.Walks.{join-ext, join-split}
 use Rattle.rules.proofs.Rows.Rising.{Rising}
 use Rattle.rules.proofs.Rows.RowOrder.{Before}

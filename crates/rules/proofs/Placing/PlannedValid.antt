@@ -17,7 +17,7 @@ use Rattle.rules.specs.Rows.{Row, sumWhere, usedIn, finishOf}
 use Rattle.rules.specs.Schedule.{Schedule, everyFlow, IsJob, Valid, EndsBy, InSlots, scheduleOf}
 use Rattle.rules.specs.Placing.{slotsFor, planned, placeFirst, rowsOf, plan}
 use Rattle.rules.specs.Cut.{amongFirst}
-use Rattle.rules.specs.Demands.{WithinTwice}
+use Rattle.rules.specs.Demands.Planner.{WithinTwice}
 use Rattle.rules.proofs.Reading.Caps.{used-in-range}
 use Rattle.rules.proofs.Laws.Division.{lt-or-ge}
 use Rattle.rules.proofs.Laws.Bits.{bit-below}

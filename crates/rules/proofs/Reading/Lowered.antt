@@ -15,7 +15,7 @@ use Rattle.rules.specs.Book.{Book, flowCount, noFlow, flowIn, lowerCap, 
 use Rattle.rules.specs.Reading.{versionOf, jobRecord, jobFault}
 use Rattle.rules.specs.Planner.{planCall}
 use Rattle.rules.specs.Check.{checkCall}
-use Rattle.rules.specs.Demands.{CapsLowered}
+use Rattle.rules.specs.Demands.Books.{CapsLowered}
 use Rattle.rules.proofs.Reading.Caps.{job-lowered, lowered-in-range, caps-kept}
 use Rattle.rules.proofs.Laws.Fields.{field-lt}
 use Rattle.rules.proofs.Reading.Passing.{read-in-range}

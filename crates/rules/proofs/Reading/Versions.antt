@@ -20,7 +20,7 @@ use Rattle.rules.specs.Book.{Book, flowCount, flowIn, lowerCaps, flowOf,
 use Rattle.rules.specs.Reading.{versionOf, releaseSize, releaseAt, jobsAt, flowStart, flowHeadFault, bookWith, read, readBook, bookBytes}
 use Rattle.rules.specs.Planner.{planCall}
 use Rattle.rules.specs.Check.{checkCall}
-use Rattle.rules.specs.Demands.{Version1Kept}
+use Rattle.rules.specs.Demands.Books.{Version1Kept}
 use Rattle.rules.proofs.Reading.Passing.{Known, flow-count, flow-in-book, release-of-flow, book-passes, read-passes, read-in-range}
 use Rattle.rules.proofs.Reading.RoundTrip.{Writable, writable-two, read-written}
 

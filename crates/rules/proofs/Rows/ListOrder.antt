@@ -17,7 +17,7 @@ use Rattle.rules.specs.Book.{Book}
 use Rattle.rules.specs.Rows.{Row, sumWhere}
 use Rattle.rules.specs.Check.{noRow}
 use Rattle.rules.specs.Dispatch.{listedBefore, insertRow, listRows}
-use Rattle.rules.specs.Demands.{sameRow, timesIn}
+use Rattle.rules.specs.Demands.DispatchList.{sameRow, timesIn}
 use Rattle.rules.proofs.Laws.Division.{lt-or-ge}
 use Rattle.rules.proofs.Rows.Rising.{_∈_, first-in, Rising, rising-at, rising-unique, Inserts, insert-rising}
 use Rattle.rules.proofs.Laws.Lexical.{Lexical, lexical-trans, lexical-rest, lexical-map, lexical-either, less-or-more, less-or-same, less-or-same-test}
