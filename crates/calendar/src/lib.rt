@@ -108,7 +108,11 @@ pub fn calendar_of(calendar: &[u8]) -> Calendar
         reopening[k] = bytes::read16(calendar, 8 + 4 * k);
         k = k + 1;
     }
-    Calendar { count, shut, reopening }
+    Calendar {
+        count,
+        shut,
+        reopening,
+    }
 }
 
 // How many slots of a window stand before a slot.

@@ -51,7 +51,16 @@ listRefused n f j = record { number = n; flow = f; job = j; length = 0 }
 abbrev pub finishRefused : ℕ → ℕ → ℕ → FinishAnswer
 finishRefused n f j = record { number = n; flow = f; job = j; finish = 0 }
 
--- the number of a verdict: 0 where it passes
+-- ---- "Where an answer is an enum, a definition gives this paper's number and values for each of its cases.": the number of a verdict, 0 where it passes,
+-- and the flow and the job of its place
 abbrev pub numberOf : Verdict → ℕ
 numberOf Pass = 0
 numberOf (Refused n f j) = n
+
+abbrev pub flowNamed : Verdict → ℕ
+flowNamed Pass = none
+flowNamed (Refused n f j) = f
+
+abbrev pub jobNamed : Verdict → ℕ
+jobNamed Pass = none
+jobNamed (Refused n f j) = j

@@ -2,13 +2,13 @@
 -- open, and the bytes of a calendar with their fault, 24. Assumes nothing.
 use Prim.Native.Nat.{ℕ, zero, suc, _+_, _*_, _<_, _≤_}
 use mathlib.Core.Bool.{Bool, true, false, not, _&&_, _||_}
-use mathlib.Core.List.{List, [], _∷_}
+use mathlib.Core.List.{List, [], _∷_, _++_}
 use lib.ListN.{length, getD}
 use lib.Dec.{ltb, leb, eqb}
 use Rattle.rules.specs.declared.Verdict.{Verdict}
 use Rattle.rules.specs.declared.Verdict.the-variants.{Pass, Refused}
-use Rattle.rules.specs.Walks.{if_then_else_, countTo, anyTo, listFrom}
-use Rattle.rules.specs.Fields.{byte, field}
+use Rattle.rules.specs.Walks.{if_then_else_, countTo, anyTo, listFrom, joinFrom}
+use Rattle.rules.specs.Fields.{byte, field, bytesOf}
 use Rattle.rules.specs.Answers.{none}
 use Rattle.rules.specs.Limits.{mostWindows, mostReopening, slots}
 
@@ -40,9 +40,17 @@ passOpen c zero n t = t
 passOpen c (suc m) zero t = t
 passOpen c (suc m) (suc n) t = passOpen c m (if isOpen c t then n else suc n) (t + 1)
 
--- "when that many open slots from slot 0 have passed": the first slot before which n open slots stand
+-- "when that many open slots from slot 0 have passed": the first slot before which n open slots stand, or 8,192 where no slot up to it is one. Since every
+-- window has reopened by slot 4,096, twice the open slots before a deadline are always met (`Demands.Calendar`, `LimitByRule`).
 unfoldable pub slotAfter : Calendar → ℕ → ℕ
 slotAfter c n = passOpen c slots n 0
+
+-- window k of a calendar; past the last one, a window of no slots
+abbrev pub noWindow : Window
+noWindow = record { shut = 0; reopening = 0 }
+
+unfoldable pub windowOf : Calendar → ℕ → Window
+windowOf c k = getD c k noWindow
 
 -- ---- the bytes: "length of the whole (4), version 1 (1), windows (1, at most 32), then each window"
 abbrev pub calendarHead : ℕ
@@ -57,6 +65,12 @@ windowAt s k = record { shut = field 2 s (calendarHead + windowLength * k); reop
 
 unfoldable pub calendarOf : List ℕ → Calendar
 calendarOf s = listFrom (windowAt s) (byte s 5) 0
+
+-- the encoding of windows
+unfoldable pub calendarBytes : Calendar → List ℕ
+calendarBytes c =
+    bytesOf 4 (calendarHead + windowLength * length c) ++ bytesOf 1 1 ++ bytesOf 1 (length c)
+    ++ joinFrom (λ k. bytesOf 2 (windowOf c k .shut) ++ bytesOf 2 (windowOf c k .reopening)) (length c) 0
 
 -- the bytes of a calendar without windows: `00000006 01 00`
 abbrev pub noWindows : List ℕ
@@ -84,13 +98,6 @@ calendarFault s =
     then Refused 24 none none else Pass
 
 -- ---- the ranges: what 24 leaves
--- window k of a calendar; past the last one, a window of no slots
-abbrev pub noWindow : Window
-noWindow = record { shut = 0; reopening = 0 }
-
-unfoldable pub windowOf : Calendar → ℕ → Window
-windowOf c k = getD c k noWindow
-
 pub record CalendarInRange (c : Calendar) : Type 0 where
   pub windows-most : length c ≤ mostWindows
   pub not-empty : (k : ℕ) → k < length c → windowOf c k .shut < windowOf c k .reopening

@@ -10,27 +10,38 @@ pub mod LateFlows
 pub mod Calendar
 pub mod Quote
 use Rattle.rules.specs.Demands.Refusals.{Demand1}
-use Rattle.rules.specs.Demands.Books.{Version1Kept, CapsLowered}
-use Rattle.rules.specs.Demands.Planner.{PlansByTheRules, Demand3}
-use Rattle.rules.specs.Demands.Check.{AcceptsExactly, AcceptsPlans}
+use Rattle.rules.specs.Demands.Books.{Version1Kept, CapsLowered, BooksRead}
+use Rattle.rules.specs.Demands.Planner.{PlansByTheRules, Demand3, OfWholeBook, PlanBounds}
+use Rattle.rules.specs.Demands.Check.{AcceptsExactly, AcceptsPlans, RowsShut, AcceptedLength}
 use Rattle.rules.specs.Demands.DispatchList.{Dispatches}
 use Rattle.rules.specs.Demands.Finish.{Finishes}
 use Rattle.rules.specs.Demands.LateFlows.{WriteBack}
-use Rattle.rules.specs.Demands.Calendar.{Calendars, NoWindows}
+use Rattle.rules.specs.Demands.Calendar.{Calendars, NoWindows, LimitByRule}
 use Rattle.rules.specs.Demands.Quote.{Quotes, Appends}
 
 pub record Demands : Type 0 where
+  -- demand 1
   pub refuses-by-the-list : Demand1
-  pub plans-by-the-rules : PlansByTheRules
-  pub accepts-exactly : AcceptsExactly
-  pub planned-or-infeasible : Demand3
-  pub accepts-plans : AcceptsPlans
+  -- which books pass, and what their versions and caps mean
+  pub books-read : BooksRead
   pub version-1-kept : Version1Kept
   pub caps-lowered : CapsLowered
+  -- demand 2
+  pub plans-by-the-rules : PlansByTheRules
+  pub plan-bounds : PlanBounds
+  pub accepts-exactly : AcceptsExactly
+  pub accepts-plans : AcceptsPlans
+  pub accepted-length : AcceptedLength
+  pub rows-shut : RowsShut
+  -- demand 3
+  pub planned-or-infeasible : Demand3
+  pub of-whole-book : OfWholeBook
+  -- document 02
   pub dispatches : Dispatches
   pub finishes : Finishes
   pub write-back : WriteBack
   pub calendars : Calendars
+  pub limit-by-rule : LimitByRule
   pub no-windows : NoWindows
   pub quotes : Quotes
   pub appends : Appends

@@ -16,6 +16,7 @@ pub mod Planner
 pub mod Check
 pub mod Dispatch
 pub mod Finish
+pub mod Former
 pub mod Schedule
 pub mod Cut
 pub mod Quote

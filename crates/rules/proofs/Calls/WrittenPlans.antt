@@ -26,7 +26,7 @@ module _ (book calendar out area : List ℕ) (b : Book) (reads : readBook book c
   range : InRange b
   range = read-in-range book calendar b reads
 
-  writes : WritesPlan b out (planCall book calendar out area)
+  writes : WritesPlan b out area (planCall book calendar out area)
   unfolding PlansByTheRules
   writes = plans-by-the-rules book calendar out area b reads accepted
 

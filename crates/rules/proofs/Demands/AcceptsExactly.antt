@@ -3,8 +3,8 @@
 -- other way, the table of a valid schedule reads back as its rows, and these pass. Assumes nothing.
 use mathlib.Core.Path.{_≡_, refl, sym, ap, _∙_, subst}
 use Prim.Native.Nat.{ℕ, _≤_}
-use native.Mathlib.Omega.{arith}
 use mathlib.Core.List.{List}
+use native.Mathlib.Omega.{arith}
 use lib.ListN.{length}
 use borrow.Author.Tests.{le-ltb}
 use Rattle.rules.specs.declared.Verdict.{Verdict}
@@ -129,6 +129,7 @@ accepts-exactly = record {
       let w = call-accepts book calendar table area b reads zero in
       subst (IsScheduleTable b table) (sym (ap (λ o. o .answer .late) (w .1)))
       (faultless-is-schedule b (read-in-range book calendar b reads) table bytes (w .0));
+  area-used = λ book calendar table area b reads zero. ap (λ o. o .area) (call-accepts book calendar table area b reads zero .1);
   every-schedule = λ book calendar table area b late reads long is.
       let range = read-in-range book calendar b reads in
       let pass : tableFault b table ≡ Pass = rw (is .written) (schedule-table-passes b range (is .schedule) (is .valid) (is .in-slots)) in

@@ -1,33 +1,28 @@
--- The calendar (02, Req 07): by what it is turned down, that it asks of a schedule to keep to the open slots and nothing else, and that without windows every slot is open, the limit of rule 6 is twice the deadline, and 25 is
--- never said. Assumes nothing.
+-- The calendar (02, Req 07): by what it is turned down, that it asks of a schedule to keep to the open slots and nothing else, and that rule 6's limit is the
+-- first slot before which twice the open slots before the deadline stand. Assumes nothing.
 use mathlib.Core.Path.{_≡_, refl, sym, ap, _∙_}
 use mathlib.Core.Logic.{_⊎_, inl, inr, ⊎-elim}
-use mathlib.Core.Bool.{Bool, true, false, _&&_, true≢false}
-use Prim.Native.Nat.{ℕ, _*_}
-use native.Mathlib.Omega.{arith}
+use Prim.Native.Nat.{ℕ}
+use mathlib.Core.Bool.{Bool, true, false, _&&_}
 use mathlib.Core.List.{List, []}
 use lib.Dec.{leb}
 use borrow.Author.Tests.{leb-false}
-use Rattle.rules.specs.declared.Verdict.{Verdict}
 use Rattle.rules.specs.declared.Verdict.the-variants.{Pass, Refused}
-use Rattle.rules.specs.Walks.{anyTo, listFrom}
-use Rattle.rules.specs.Fields.{field}
-use Rattle.rules.specs.Answers.{none, _andThen_, checkRefused}
-use Rattle.rules.specs.Calendar.{Calendar, isOpen, openBefore, noWindows, calendarOf, calendarFault}
-use Rattle.rules.specs.Book.{Flow, Book, withCalendar, flowIn, flowOf, usable, twiceDeadline}
-use Rattle.rules.specs.Reading.{bookOf, bookFault, Reading, read, unread, readingOf, readBook}
+use Rattle.rules.specs.Answers.{none, checkRefused}
+use Rattle.rules.specs.Calendar.{Calendar, isOpen, calendarFault}
+use Rattle.rules.specs.Book.{Flow, Book, withCalendar, flowIn, flowOf, usable}
+use Rattle.rules.specs.Reading.{bookOf, bookFault, readBook}
 use Rattle.rules.specs.Planner.{planReading, planCall}
-use Rattle.rules.specs.Check.{tableRows, tableFault, checkOutcome, checkReading, checkCall}
+use Rattle.rules.specs.Check.{tableRows, checkReading, checkCall}
 use Rattle.rules.specs.Dispatch.{dispatchChecked, dispatchCall}
 use Rattle.rules.specs.Schedule.{Schedule, IsJob, inUse, Valid}
-use Rattle.rules.specs.Demands.Refusals.{byEleven}
-use Rattle.rules.specs.Demands.Calendar.{Calendars, NoWindows}
+use Rattle.rules.specs.Demands.Calendar.{Calendars, LimitByRule}
 use Rattle.rules.proofs.Laws.Faults.{not-pass}
-use Rattle.rules.proofs.Placing.OpenSlots.{always, open-all, limit-without}
-use Rattle.rules.proofs.Placing.Usable.{always-open, not-released, shut-unusable}
-use Rattle.rules.proofs.Reading.Versions.{read-calendar}
-use Rattle.rules.proofs.Calls.CallCases.{check-cases}
-use Rattle.rules.proofs.Demands.Refusals.{Numbered, calendar-either, unread-numbered, withoutShut, table-numbered-by}
+use Rattle.rules.proofs.Placing.OpenSlots.{limit-count, limit-not-yet}
+use Rattle.rules.proofs.Placing.Usable.{not-released, shut-unusable}
+use Rattle.rules.proofs.Demands.Refusals.{calendar-either}
+use Rattle.rules.proofs.Reading.Passing.{read-in-range}
+use Rattle.rules.proofs.Reading.Caps.{used-in-range}
 
 -- ---- 24
 by-24 : (calendar : List ℕ) (n f j : ℕ) → calendarFault calendar ≡ Refused n f j → (n ≡ 24) × ((f ≡ none) × (j ≡ none))
@@ -103,53 +98,12 @@ calendars = record {
   valid-with = valid-with;
 }
 
--- ---- no windows
--- the calendar without windows passes, and has none
-pub no-windows-pass : calendarFault noWindows ≡ Pass
-unfolding calendarFault field anyTo
-no-windows-pass = refl
-
-pub no-windows-none : calendarOf noWindows ≡ []
-unfolding calendarOf listFrom
-no-windows-none = refl
-
--- a test that passes changes no verdict before it
-then-pass : (v : Verdict) → (v andThen Pass) ≡ v
-then-pass Pass = refl
-then-pass (Refused n f j) = refl
-
-pub reads-without : (book : List ℕ) → readBook book noWindows ≡ readingOf (bookFault book) (bookOf book)
-unfolding readBook bookOf
-reads-without book = rw (no-windows-pass, no-windows-none, then-pass (bookFault book)) refl
-
--- a book without windows is never refused by 25
-module _ (b : Book) (s area : List ℕ) (without : b .calendar ≡ []) where
-  outcome-not-25 : (v : Verdict) → Numbered withoutShut v → checkOutcome b s area v .answer .number ≡ 25 → ⊥
-  unfolding checkOutcome
-  outcome-not-25 Pass h z = omega arith
-  outcome-not-25 (Refused n f j) h z = true≢false (sym (h .among n f j refl .1) ∙ ap withoutShut z)
-
-  read-not-25 : checkReading s area (read b) .answer .number ≡ 25 → ⊥
-  read-not-25 =
-      check-cases b s area (λ o. o .answer .number ≡ 25 → ⊥) (λ l z. omega arith)
-      (λ l. outcome-not-25 (tableFault b s) (table-numbered-by withoutShut b s (λ n e. e) (λ t e. absurd (true≢false (sym (always-open b t without) ∙ e)))))
-
-never-25 : (book table area : List ℕ) → checkCall book noWindows table area .answer .number ≡ 25 → ⊥
-unfolding checkCall checkReading
-never-25 book table area = go (readBook book noWindows) refl
-  where
-    go : (r : Reading) → readBook book noWindows ≡ r → checkReading table area r .answer .number ≡ 25 → ⊥
-    go (read b) e z = read-not-25 b table area (sym (read-calendar book noWindows b e) ∙ no-windows-none) z
-    go (unread n f j) e z = true≢false (sym (unread-numbered book noWindows n f j e .1) ∙ ap byEleven z)
-
-pub no-windows : NoWindows
-unfolding usable twiceDeadline
-no-windows = record {
-  reads = reads-without;
-  every-slot-open = always;
-  open-before = open-all;
-  from-release = λ b w t e. rw (always-open b t e) refl;
-  twice = λ b w e. ap (λ (c : Calendar). 2 * openBefore c (w .deadline)) e ∙ ap (λ (n : ℕ). 2 * n) (open-all (w .deadline));
-  last-slot = limit-without;
-  never-25 = never-25;
-}
+-- ---- rule 6's limit
+pub limit-by-rule : LimitByRule
+unfolding LimitByRule
+limit-by-rule book calendar b e f l =
+    let range = read-in-range book calendar b e in
+    record {
+      so-many = limit-count b (flowOf b f) (range .calendar-in-range) (used-in-range range f l .deadline-most);
+      none-earlier = limit-not-yet b (flowOf b f);
+    }

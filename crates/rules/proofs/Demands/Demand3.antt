@@ -12,10 +12,10 @@ use Rattle.rules.specs.Reading.{versionOf, read, readBook, bookBytes}
 use Rattle.rules.specs.Placing.{planned, rowsOf, plan}
 use Rattle.rules.specs.Planner.{PlanOutcome}
 use Rattle.rules.specs.Cut.{cut}
-use Rattle.rules.specs.Demands.Planner.{PlannerOwes, PlannedWell, Demand3}
+use Rattle.rules.specs.Demands.Planner.{PlannerOwes, PlannedWell, Demand3, OfWholeBook}
 use Rattle.rules.proofs.Reading.Passing.{read-in-range}
 use Rattle.rules.proofs.Reading.Versions.{read-writable, read-beside}
-use Rattle.rules.proofs.Reading.CutBook.{cut-calendar, cut-in-range, cut-writable}
+use Rattle.rules.proofs.Reading.CutBook.{cut-calendar, cut-in-range, cut-writable, cut-whole}
 use Rattle.rules.proofs.Demands.Demand3Values.{planned-well, infeasible-proves}
 use Rattle.rules.proofs.Calls.CallCases.{PlanCase, short-11, stopped-12, long-13, written-0, call-case, plan-number-12, plan-number-13}
 use Rattle.rules.proofs.Demands.PlansByTheRules.{writes-plan}
@@ -53,3 +53,9 @@ unfolding Demand3
 demand-3 book calendar b e k l out area h =
     owed (cut b k) (cut-in-range b k (read-in-range book calendar b e)) out area h
     (call-case (bookBytes (versionOf book) (cut b k)) calendar out area (cut b k) (read-cut book calendar b e k))
+
+pub of-whole-book : OfWholeBook
+of-whole-book = record {
+  cut-after-all = cut-whole;
+  owes = λ book calendar b e out area h. owed b (read-in-range book calendar b e) out area h (call-case book calendar out area b e);
+}

@@ -4,10 +4,10 @@
 -- Assumes nothing.
 use mathlib.Core.Path.{_≡_, refl, sym, ap, subst, _∙_}
 use mathlib.Core.Logic.{_⊎_, inl, inr}
-use mathlib.Core.Bool.{true, true≢false}
 use Prim.Native.Nat.{ℕ, suc, _≤_, _<_}
-use native.Mathlib.Omega.{arith}
+use mathlib.Core.Bool.{true, true≢false}
 use mathlib.Core.List.{List, _++_}
+use native.Mathlib.Omega.{arith}
 use lib.ListN.{length, take, drop, getD}
 use lib.Dec.{eqb}
 use borrow.Author.Tests.{eq-eqb, ne-eqb, lt-ltb, le-ltb}
@@ -20,11 +20,11 @@ use Rattle.rules.specs.Book.{Book, lowered, InRange}
 use Rattle.rules.specs.Reading.{versionOf, read, bookOf, bookWith, readBook, bookBytes}
 use Rattle.rules.specs.Rows.{Row, usedIn, workUsed, workZero}
 use Rattle.rules.specs.Placing.{rowsOf, plan}
-use Rattle.rules.specs.Schedule.{scheduleOf}
 use Rattle.rules.specs.Table.{tableBytes}
 use Rattle.rules.specs.Planner.{planCall}
 use Rattle.rules.specs.Check.{noRow, tableRows, tableFault, CheckOutcome, checkOutcome, checkReading, checkCall}
 use Rattle.rules.specs.Dispatch.{listedBefore, listRows, listLength, listBytes, rowsInList, DispatchOutcome, listOutcome, dispatchChecked, dispatchCall}
+use Rattle.rules.specs.Schedule.{scheduleOf}
 use Rattle.rules.specs.Demands.Refusals.{CheckRefusal}
 use Rattle.rules.specs.Demands.Books.{Version1Kept}
 use Rattle.rules.specs.Demands.Planner.{PlansByTheRules}
@@ -197,6 +197,16 @@ module _ (book calendar : List ℕ) (b : Book) (reads : readBook book calendar �
   call-table : AllBytes table → call .answer .number ≡ 0 → table ≡ tableBytes b rows
   call-table bytes z = let p = call-passes z in table-read b table bytes (p .head-passes) (p .finishes)
 
+-- the area is the one that the check leaves
+area-as-check : (book calendar table out area : List ℕ) → dispatchCall book calendar table out area .answer .number ≡ 0 →
+    dispatchCall book calendar table out area .area ≡ checkCall book calendar table area .area
+unfolding dispatchCall
+area-as-check book calendar table out area z =
+    let b = bookOf book in
+    let o = checkCall book calendar table area in
+    let w = outcome-zero b (tableRows b table) out area o z in
+    ap (λ x. x .area) (outcome-listed b (tableRows b table) out area o (w .0) (w .1))
+
 -- ---- nothing is lost
 nothing-lost : (book calendar table other out out′ area area′ : List ℕ) → AllBytes table → AllBytes other →
     dispatchCall book calendar table out area .answer .number ≡ 0 → dispatchCall book calendar other out′ area′ .answer .number ≡ 0 →
@@ -266,6 +276,7 @@ dispatches = record {
   refusal = λ book calendar table out area.
       outcome-refusal (bookOf book) (tableRows (bookOf book) table) out area (checkCall book calendar table area) (demand-1 .check-refusal book calendar table area);
   lists-table = λ book calendar table out area b reads bytes. call-holds book calendar b reads table out area (table-rows-fit b table bytes);
+  area-as-check = area-as-check;
   nothing-lost = nothing-lost;
   lists-plan = lists-plan;
   version-1-kept = dispatch-version-1;

@@ -3,10 +3,10 @@
 -- before its finish the quote was not yet reached. On time, release and path together are within the open slots before the deadline, and so is the work
 -- divided by P. Assumes nothing.
 use mathlib.Core.Path.{_≡_, refl, sym, ap, subst, _∙_}
+use mathlib.Core.Logic.{_⊎_, inl, inr}
 use Prim.Native.Nat.{ℕ, zero, suc, _+_, _*_, _/_, _≤_, _<_}
 use mathlib.Core.Bool.{true}
 use mathlib.Core.List.{List, []}
-use mathlib.Core.Logic.{_⊎_, inl, inr}
 use native.Mathlib.Nat.{le-trans, le-of-lt, lt-suc-self, div-le-of-le-mul}
 use native.Mathlib.Omega.{arith}
 use Rattle.rules.specs.Walks.{sumTo, countTo}
@@ -15,8 +15,8 @@ use Rattle.rules.specs.Book.{Flow, Book, flowCount, jobCount, flowOf, us
 use Rattle.rules.specs.Ideal.{path}
 use Rattle.rules.specs.Service.{servedAt, position}
 use Rattle.rules.specs.Rows.{Row, usedIn, finishOf}
-use Rattle.rules.specs.Schedule.{Schedule, Valid, EndsBy, scheduleOf}
 use Rattle.rules.specs.Placing.{progress, slotsFor, planned, placeFirst, rowsOf, plan}
+use Rattle.rules.specs.Schedule.{Schedule, Valid, EndsBy, scheduleOf}
 use Rattle.rules.specs.Quote.{workOf, workUpTo, quote}
 use Rattle.rules.specs.Demands.Planner.{PlansByTheRules, upTo}
 use Rattle.rules.specs.Demands.Quote.{WithinQuote, Quotes}
@@ -27,7 +27,7 @@ use Rattle.rules.proofs.Reading.Caps.{used-in-range}
 use Rattle.rules.proofs.Chains.Ideal.{Sized, in-range-sized}
 use Rattle.rules.proofs.Chains.PseudoJobs.{chain-live, chain-works}
 use Rattle.rules.proofs.Reading.ServiceOrder.{service-deadlines}
-use Rattle.rules.proofs.Reading.Position.{position-served, position-below, served-position}
+use Rattle.rules.proofs.Reading.Position.{position-served, position-below, served-position, sum-up-to}
 use Rattle.rules.proofs.Placing.OpenSlots.{open-none, open-step, open-mono}
 use Rattle.rules.proofs.Placing.Usable.{usable-open, count-usable}
 use Rattle.rules.proofs.Placing.Greedy.{unitsLeftAt, nothing-left}
@@ -147,7 +147,7 @@ module _ (b : Book) (range : InRange b) where
       (served-position b f l) (served-within-twice (position b f) (position-below b f l))
 
 pub quotes : Quotes
-unfolding PlansByTheRules
+unfolding PlansByTheRules workUpTo
 quotes = record {
   in-table = λ book calendar out area b reads z f l.
       subst (WithinQuote b f) (sym (written-finish book calendar out area b reads z f l))
@@ -157,6 +157,7 @@ quotes = record {
   answered = λ book calendar area f b reads.
       answered-holds book calendar b reads f (WithinQuote b f)
       (λ l rows e. finish-within-quote b (read-in-range book calendar b reads) (suc (position b f)) rows (position-below b f l) e f l (lt-suc-self (position b f))) area;
+  work-up-to = λ b. sum-up-to b (λ g. workOf (flowOf b g));
   work-is-sizes = λ book calendar b reads f l.
       (unfold flowWork in work-of-sizes (flowOf b f) (in-range-sized (used-in-range (read-in-range book calendar b reads) f l)));
   within-twice = λ book calendar b reads. within-twice b (read-in-range book calendar b reads);

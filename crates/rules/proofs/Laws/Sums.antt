@@ -1,13 +1,13 @@
 -- Laws of sums over slots.
 -- Assumes nothing.
 use mathlib.Core.Path.{_≡_, refl, ap, sym, _∙_}
-use Prim.Native.Nat.{ℕ, zero, suc, _+_, _*_, _-_, _≤_, _<_}
-use native.Mathlib.Nat.{add-zero, zero-add, add-suc, add-sub-of-le, sub-add-cancel, le-of-lt, not-suc-le-zero, eq-or-lt-of-le, le-of-suc-le-suc}
-use mathlib.Core.Bool.{Bool, true, false, _||_}
-use lib.Dec.{ltb, eqb}
 use mathlib.Core.Logic.{_⊎_, inl, inr}
-use borrow.Author.Tests.{lt-ltb, le-ltb, eqb-true, eq-eqb, ne-eqb}
+use Prim.Native.Nat.{ℕ, zero, suc, _+_, _*_, _-_, _≤_, _<_}
+use mathlib.Core.Bool.{Bool, true, false, _||_}
+use native.Mathlib.Nat.{add-zero, zero-add, add-suc, add-sub-of-le, sub-add-cancel, le-of-lt, not-suc-le-zero, eq-or-lt-of-le, le-of-suc-le-suc}
 use native.Mathlib.Omega.{arith}
+use lib.Dec.{ltb, eqb}
+use borrow.Author.Tests.{lt-ltb, le-ltb, eq-eqb, ne-eqb}
 use Rattle.rules.specs.Walks.{if_then_else_, sumTo, bit, countTo}
 use Rattle.rules.proofs.Laws.Division.{lt-or-ge}
 
@@ -157,16 +157,6 @@ bit-or false y h = sym (zero-add (bit y))
 
 pub count-most : (q : ℕ → Bool) (n : ℕ) → countTo q n ≤ n
 count-most q n = omega (arith, sum-le (λ i. bit (q i)) 1 n (λ i l. bit-most (q i)))
-
--- one number below n equals x
-pub count-equal : (x n : ℕ) → x < n → countTo (λ f. eqb x f) n ≡ 1
-count-equal x n l =
-    omega (
-      arith,
-      count-once (λ f. eqb x f) n (λ t u p q. sym (eqb-true x t p) ∙ eqb-true x u q),
-      le-sum (λ f. bit (eqb x f)) n x l,
-      ap bit (eq-eqb x x refl),
-    )
 
 -- a sum of nothing, and a sum of which one term counts
 pub sum-nothing : (f : ℕ → ℕ) (n : ℕ) → ((k : ℕ) → k < n → f k ≡ 0) → sumTo f n ≡ 0

@@ -2,22 +2,22 @@
 -- range where the whole book's are, and its service order is the first k of the whole one's. Two lists that are sorted by a strict order and have
 -- the same elements agree at every position, and renumbering keeps the order of service. Assumes nothing.
 use mathlib.Core.Path.{_≡_, refl, sym, ap, ap₂, _∙_}
-use Prim.Native.Nat.{ℕ, zero, suc, _+_, _≤_, _<_}
+use mathlib.Core.Logic.{inl, inr, ⊎-elim}
+use Prim.Native.Nat.{ℕ, zero, suc, _+_, _≤_, _<_, _*_}
 use mathlib.Core.Bool.{Bool, true, false, false≢true}
 use mathlib.Core.List.{List, [], _∷_}
-use mathlib.Core.Logic.{inl, inr, ⊎-elim}
-use native.Mathlib.Nat.{add-zero, zero-add, not-suc-le-zero, le-of-suc-le-suc, eq-or-lt-of-le}
+use native.Mathlib.Nat.{add-zero, zero-add, not-suc-le-zero, le-of-suc-le-suc, eq-or-lt-of-le, add-mul}
 use native.Mathlib.Numerals.{add-one}
 use native.Mathlib.Omega.{arith}
 use lib.ListN.{length, getD}
 use lib.Dec.{eqb}
-use borrow.Author.Tests.{eqb-true, eq-eqb}
+use borrow.Author.Tests.{eqb-true, eq-eqb, ne-eqb}
 use Rattle.rules.specs.Walks.{if_then_else_, sumTo, bit, countTo, anyTo}
 use Rattle.rules.specs.Book.{Flow, Book, flowCount, noFlow, flowIn, lowerCaps, flowOf, InRange}
 use Rattle.rules.specs.Service.{servedBefore, servedAt}
 use Rattle.rules.specs.Cut.{amongFirst, keepFlows, cut, numberInCut}
 use Rattle.rules.proofs.Laws.Division.{neither-less}
-use Rattle.rules.proofs.Laws.Sums.{sum-ext, sum-add, sum-first, count-none, count-most, count-equal, bit-or}
+use Rattle.rules.proofs.Laws.Sums.{sum-ext, sum-add, sum-first, count-most, bit-or, sum-nothing, sum-one, sum-const}
 use Rattle.rules.proofs.Laws.Walks.{next-start, any-true, any-met}
 use Rattle.rules.proofs.Reading.ServiceOrder.{Earlier, served-earlier, earlier-served, service-below, service-position, service-sorted, service-once, SortedTo, EachIn, sorted-agree}
 use Rattle.rules.proofs.Reading.RoundTrip.{Writable}
@@ -252,18 +252,31 @@ among-none : (b : Book) (f : ℕ) → amongFirst b zero f ≡ false
 unfolding amongFirst anyTo
 among-none b f = refl
 
--- k flows are among the first k
-pub among-count : (b : Book) (k : ℕ) → k ≤ flowCount b → countTo (amongFirst b k) (flowCount b) ≡ k
-among-count b zero l = count-none (amongFirst b zero) (flowCount b) (λ f m. among-none b f)
-among-count b (suc k) l =
-    let first = amongFirst b k in
-    let this : ℕ → Bool = λ f. eqb (servedAt b k) f in
+-- so what the flows among the first k have together is added flow by flow of the book, or position by position
+pub among-sum : (b : Book) (h : ℕ → ℕ) (k : ℕ) → k ≤ flowCount b → sumTo (λ f. bit (amongFirst b k f) * h f) (flowCount b) ≡ sumTo (λ n. h (servedAt b n)) k
+unfolding sumTo
+among-sum b h zero l = sum-nothing (λ f. bit (amongFirst b zero f) * h f) (flowCount b) (λ f m. rw (among-none b f) (omega arith))
+among-sum b h (suc k) l =
+    let first : ℕ → ℕ = λ f. bit (amongFirst b k f) * h f in
+    let this : ℕ → ℕ = λ f. bit (eqb (servedAt b k) f) * h f in
     omega (
       arith,
-      sum-ext (λ f. bit (amongFirst b (suc k) f)) (λ f. bit (first f) + bit (this f)) (flowCount b) (λ f m. among-next b k f l),
-      sum-add (λ f. bit (first f)) (λ f. bit (this f)) (flowCount b),
-      among-count b k (omega arith),
-      count-equal (servedAt b k) (flowCount b) (service-below b k l),
+      sum-ext (λ f. bit (amongFirst b (suc k) f) * h f) (λ f. first f + this f) (flowCount b)
+          (λ f m. ap (λ n. n * h f) (among-next b k f l) ∙ add-mul (bit (amongFirst b k f)) (bit (eqb (servedAt b k) f)) (h f)),
+      sum-add first this (flowCount b),
+      among-sum b h k (omega arith),
+      sum-one this (flowCount b) (servedAt b k) (service-below b k l) (λ f m ne. rw (ne-eqb (servedAt b k) f (λ e. ne (sym e))) (omega arith)),
+      ap (λ c. bit c * h (servedAt b k)) (eq-eqb (servedAt b k) (servedAt b k) refl),
+    )
+
+-- k flows are among the first k
+pub among-count : (b : Book) (k : ℕ) → k ≤ flowCount b → countTo (amongFirst b k) (flowCount b) ≡ k
+among-count b k l =
+    omega (
+      arith,
+      sum-ext (λ f. bit (amongFirst b k f)) (λ f. bit (amongFirst b k f) * 1) (flowCount b) (λ f m. omega arith),
+      among-sum b (λ f. 1) k l,
+      sum-const 1 k,
     )
 
 -- the cut book has k flows

@@ -1,24 +1,25 @@
 -- Values in range, written as a book of version 1 or 2, are read back as they are: the bytes pass every test, and stand for the same values.
 -- Each part of the encoding stands in it at the place where the reading looks for it; a field reads what was written there. Assumes nothing.
 use mathlib.Core.Path.{_≡_, refl, sym, ap, subst, _∙_}
+use mathlib.Core.Logic.{inl, inr}
 use Prim.Native.Nat.{ℕ, zero, suc, _+_, _*_, _^_, _≤_, _<_}
 use mathlib.Core.Bool.{Bool, true, false}
 use mathlib.Core.List.{List, [], _++_}
-use mathlib.Core.Logic.{inl, inr}
 use native.Mathlib.Nat.{pow-le-pow-right}
 use native.Mathlib.Omega.{arith}
 use lib.ListN.{length, length-append}
 use lib.Dec.{eqb}
+use borrow.Author.Tests.{le-ltb, lt-leb, eq-eqb}
 use Rattle.rules.specs.declared.Verdict.the-variants.{Pass}
 use Rattle.rules.specs.Walks.{if_then_else_, sumTo, listFrom, joinFrom}
 use Rattle.rules.specs.Fields.{byte, field, bytesOf, AllBytes}
-use Rattle.rules.specs.Limits.{mostJobs, mostCap}
-use Rattle.rules.specs.Calendar.{Calendar, calendarOf, calendarFault}
+use Rattle.rules.specs.Limits.{mostJobs, mostCap, mostWindows, mostReopening}
+use Rattle.rules.specs.Calendar.{Calendar, calendarOf, calendarFault, CalendarInRange, windowOf, calendarBytes, calendarHead, windowLength, windowAt, beginsEarly, windowFault, noWindow}
 use Rattle.rules.specs.Book.{Job, Flow, Book, withCalendar, flowCount, jobCount, noFlow, noJob, flowIn, jobOf, JobInRange, FlowInRange, InRange}
 use Rattle.rules.specs.Reading.{bookHead, versionOf, releaseSize, flowHead, jobRecord, releaseAt, jobsAt, flowStart, jobStart, jobAt, flowAt, bookOf, bookFault, readBook, jobBytes, flowBytes, flowsBytes, bookBytes}
 use Rattle.rules.specs.Reading.Reading.{read}
 use Rattle.rules.proofs.Laws.Sums.{sum-ext, sum-const, sum-le, sum-up}
-use Rattle.rules.proofs.Laws.Walks.{list-of, join-length-zero}
+use Rattle.rules.proofs.Laws.Walks.{list-of, join-length-zero, any-false}
 use Rattle.rules.proofs.Laws.Fields.{bytes-length, StandsAt, stands-whole, stands-first, stands-after, stands-join, field-written, byte-written, bytes-of, bytes-append, bytes-join}
 use Rattle.rules.proofs.Reading.Passing.{Known, FlowPasses, flow-no-fault, book-no-fault, pass-reads}
 
@@ -341,3 +342,99 @@ read-written v b calendar r can passes same =
     pass-reads (bookBytes v b) calendar (written-passes v b r can) passes
     ∙ ap (λ (k : Book). read (withCalendar (calendarOf calendar) k)) (written-values v b r can)
     ∙ ap (λ (c : Calendar). read (withCalendar c b)) same
+
+-- ---- a calendar
+module _ (c : Calendar) (r : CalendarInRange c) where
+  abbrev windowBytes : ℕ → List ℕ
+  windowBytes k = bytesOf 2 (windowOf c k .shut) ++ bytesOf 2 (windowOf c k .reopening)
+
+  abbrev encoded : List ℕ
+  encoded = calendarBytes c
+
+  windows-length : (n : ℕ) → sumTo (λ k. length (windowBytes k)) n ≡ windowLength * n
+  windows-length n =
+      sum-ext (λ k. length (windowBytes k)) (λ k. windowLength) n (λ k l. simp (length-append, bytes-length)) ∙ sum-const windowLength n
+
+  calendar-length : length encoded ≡ calendarHead + windowLength * length c
+  unfolding calendarBytes
+  calendar-length = simp (length-append, bytes-length) (omega (arith, join-length-zero windowBytes (length c), windows-length (length c)))
+
+  abbrev calendarSize : List ℕ
+  calendarSize = bytesOf 4 (calendarHead + windowLength * length c)
+
+  abbrev windowCount : List ℕ
+  windowCount = bytesOf 1 (length c)
+
+  calendar-front : StandsAt encoded 0 (calendarSize ++ bytesOf 1 1 ++ windowCount)
+  unfolding calendarBytes
+  calendar-front = stands-first encoded 0 (calendarSize ++ bytesOf 1 1 ++ windowCount) (joinFrom windowBytes (length c) 0) (stands-whole encoded)
+
+  size-read : field 4 encoded 0 ≡ length encoded
+  size-read =
+      field-written 4 (calendarHead + windowLength * length c) encoded 0 (omega (arith, r .windows-most))
+      (stands-first encoded 0 calendarSize (bytesOf 1 1) (stands-first encoded 0 (calendarSize ++ bytesOf 1 1) windowCount calendar-front))
+      ∙ sym calendar-length
+
+  version-one : byte encoded 4 ≡ 1
+  version-one =
+      byte-written 1 encoded 4 (omega arith)
+      (stands-after encoded 0 4 calendarSize (bytesOf 1 1) (bytes-length 4 _) (stands-first encoded 0 (calendarSize ++ bytesOf 1 1) windowCount calendar-front))
+
+  count-read : byte encoded 5 ≡ length c
+  count-read =
+      byte-written (length c) encoded 5 (omega (arith, r .windows-most))
+      (stands-after encoded 0 5 (calendarSize ++ bytesOf 1 1) windowCount (simp (length-append, bytes-length)) calendar-front)
+
+  -- window k stands where the reading looks for it
+  window-stands : (k : ℕ) → k < length c → StandsAt encoded (calendarHead + windowLength * k) (windowBytes k)
+  unfolding calendarBytes
+  window-stands k l =
+      rw (windows-length k) at
+      (stands-join encoded calendarHead windowBytes (length c)
+      (stands-after encoded 0 calendarHead (calendarSize ++ bytesOf 1 1 ++ windowCount) (joinFrom windowBytes (length c) 0) (simp (length-append, bytes-length)) (stands-whole encoded)) k l)
+
+  window-read : (k : ℕ) → k < length c → windowAt encoded k ≡ windowOf c k
+  unfolding windowAt
+  window-read k l = λ x. record { shut = shut-read x; reopening = reopening-read x }
+    where
+      at : ℕ
+      at = calendarHead + windowLength * k
+
+      shut-read : field 2 encoded at ≡ windowOf c k .shut
+      shut-read =
+          field-written 2 (windowOf c k .shut) encoded at (omega (arith, r .not-empty k l, r .reopens k l))
+          (stands-first encoded at (bytesOf 2 (windowOf c k .shut)) (bytesOf 2 (windowOf c k .reopening)) (window-stands k l))
+
+      reopening-read : field 2 encoded (at + 2) ≡ windowOf c k .reopening
+      reopening-read =
+          field-written 2 (windowOf c k .reopening) encoded (at + 2) (omega (arith, r .reopens k l))
+          (stands-after encoded at 2 (bytesOf 2 (windowOf c k .shut)) (bytesOf 2 (windowOf c k .reopening)) (bytes-length 2 (windowOf c k .shut)) (window-stands k l))
+
+  -- the bytes hold the same windows, and no test turns them down
+  pub calendar-read : calendarOf encoded ≡ c
+  unfolding calendarOf windowOf
+  calendar-read = list-of (windowAt encoded) (byte encoded 5) c noWindow count-read window-read
+
+  windows-fine : (k : ℕ) → k < byte encoded 5 → windowFault encoded k ≡ false
+  unfolding windowFault
+  windows-fine k l =
+      let m : k < length c = rw count-read at l in
+      rw (window-read k m, lt-leb (windowOf c k .reopening) (windowOf c k .shut) (r .not-empty k m), later k m, le-ltb mostReopening (windowOf c k .reopening) (r .reopens k m)) refl
+    where
+      later : (k : ℕ) → k < length c → beginsEarly encoded k ≡ false
+      later zero l = unfold beginsEarly in refl
+      later (suc k) l =
+          unfold beginsEarly in
+          rw (window-read k (omega arith), window-read (suc k) l) (lt-leb (windowOf c (suc k) .shut) (windowOf c k .reopening) (r .apart k l))
+
+  pub calendar-written-passes : calendarFault encoded ≡ Pass
+  unfolding calendarFault
+  calendar-written-passes =
+      rw (
+        le-ltb (length encoded) calendarHead (omega (arith, calendar-length)),
+        eq-eqb (field 4 encoded 0) (length encoded) size-read,
+        eq-eqb (byte encoded 4) 1 version-one,
+        le-ltb mostWindows (byte encoded 5) (omega (arith, count-read, r .windows-most)),
+        eq-eqb (length encoded) (calendarHead + windowLength * byte encoded 5) (omega (arith, calendar-length, count-read)),
+        any-false (windowFault encoded) (byte encoded 5) windows-fine,
+      ) refl

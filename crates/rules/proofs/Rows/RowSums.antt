@@ -3,11 +3,11 @@
 -- adds to the jobs of the book in that slot. Assumes nothing.
 use mathlib.Core.Path.{_≡_, refl, sym, ap, _∙_}
 use mathlib.Core.Logic.{_⊎_, inl, inr}
-use mathlib.Core.Bool.{Bool, true, false, _&&_, not-eq-not, and-eq-true-iff, and-true, and-false}
 use Prim.Native.Nat.{ℕ, zero, suc, _+_, _≤_, _<_}
+use mathlib.Core.Bool.{Bool, true, false, _&&_, not-eq-not, and-eq-true-iff, and-true, and-false}
+use mathlib.Core.List.{List, [], _∷_, _++_, List·Memᴰ·tail, List·Memᴰ·cases-cons, List·Memᴰ·not-nil}
 use native.Mathlib.Nat.{not-suc-le-zero}
 use native.Mathlib.Omega.{arith}
-use mathlib.Core.List.{List, [], _∷_, _++_, List·Memᴰ·tail, List·Memᴰ·cases-cons, List·Memᴰ·not-nil}
 use lib.ListN.{length, take, getD}
 use lib.Seq.{take-suc}
 use lib.Dec.{ltb, eqb}
@@ -17,7 +17,7 @@ use Rattle.rules.specs.Book.{Book, flowCount, jobCount, flowOf}
 use Rattle.rules.specs.Rows.{Row, sumWhere, usedIn, isOf, totalOf, doneBefore, finishOf}
 use Rattle.rules.specs.Schedule.{inUse, EndsBy, scheduleOf}
 use Rattle.rules.proofs.Laws.Division.{lt-or-ge}
-use Rattle.rules.proofs.Laws.Sums.{sum-ext, sum-add, sum-zero, sum-one}
+use Rattle.rules.proofs.Laws.Sums.{sum-ext, sum-add, sum-zero, sum-one, sum-nothing}
 use Rattle.rules.proofs.Rows.Rising.{_∈_, first-in}
 
 -- ---- what one row adds
@@ -181,45 +181,63 @@ pub record InBook (b : Book) (r : Row) : Type 0 where
   pub flow-in : r .flow < flowCount b
   pub job-in : r .job < jobCount (flowOf b (r .flow))
 
--- one row, added over all jobs of the book
-sum-row : (b : Book) (r : Row) (t : ℕ) → InBook b r →
-    sumTo (λ f. sumTo (λ i. counted (isAt f i t) r) (jobCount (flowOf b f))) (flowCount b) ≡ counted (λ q. eqb (q .slot) t) r
-sum-row b r t h =
-    sum-one (λ f. sumTo (λ i. counted (isAt f i t) r) (jobs f)) (flowCount b) (r .flow) (h .flow-in)
-    (λ f l n. sum-ext (λ i. counted (isAt f i t) r) (λ i. 0) (jobs f) (λ i m. elsewhere f i (λ s. n (sym (s .of-flow)))) ∙ sum-zero (jobs f))
-    ∙ sum-one (λ i. counted (isAt (r .flow) i t) r) (jobs (r .flow)) (r .job) (h .job-in)
-    (λ i l n. elsewhere (r .flow) i (λ s. n (sym (s .of-job))))
+-- one row that passes a test, added over all jobs of the book
+sum-row : (b : Book) (p : Row → Bool) (r : Row) → InBook b r →
+    sumTo (λ f. sumTo (λ i. counted (λ q. isOf f i q && p q) r) (jobCount (flowOf b f))) (flowCount b) ≡ counted p r
+sum-row b p r h =
+    sum-one (λ f. sumTo (λ i. counted (λ q. isOf f i q && p q) r) (jobs f)) (flowCount b) (r .flow) (h .flow-in)
+    (λ f l n. sum-nothing (λ i. counted (λ q. isOf f i q && p q) r) (jobs f) (λ i m. rw (ne-eqb (r .flow) f (λ e. n (sym e))) refl))
+    ∙ sum-one (λ i. counted (λ q. isOf (r .flow) i q && p q) r) (jobs (r .flow)) (r .job) (h .job-in)
+    (λ i l n. rw (eq-eqb (r .flow) (r .flow) refl, ne-eqb (r .job) i (λ e. n (sym e))) refl)
     ∙ rw (eq-eqb (r .flow) (r .flow) refl, eq-eqb (r .job) (r .job) refl) refl
   where
     jobs : ℕ → ℕ
     jobs f = jobCount (flowOf b f)
 
-    elsewhere : (f i : ℕ) → (IsAt f i t r → ⊥) → counted (isAt f i t) r ≡ 0
-    elsewhere f i n = counted-false (isAt f i t) r (not-at f i t r n)
-
--- "the processors in use in that slot", added row by row or job by job
-pub used-in-use : (b : Book) (rows : List Row) (t : ℕ) → ((r : Row) → r ∈ rows → InBook b r) → usedIn rows t ≡ inUse b (scheduleOf rows) t
-unfolding usedIn inUse scheduleOf sumWhere
-used-in-use b [] t h =
-    sym (sum-ext (λ f. sumTo (λ i. 0) (jobCount (flowOf b f))) (λ f. 0) (flowCount b) (λ f l. sum-zero (jobCount (flowOf b f))) ∙ sum-zero (flowCount b))
-used-in-use b (r ∷ rs) t h =
+-- rows that pass a test, added row by row or job by job
+pub sum-jobs : (b : Book) (p : Row → Bool) (rows : List Row) → ((r : Row) → r ∈ rows → InBook b r) →
+    sumTo (λ f. sumTo (λ i. sumWhere (λ r. isOf f i r && p r) rows) (jobCount (flowOf b f))) (flowCount b) ≡ sumWhere p rows
+unfolding sumWhere
+sum-jobs b p [] h = sum-nothing (λ f. sumTo (λ i. 0) (jobCount (flowOf b f))) (flowCount b) (λ f l. sum-zero (jobCount (flowOf b f)))
+sum-jobs b p (r ∷ rs) h =
     omega (
       arith,
       sum-ext (λ f. sumTo (λ i. one f i + others f i) (jobs f)) (λ f. sumTo (one f) (jobs f) + sumTo (others f) (jobs f)) (flowCount b)
           (λ f l. sum-add (one f) (others f) (jobs f)),
       sum-add (λ f. sumTo (one f) (jobs f)) (λ f. sumTo (others f) (jobs f)) (flowCount b),
-      sum-row b r t (h r (first-in r rs)),
-      used-in-use b rs t (λ x m. h x (List·Memᴰ·tail m)),
+      sum-row b p r (h r (first-in r rs)),
+      sum-jobs b p rs (λ x m. h x (List·Memᴰ·tail m)),
     )
   where
     jobs : ℕ → ℕ
     jobs f = jobCount (flowOf b f)
 
     one : ℕ → ℕ → ℕ
-    one f i = counted (isAt f i t) r
+    one f i = counted (λ q. isOf f i q && p q) r
 
     others : ℕ → ℕ → ℕ
-    others f i = sumWhere (isAt f i t) rs
+    others f i = sumWhere (λ q. isOf f i q && p q) rs
+
+-- "the processors in use in that slot", added row by row or job by job
+pub used-in-use : (b : Book) (rows : List Row) (t : ℕ) → ((r : Row) → r ∈ rows → InBook b r) → usedIn rows t ≡ inUse b (scheduleOf rows) t
+unfolding usedIn inUse scheduleOf
+used-in-use b rows t h = sym (sum-jobs b (λ r. eqb (r .slot) t) rows h)
+
+-- and the totals of all jobs are all the processors of the rows
+pub sum-totals : (b : Book) (rows : List Row) → ((r : Row) → r ∈ rows → InBook b r) →
+    sumTo (λ f. sumTo (λ i. totalOf rows f i) (jobCount (flowOf b f))) (flowCount b) ≡ sumWhere (λ r. true) rows
+unfolding totalOf
+sum-totals b rows h =
+    sum-ext (λ f. sumTo (λ i. sumWhere (λ r. isOf f i r) rows) (jobCount (flowOf b f))) (λ f. sumTo (λ i. sumWhere (λ r. isOf f i r && true) rows) (jobCount (flowOf b f))) (flowCount b)
+    (λ f l. sum-ext (λ i. sumWhere (λ r. isOf f i r) rows) (λ i. sumWhere (λ r. isOf f i r && true) rows) (jobCount (flowOf b f))
+    (λ i m. sum-where-ext (λ r. isOf f i r) (λ r. isOf f i r && true) rows (λ r k. sym (and-true (isOf f i r)))))
+    ∙ sum-jobs b (λ r. true) rows h
+
+-- each row that has a processor has at least one
+pub rows-most : (rows : List Row) → ((r : Row) → r ∈ rows → 0 < r .processors) → length rows ≤ sumWhere (λ r. true) rows
+unfolding sumWhere
+rows-most [] h = omega arith
+rows-most (r ∷ rs) h = omega (arith, h r (first-in r rs), rows-most rs (λ x m. h x (List·Memᴰ·tail m)))
 
 -- ---- finishes
 -- every row of the flow stands before its finish

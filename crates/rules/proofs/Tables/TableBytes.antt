@@ -2,10 +2,10 @@
 -- A table is its head, its finishes and its rows, one after the other; each stands where the check reads it. What is read of bytes that pass
 -- the test of the head gives the same bytes when it is written again. Assumes nothing.
 use mathlib.Core.Path.{_≡_, refl, sym, subst, _∙_}
-use mathlib.Core.Bool.{false, not}
 use Prim.Native.Nat.{ℕ, zero, suc, _+_, _*_, _-_, _/_, _%_, _^_, _≤_, _<_}
-use native.Mathlib.Omega.{arith}
+use mathlib.Core.Bool.{false, not}
 use mathlib.Core.List.{List, [], _∷_, _++_, append-nil, List·Memᴰ·tail}
+use native.Mathlib.Omega.{arith}
 use lib.ListN.{length, length-append}
 use lib.Dec.{eqb}
 use borrow.Author.Tests.{ltb-false, eqb-true, le-ltb, eq-eqb, not-false}
@@ -253,7 +253,7 @@ head-passes b s pass =
     equal : (x y : ℕ) → not (eqb x y) ≡ false → x ≡ y
     equal x y e = eqb-true x y (not-false (eqb x y) e)
 
-tables-length : (b : Book) (s : List ℕ) → HeadPasses b s → tableLength b (tableRows b s) ≡ length s
+pub tables-length : (b : Book) (s : List ℕ) → HeadPasses b s → tableLength b (tableRows b s) ≡ length s
 unfolding tableLength tableRows
 tables-length b s h =
     omega (arith, h .head-whole, h .rows-whole, list-length (λ k. rowAt s (tableHead b + rowLength * k)) ((length s - tableHead b) / rowLength) 0)

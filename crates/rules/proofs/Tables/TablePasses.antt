@@ -2,10 +2,10 @@
 -- Each test of a chain of refusals is taken apart by `test-passed`, each walk by `fault-pass`; where the facts hold, every test passes.
 -- Assumes nothing.
 use mathlib.Core.Path.{_≡_, refl, sym, _∙_}
-use mathlib.Core.Bool.{Bool, true, false, _&&_, _||_, true≢false}
 use Prim.Native.Nat.{ℕ, _+_, _≤_, _<_}
-use native.Mathlib.Omega.{arith}
+use mathlib.Core.Bool.{Bool, true, false, _&&_, _||_, true≢false}
 use mathlib.Core.List.{List, []}
+use native.Mathlib.Omega.{arith}
 use lib.ListN.{length, take, getD}
 use lib.Dec.{leb, eqb}
 use borrow.Author.Tests.{ltb-false, leb-false, eqb-false, eqb-true, le-ltb, lt-leb, eq-eqb, ne-eqb, not-false}
@@ -174,16 +174,16 @@ module _ (b : Book) (s : List ℕ) where
   abbrev opened : ℕ → Bool
   opened = isOpen (b .calendar)
 
-  abbrev rowsFault : Verdict
+  abbrev pub rowsFault : Verdict
   rowsFault = firstFault (rowFault b opened rows) (length rows)
 
-  abbrev jobFaults : ℕ → Verdict
+  abbrev pub jobFaults : ℕ → Verdict
   jobFaults f = firstFault (totalFault b rows f) (jobCount (flowOf b f))
 
-  abbrev totalsFault : Verdict
+  abbrev pub totalsFault : Verdict
   totalsFault = firstFault jobFaults (flowCount b)
 
-  abbrev finishesFault : Verdict
+  abbrev pub finishesFault : Verdict
   finishesFault = firstFault (finishFault s rows) (flowCount b)
 
   -- a table that is not turned down

@@ -2,10 +2,24 @@
 use mathlib.Core.Path.{_≡_}
 use Prim.Native.Nat.{ℕ, _≤_, _<_}
 use mathlib.Core.List.{List}
-use Rattle.rules.specs.Book.{Book, flowCount, flowIn, flowOf, lowered, jobOf}
-use Rattle.rules.specs.Reading.{versionOf, read, readBook, bookBytes}
+use Rattle.rules.specs.declared.Verdict.the-variants.{Refused}
+use Rattle.rules.specs.Fields.{AllBytes}
+use Rattle.rules.specs.Calendar.{calendarBytes}
+use Rattle.rules.specs.Book.{Book, flowCount, flowIn, flowOf, lowered, jobOf, InRange}
+use Rattle.rules.specs.Reading.{versionOf, read, readBook, bookBytes, bookOf, bookFault}
 use Rattle.rules.specs.Planner.{planCall}
 use Rattle.rules.specs.Check.{checkCall}
+
+-- ---- "A book passes its checks when no test that comes before 11 turns it down."
+
+pub record BooksRead : Type 0 where
+  -- what is read is in range, the calendar too
+  pub in-range : (book calendar : List ℕ) (b : Book) → readBook book calendar ≡ read b → InRange b
+  -- and every book in range, encoded beside its calendar, is read as itself: in version 2, and in version 1 where every release is 0
+  pub version-2 : (b : Book) → InRange b → readBook (bookBytes 2 b) (calendarBytes (b .calendar)) ≡ read b
+  pub version-1 : (b : Book) → InRange b → ((f : ℕ) → f < flowCount b → flowIn b f .release ≡ 0) → readBook (bookBytes 1 b) (calendarBytes (b .calendar)) ≡ read b
+  -- "Only a cap of 0 is still 9" (02, Req 02)
+  pub cap-zero : (book : List ℕ) (f i : ℕ) → AllBytes book → bookFault book ≡ Refused 9 f i → jobOf (flowIn (bookOf book) f) i .cap ≡ 0
 
 -- ---- "a version 1 book means release 0" (02, Req 01)
 

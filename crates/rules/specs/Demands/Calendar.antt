@@ -1,6 +1,6 @@
 -- What is owed of calendars (02, Req 07), with and without windows. Assumes nothing.
 use mathlib.Core.Path.{_≡_}
-use Prim.Native.Nat.{ℕ, _*_, _≤_}
+use Prim.Native.Nat.{ℕ, _*_, _≤_, _<_}
 use mathlib.Core.Bool.{Bool, true, false}
 use mathlib.Core.List.{List, []}
 use lib.Dec.{leb}
@@ -8,12 +8,14 @@ use Rattle.rules.specs.declared.Verdict.the-variants.{Pass, Refused}
 use Rattle.rules.specs.Answers.{none, planRefused, checkRefused, listRefused}
 use Rattle.rules.specs.Limits.{mostDeadline}
 use Rattle.rules.specs.Calendar.{Calendar, isOpen, openBefore, noWindows, calendarFault}
-use Rattle.rules.specs.Book.{Flow, Book, withCalendar, usable, twiceDeadline}
-use Rattle.rules.specs.Reading.{bookOf, bookFault, unread, readingOf, readBook}
+use Rattle.rules.specs.Book.{Flow, Book, withCalendar, usable, twiceDeadline, flowCount, flowOf}
+use Rattle.rules.specs.Reading.{bookOf, bookFault, unread, readingOf, readBook, read}
 use Rattle.rules.specs.Placing.{slotsFor}
 use Rattle.rules.specs.Planner.{planCall}
 use Rattle.rules.specs.Check.{checkCall}
 use Rattle.rules.specs.Dispatch.{dispatchCall}
+use Rattle.rules.specs.Finish.{finishCall}
+use Rattle.rules.specs.Former.{formerPlanCall, formerCheckCall, formerDispatchCall, formerFinishCall}
 use Rattle.rules.specs.Schedule.{Schedule, IsJob, Valid}
 
 -- ---- service windows of the cluster (02, Req 07)
@@ -38,8 +40,27 @@ pub record Calendars : Type 0 where
   pub valid-with : (c : Calendar) (b : Book) (among : ℕ → Bool) (σ : Schedule) → Valid (withCalendar [] b) among σ →
       ((f i t : ℕ) → IsJob (withCalendar c b) among f i → isOpen c t ≡ false → σ f i t ≡ 0) → Valid (withCalendar c b) among σ
 
--- "With no windows every former result is met again": what the rules of document 01 read of a calendar without windows
+-- ---- rule 6's limit by its rule: "a flow unfinished when that many open slots from slot 0 have passed is infeasible" (02, Req 07)
+
+-- n open slots stand before this slot, and before no earlier one
+pub record FirstAfter (c : Calendar) (n slot : ℕ) : Type 0 where
+  pub so-many : openBefore c slot ≡ n
+  pub none-earlier : (t : ℕ) → t < slot → openBefore c t < n
+
+unfoldable pub LimitByRule : Type 0
+LimitByRule =
+    (book calendar : List ℕ) (b : Book) → readBook book calendar ≡ read b → (f : ℕ) → f < flowCount b →
+    FirstAfter (b .calendar) (twiceDeadline b (flowOf b f)) (slotsFor b (flowOf b f))
+
+-- ---- no windows
+
+-- "With no windows every former result is met again"
 pub record NoWindows : Type 0 where
+  -- of every call and every input: the outcome is the one by the rules without a calendar
+  pub plan-met : (book out area : List ℕ) → planCall book noWindows out area ≡ formerPlanCall book out area
+  pub check-met : (book table area : List ℕ) → checkCall book noWindows table area ≡ formerCheckCall book table area
+  pub dispatch-met : (book table out area : List ℕ) → dispatchCall book noWindows table out area ≡ formerDispatchCall book table out area
+  pub finish-met : (book area : List ℕ) (f : ℕ) → finishCall book noWindows f area ≡ formerFinishCall book f area
   -- it is never turned down, and the book is read as by itself
   pub reads : (book : List ℕ) → readBook book noWindows ≡ readingOf (bookFault book) (bookOf book)
   pub every-slot-open : (t : ℕ) → isOpen [] t ≡ true

@@ -1,17 +1,21 @@
 -- Demand 2 of the table check: what it accepts, and that it accepts the plans. Assumes nothing.
 use mathlib.Core.Path.{_≡_}
-use Prim.Native.Nat.{ℕ, _≤_}
+use Prim.Native.Nat.{ℕ, _≤_, _+_, _*_, _<_}
+use mathlib.Core.Bool.{false}
 use mathlib.Core.List.{List}
-use lib.ListN.{length, take}
+use lib.ListN.{length, take, getD}
+use Rattle.rules.specs.declared.Verdict.the-variants.{Pass}
 use Rattle.rules.specs.Fields.{AllBytes}
-use Rattle.rules.specs.Answers.{checkAccepted}
-use Rattle.rules.specs.Limits.{workBytes}
-use Rattle.rules.specs.Book.{Book}
+use Rattle.rules.specs.Answers.{checkAccepted, checkRefused}
+use Rattle.rules.specs.Limits.{workBytes, slots}
+use Rattle.rules.specs.Calendar.{isOpen}
+use Rattle.rules.specs.Book.{Book, flowCount, flowOf, jobCount}
 use Rattle.rules.specs.Reading.{read, readBook}
-use Rattle.rules.specs.Rows.{lateFlows}
+use Rattle.rules.specs.Rows.{lateFlows, Row, workUsed}
 use Rattle.rules.specs.Planner.{planCall}
-use Rattle.rules.specs.Check.{checkCall}
+use Rattle.rules.specs.Check.{checkCall, tableRows, noRow, rowFault, tableHeadFault}
 use Rattle.rules.specs.Schedule.{Schedule, everyFlow, Valid, InSlots, scheduleRows, scheduleTable}
+use Rattle.rules.specs.Demands.Planner.{sizesOf}
 
 -- ---- demand 2, second half: "The table check accepts exactly the tables that are valid schedules of the book, written in the stated order
 -- under the right head and finishes."
@@ -27,6 +31,9 @@ pub record IsScheduleTable (b : Book) (table : List ℕ) (late : ℕ) : Type 0 w
 pub record AcceptsExactly : Type 0 where
   pub only-schedules : (book calendar table area : List ℕ) (b : Book) → readBook book calendar ≡ read b → AllBytes table →
       checkCall book calendar table area .answer .number ≡ 0 → IsScheduleTable b table (checkCall book calendar table area .answer .late)
+  -- "After acceptance each pair holds the processors in use in that slot.", and bytes past the caller's size are untouched
+  pub area-used : (book calendar table area : List ℕ) (b : Book) → readBook book calendar ≡ read b → checkCall book calendar table area .answer .number ≡ 0 →
+      checkCall book calendar table area .area ≡ workUsed slots (tableRows b table) area
   pub every-schedule : (book calendar table area : List ℕ) (b : Book) (late : ℕ) → readBook book calendar ≡ read b → workBytes ≤ length area →
       IsScheduleTable b table late → checkCall book calendar table area .answer ≡ checkAccepted late
 
@@ -36,3 +43,37 @@ AcceptsPlans =
     (book calendar out area other : List ℕ) → planCall book calendar out area .answer .number ≡ 0 → workBytes ≤ length other →
     checkCall book calendar (take (planCall book calendar out area .answer .length) (planCall book calendar out area .output)) other .answer
     ≡ checkAccepted (planCall book calendar out area .answer .late)
+
+-- ---- "25 when a row uses a shut slot, between 15 and 16, with the row's place" (02, Req 07)
+
+-- row k of a table that is checked against a book
+abbrev pub rowIn : Book → List ℕ → ℕ → Row
+rowIn b table k = getD (tableRows b table) k noRow
+
+-- the row passes 15
+pub record PassesFifteen (b : Book) (r : Row) : Type 0 where
+  pub slot-in : r .slot < slots
+  pub flow-in : r .flow < flowCount b
+  pub job-in : r .job < jobCount (flowOf b (r .flow))
+  pub some : 0 < r .processors
+
+-- the first row with a fault is row k: it uses a shut slot and passes 15
+pub record ShutRow (b : Book) (table : List ℕ) (k : ℕ) : Type 0 where
+  pub in-table : k < length (tableRows b table)
+  pub before-pass : (j : ℕ) → j < k → rowFault b (isOpen (b .calendar)) (tableRows b table) j ≡ Pass
+  pub passes-15 : PassesFifteen b (rowIn b table k)
+  pub shut : isOpen (b .calendar) (rowIn b table k .slot) ≡ false
+
+-- 25 is said exactly then, of a table under a right head
+pub record RowsShut : Type 0 where
+  pub only-shut : (book calendar table area : List ℕ) (b : Book) → readBook book calendar ≡ read b → checkCall book calendar table area .answer .number ≡ 25 →
+      (k : ℕ) × ShutRow b table k × (checkCall book calendar table area .answer ≡ checkRefused 25 (rowIn b table k .flow) (rowIn b table k .job))
+  pub every-shut : (book calendar table area : List ℕ) (b : Book) (k : ℕ) → readBook book calendar ≡ read b → workBytes ≤ length area →
+      tableHeadFault b table ≡ Pass → ShutRow b table k →
+      checkCall book calendar table area .answer ≡ checkRefused 25 (rowIn b table k .flow) (rowIn b table k .job)
+
+-- ---- a table that is accepted has a row for each processor-slot at most
+unfoldable pub AcceptedLength : Type 0
+AcceptedLength =
+    (book calendar table area : List ℕ) (b : Book) → readBook book calendar ≡ read b → checkCall book calendar table area .answer .number ≡ 0 →
+    length table ≤ 8 + 2 * flowCount b + 6 * sizesOf b

@@ -74,6 +74,9 @@ pub record Dispatches : Type 0 where
   -- "the table's rows, ordered by slot, flow, job"
   pub lists-table : (book calendar table out area : List ℕ) (b : Book) → readBook book calendar ≡ read b → AllBytes table →
       dispatchCall book calendar table out area .answer .number ≡ 0 → ListsRows b (tableRows b table) out (dispatchCall book calendar table out area)
+  -- "the work area ends as the check leaves it", whole, bytes past the caller's size too
+  pub area-as-check : (book calendar table out area : List ℕ) → dispatchCall book calendar table out area .answer .number ≡ 0 →
+      dispatchCall book calendar table out area .area ≡ checkCall book calendar table area .area
   -- "Nothing is lost by it: two different accepted tables of one book never give equal lists."
   pub nothing-lost : (book calendar table other out out′ area area′ : List ℕ) → AllBytes table → AllBytes other →
       dispatchCall book calendar table out area .answer .number ≡ 0 → dispatchCall book calendar other out′ area′ .answer .number ≡ 0 →

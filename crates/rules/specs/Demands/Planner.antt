@@ -2,17 +2,19 @@
 -- refusal proves that none is on time. Assumes nothing.
 use mathlib.Core.Path.{_≡_}
 use mathlib.Core.Logic.{_⊎_}
-use Prim.Native.Nat.{ℕ, _≤_, _<_}
+use Prim.Native.Nat.{ℕ, _≤_, _<_, _+_, _*_}
 use mathlib.Core.Bool.{Bool, true, _||_}
 use mathlib.Core.List.{List, _++_}
 use lib.ListN.{length, drop}
 use lib.Dec.{eqb}
-use Rattle.rules.specs.Limits.{workBytes}
+use Rattle.rules.specs.Walks.{sumTo}
+use Rattle.rules.specs.Limits.{workBytes, slots}
 use Rattle.rules.specs.Calendar.{openBefore}
-use Rattle.rules.specs.Book.{Book, flowCount, flowOf, twiceDeadline}
+use Rattle.rules.specs.Book.{Book, flowCount, flowOf, twiceDeadline, jobCount, jobOf}
 use Rattle.rules.specs.Reading.{versionOf, read, readBook, bookBytes}
+use Rattle.rules.specs.PseudoJobs.{chain}
 use Rattle.rules.specs.Service.{servedBefore}
-use Rattle.rules.specs.Rows.{Row, finishOf, lateFlows}
+use Rattle.rules.specs.Rows.{Row, finishOf, lateFlows, workUsed}
 use Rattle.rules.specs.Placing.{planned, rowsOf, plan}
 use Rattle.rules.specs.Table.{tableLength, tableBytes}
 use Rattle.rules.specs.Planner.{PlanOutcome, planCall}
@@ -23,16 +25,18 @@ use Rattle.rules.specs.Cut.{cut}
 -- of pseudo-jobs gives, row for row."
 
 -- the outcome with the rows that the rules give; the finishes stand in the table
-pub record WritesPlan (b : Book) (out : List ℕ) (o : PlanOutcome) : Type 0 where
+pub record WritesPlan (b : Book) (out area : List ℕ) (o : PlanOutcome) : Type 0 where
   pub all-placed : plan b ≡ planned (rowsOf (plan b))
   pub table : o .output ≡ tableBytes b (rowsOf (plan b)) ++ drop (tableLength b (rowsOf (plan b))) out
   pub late-flows : o .answer .late ≡ lateFlows b (rowsOf (plan b))
   pub table-length : o .answer .length ≡ tableLength b (rowsOf (plan b))
+  -- "After acceptance each pair holds the processors in use in that slot.", and bytes past the caller's size are untouched
+  pub work-area : o .area ≡ workUsed slots (rowsOf (plan b)) area
 
 unfoldable pub PlansByTheRules : Type 0
 PlansByTheRules =
     (book calendar out area : List ℕ) (b : Book) → readBook book calendar ≡ read b → planCall book calendar out area .answer .number ≡ 0 →
-    WritesPlan b out (planCall book calendar out area)
+    WritesPlan b out area (planCall book calendar out area)
 
 -- ---- demand 3: "Whatever book passes its checks, at whatever point in the deadline order it is cut, and whatever output and work area the
 -- planner is lent, this holds."
@@ -84,3 +88,22 @@ unfoldable pub Demand3 : Type 0
 Demand3 =
     (book calendar : List ℕ) (b : Book) → readBook book calendar ≡ read b → (k : ℕ) → k ≤ flowCount b → (out area : List ℕ) → workBytes ≤ length area →
     PlannerOwes (cut b k) out (planCall (bookBytes (versionOf book) (cut b k)) calendar out area)
+
+-- the same of the caller's own bytes, whichever version they have: they are the book cut after all its flows
+pub record OfWholeBook : Type 0 where
+  pub cut-after-all : (b : Book) → cut b (flowCount b) ≡ b
+  pub owes : (book calendar : List ℕ) (b : Book) → readBook book calendar ≡ read b → (out area : List ℕ) → workBytes ≤ length area →
+      PlannerOwes b out (planCall book calendar out area)
+
+-- ---- how much a plan can take
+-- the sizes of all jobs of a book, added
+unfoldable pub sizesOf : Book → ℕ
+sizesOf b = sumTo (λ f. sumTo (λ i. jobOf (flowOf b f) i .size) (jobCount (flowOf b f))) (flowCount b)
+
+pub record PlanBounds : Type 0 where
+  -- a flow of n jobs has at most 2 × n pseudo-jobs
+  pub pseudo-jobs : (book calendar : List ℕ) (b : Book) → readBook book calendar ≡ read b → (f : ℕ) → f < flowCount b →
+      length (chain (flowOf b f)) ≤ 2 * jobCount (flowOf b f)
+  -- a row for each processor-slot at most
+  pub table-most : (book calendar out area : List ℕ) (b : Book) → readBook book calendar ≡ read b → planCall book calendar out area .answer .number ≡ 0 →
+      planCall book calendar out area .answer .length ≤ 8 + 2 * flowCount b + 6 * sizesOf b

@@ -4,7 +4,7 @@ use Prim.Native.Nat.{ℕ, _≤_, _<_}
 use mathlib.Core.Bool.{true}
 use mathlib.Core.List.{List}
 use lib.ListN.{length, take}
-use Rattle.rules.specs.Walks.{sumTo}
+use Rattle.rules.specs.Walks.{sumTo, if_then_else_}
 use Rattle.rules.specs.Limits.{workBytes}
 use Rattle.rules.specs.Calendar.{openBefore}
 use Rattle.rules.specs.Book.{Flow, Book, flowCount, jobCount, flowOf, jobOf, twiceDeadline}
@@ -17,7 +17,7 @@ use Rattle.rules.specs.Planner.{PlanOutcome, planCall}
 use Rattle.rules.specs.Check.{tableRows}
 use Rattle.rules.specs.Finish.{finishCall}
 use Rattle.rules.specs.Schedule.{Schedule, Valid, EndsBy}
-use Rattle.rules.specs.Quote.{workOf, quote, appended}
+use Rattle.rules.specs.Quote.{workOf, quote, appended, workUpTo}
 use Rattle.rules.specs.Demands.Planner.{upTo}
 
 -- ---- a closer finish to quote (02, Req 08): "Twice the deadline is a poor figure for the pulpit."
@@ -40,6 +40,8 @@ pub record Quotes : Type 0 where
   -- the work of a flow is the sizes of its jobs, added
   pub work-is-sizes : (book calendar : List ℕ) (b : Book) → readBook book calendar ≡ read b → (f : ℕ) → f < flowCount b →
       workOf (flowOf b f) ≡ sumTo (λ i. jobOf (flowOf b f) i .size) (jobCount (flowOf b f))
+  -- "the work of all flows up to and including it in service order"
+  pub work-up-to : (b : Book) (f : ℕ) → f < flowCount b → workUpTo b f ≡ sumTo (λ g. if upTo b f g then workOf (flowOf b g) else 0) (flowCount b)
   -- where some schedule of the flow and those before it is on time, the quote is at least as close as twice the deadline
   pub within-twice : (book calendar : List ℕ) (b : Book) → readBook book calendar ≡ read b → (f : ℕ) → f < flowCount b → (σ : Schedule) → Valid b (upTo b f) σ →
       ((g : ℕ) → g < flowCount b → upTo b f g ≡ true → EndsBy σ g (flowOf b g .deadline)) → quote b f ≤ twiceDeadline b (flowOf b f)

@@ -4,11 +4,17 @@ use mathlib.Core.Logic.{_⊎_}
 use Prim.Native.Nat.{ℕ, _≤_, _<_}
 use mathlib.Core.Bool.{Bool, true, false, _||_}
 use mathlib.Core.List.{List}
+use lib.ListN.{length}
 use lib.Dec.{leb, eqb}
-use Rattle.rules.specs.Limits.{slots}
+use Rattle.rules.specs.declared.Verdict.{Verdict}
+use Rattle.rules.specs.Answers.{_andThen_, numberOf, flowNamed, jobNamed}
+use Rattle.rules.specs.Limits.{slots, workBytes}
+use Rattle.rules.specs.Calendar.{calendarFault}
+use Rattle.rules.specs.Book.{Book}
+use Rattle.rules.specs.Reading.{bookFault, readBook, read}
 use Rattle.rules.specs.Rows.{workZero}
 use Rattle.rules.specs.Planner.{PlanOutcome, planCall}
-use Rattle.rules.specs.Check.{CheckOutcome, checkCall}
+use Rattle.rules.specs.Check.{CheckOutcome, checkCall, tableFault}
 
 -- ---- demand 1: "turn down a faulty one by a number from the list. A refusal gives the number and the place, leaves the output untouched
 -- and the work area as the list says." (That the calls take every sequence of bytes and end is what their contracts without a `requires`
@@ -35,7 +41,25 @@ pub record CheckRefusal (area : List ℕ) (o : CheckOutcome) : Type 0 where
   pub late-zero : o .answer .late ≡ 0
   pub area-left : AreaAfterRefusal (o .answer .number) area (o .area)
 
+-- "The promises use that definition" of an enum's number and values: an answer with this number and place says this verdict
+pub record Says (v : Verdict) (number flow job : ℕ) : Type 0 where
+  pub number-is : number ≡ numberOf v
+  pub flow-is : flow ≡ flowNamed v
+  pub job-is : job ≡ jobNamed v
+
+-- the verdict on a book and the calendar that goes with it: the book's first fault, else "24 .. after the book's checks" (02, Req 07)
+abbrev pub bookVerdict : List ℕ → List ℕ → Verdict
+bookVerdict book calendar = bookFault book andThen calendarFault calendar
+
 pub record Demand1 : Type 0 where
+  -- a book or a calendar that does not pass is turned down by its first fault, whatever else is lent
+  pub planner-says : (book calendar out area : List ℕ) → 0 < numberOf (bookVerdict book calendar) →
+      Says (bookVerdict book calendar) (planCall book calendar out area .answer .number) (planCall book calendar out area .answer .flow) (planCall book calendar out area .answer .job)
+  pub check-says : (book calendar table area : List ℕ) → 0 < numberOf (bookVerdict book calendar) →
+      Says (bookVerdict book calendar) (checkCall book calendar table area .answer .number) (checkCall book calendar table area .answer .flow) (checkCall book calendar table area .answer .job)
+  -- then 11; then a table is turned down by its first fault, or accepted with number 0 and place 255, 255
+  pub table-says : (book calendar table area : List ℕ) (b : Book) → readBook book calendar ≡ read b → workBytes ≤ length area →
+      Says (tableFault b table) (checkCall book calendar table area .answer .number) (checkCall book calendar table area .answer .flow) (checkCall book calendar table area .answer .job)
   -- the planner's numbers are 0 to 13, 22 and 24, the check's 0 to 11, 14 to 22, 24 and 25
   pub planner-number : (book calendar out area : List ℕ) →
       (planCall book calendar out area .answer .number ≤ 13) ⊎
