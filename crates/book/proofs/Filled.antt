@@ -7,7 +7,7 @@ use native.Mathlib.Numerals.{add-one}
 use native.Mathlib.Omega.{arith}
 use lib.ListN.{length, getD, set, length-set}
 use lib.Seq.{getD-set-same, getD-set-other}
-use Rattle.rules.proofs.Walks.{last-or}
+use Rattle.rules.proofs.Laws.Walks.{last-or}
 
 -- a list as long as another, with P of each of its first n numbers
 pub record Filled (P : ℕ → ℕ → Type 0) (n : ℕ) (before l : List ℕ) : Type 0 where

@@ -7,7 +7,7 @@ use lib.ListN.{getD}
 use Rattle.rules.specs.Walks.{sumTo, bit}
 use Rattle.rules.specs.Book.{Flow, Book, flowCount, flowOf}
 use Rattle.rules.specs.Rows.{Row, finishOf, isLate, lateFlows}
-use Rattle.rules.proofs.Sums.{sum-ext}
+use Rattle.rules.proofs.Laws.Sums.{sum-ext}
 use Rattle.book.specs.Late.{lateBy, lateCount}
 
 pub late-by-deadline : (w : Flow) (finish : ℕ) → lateBy (w .deadline) finish ≡ isLate w finish

@@ -10,8 +10,8 @@ use Rattle.rules.specs.Fields.{byte}
 use Rattle.rules.specs.Limits.{mostJobs}
 use Rattle.rules.specs.Book.{Flow, jobCount, flowIn, lowerCap, lowerCaps, flowOf, jobOf}
 use Rattle.rules.specs.Reading.{bookHead, versionOf, flowHead, jobRecord, jobsAt, flowStart, jobStart, jobAt, flowAt, bookOf, bookFault}
-use Rattle.rules.proofs.Caps.{count-lowered, job-lowered}
-use Rattle.rules.proofs.Passing.{flow-count, flow-in-book, job-count, job-of-flow, deadline-of-flow, release-of-flow, FlowPasses, book-passes, flow-of-passing}
+use Rattle.rules.proofs.Reading.Caps.{count-lowered, job-lowered}
+use Rattle.rules.proofs.Reading.Passing.{flow-count, flow-in-book, job-count, job-of-flow, deadline-of-flow, release-of-flow, FlowPasses, book-passes, flow-of-passing}
 use Rattle.book.specs.declared.FlowHead.{FlowHead}
 use Rattle.book.specs.Records.{headAt}
 use Rattle.book.specs.Promise.{FlowStands, HeadOf}

@@ -11,9 +11,9 @@ use Rattle.rules.specs.Walks.{if_then_else_}
 use Rattle.rules.specs.Fields.{field, bytesOf}
 use Rattle.rules.specs.Rows.{Row, usedIn, workUsed}
 use Rattle.rules.specs.Calendar.{inWindow, isOpen}
-use Rattle.rules.proofs.Walks.{join-ext}
-use Rattle.rules.proofs.Fields.{bytes-length, field-between}
-use Rattle.rules.proofs.WorkArea.{pairs, pairs-length, pairs-around, sets-between}
+use Rattle.rules.proofs.Laws.Walks.{join-ext}
+use Rattle.rules.proofs.Laws.Fields.{bytes-length, field-between}
+use Rattle.rules.proofs.Rows.WorkArea.{pairs, pairs-length, pairs-around, sets-between}
 use Rattle.calendar.specs.declared.Calendar.{Calendar}
 use Rattle.calendar.specs.Held.{heldWindow}
 use Rattle.calendar.specs.Area.{workOf}
@@ -77,7 +77,7 @@ module _ (n value : ℕ) (before : List ℕ) where
 
 -- one window more
 pub shut-next : (n value : ℕ) (before l : List ℕ) (x : Calendar) (k : ℕ) {m : List ℕ} → ShutTo n value before x k l →
-    WindowTo n value l (heldWindow x k .shut) (heldWindow x k .again) m → ShutTo n value before x (k + 1) m
+    WindowTo n value l (heldWindow x k .shut) (heldWindow x k .reopening) m → ShutTo n value before x (k + 1) m
 shut-next n value before l x k so-far window used bytes e =
     window _ bytes (so-far used bytes e)
     ∙ work-ext n bytes _ _ (λ t b. rw (first-next x k t) (both (inWindow (heldWindow x k) t) (isOpen (firstWindows x k) t) (used t)))

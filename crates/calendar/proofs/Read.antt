@@ -7,8 +7,8 @@ use native.Mathlib.Omega.{arith}
 use Rattle.rules.specs.Walks.{listFrom}
 use Rattle.rules.specs.Fields.{byte, field}
 use Rattle.rules.specs.Calendar.{windowAt, calendarOf, CalendarInRange}
-use Rattle.rules.proofs.Passing.{calendar-pass-in-range}
-use Rattle.rules.proofs.Walks.{list-ext}
+use Rattle.rules.proofs.Reading.Passing.{calendar-pass-in-range}
+use Rattle.rules.proofs.Laws.Walks.{list-ext}
 use Rattle.book.proofs.Filled.{Filled}
 use Rattle.calendar.specs.declared.Calendar.{Calendar}
 use Rattle.calendar.specs.Held.{heldWindow, heldWindows, Held}
@@ -17,12 +17,12 @@ pub shut-read : (s : List ℕ) (k : ℕ) → field 2 s (6 + 4 * k) ≡ windowAt 
 unfolding windowAt
 shut-read s k = refl
 
-pub again-read : (s : List ℕ) (k : ℕ) → field 2 s (8 + 4 * k) ≡ windowAt s k .again
+pub reopening-read : (s : List ℕ) (k : ℕ) → field 2 s (8 + 4 * k) ≡ windowAt s k .reopening
 unfolding windowAt
-again-read s k = let e : 8 + 4 * k ≡ 6 + 4 * k + 2 = omega arith in ap (field 2 s) e
+reopening-read s k = let e : 8 + 4 * k ≡ 6 + 4 * k + 2 = omega arith in ap (field 2 s) e
 
-pub windows-filled : (s : List ℕ) (x : Calendar) {shut again : List ℕ} → x .count ≡ byte s 5 →
-    Filled (λ j v. v ≡ windowAt s j .shut) (x .count) shut (x .shut) → Filled (λ j v. v ≡ windowAt s j .again) (x .count) again (x .again) →
+pub windows-filled : (s : List ℕ) (x : Calendar) {shut reopening : List ℕ} → x .count ≡ byte s 5 →
+    Filled (λ j v. v ≡ windowAt s j .shut) (x .count) shut (x .shut) → Filled (λ j v. v ≡ windowAt s j .reopening) (x .count) reopening (x .reopening) →
     heldWindows x ≡ calendarOf s
 unfolding heldWindows calendarOf
 windows-filled s x e f g = list-ext (heldWindow x) (windowAt s) (x .count) 0 same ∙ ap (λ (n : ℕ). listFrom (windowAt s) n 0) e

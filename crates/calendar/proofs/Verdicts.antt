@@ -16,24 +16,24 @@ use Rattle.rules.specs.Limits.{mostWindows, mostReopening}
 use Rattle.rules.specs.Calendar.{calendarHead, windowLength, windowAt, beginsEarly, windowFault, calendarFault}
 
 -- ---- one window, whose values are read
-module _ (s : List ℕ) (k : ℕ) {shut again : ℕ} (e : shut ≡ field 2 s (calendarHead + windowLength * k))
-    (d : again ≡ field 2 s (calendarHead + windowLength * k + 2)) where
-  pub empty-window : again ≤ shut → true ≡ windowFault s k
+module _ (s : List ℕ) (k : ℕ) {shut reopening : ℕ} (e : shut ≡ field 2 s (calendarHead + windowLength * k))
+    (d : reopening ≡ field 2 s (calendarHead + windowLength * k + 2)) where
+  pub empty-window : reopening ≤ shut → true ≡ windowFault s k
   unfolding windowFault windowAt
-  empty-window h = rw (← e, ← d, le-leb again shut h)
+  empty-window h = rw (← e, ← d, le-leb reopening shut h)
 
-  pub late-window : mostReopening < again → true ≡ windowFault s k
+  pub late-window : mostReopening < reopening → true ≡ windowFault s k
   unfolding windowFault windowAt
-  late-window h = rw (← e, ← d, lt-ltb mostReopening again h) (last (leb again shut || beginsEarly s k))
+  late-window h = rw (← e, ← d, lt-ltb mostReopening reopening h) (last (leb reopening shut || beginsEarly s k))
     where
       last : (a : Bool) → true ≡ (a || true)
       last true = refl
       last false = refl
 
-  module _ (whole : shut < again) (soon : again ≤ mostReopening) where
+  module _ (whole : shut < reopening) (soon : reopening ≤ mostReopening) where
     beginning : beginsEarly s k ≡ windowFault s k
     unfolding windowFault windowAt
-    beginning = rw (← e, ← d, lt-leb again shut whole, le-ltb mostReopening again soon) (first (beginsEarly s k))
+    beginning = rw (← e, ← d, lt-leb reopening shut whole, le-ltb mostReopening reopening soon) (first (beginsEarly s k))
       where
         first : (a : Bool) → a ≡ (a || false)
         first true = refl

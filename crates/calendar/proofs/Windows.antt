@@ -13,8 +13,8 @@ use borrow.Author.Tests.{lt-ltb, le-ltb, le-leb, lt-leb}
 use Rattle.rules.specs.Walks.{listFrom}
 use Rattle.rules.specs.Limits.{mostWindows, mostReopening}
 use Rattle.rules.specs.Calendar.{Window, inWindow, isOpen, noWindow, windowOf, CalendarInRange}
-use Rattle.rules.proofs.Division.{lt-or-ge}
-use Rattle.rules.proofs.Walks.{list-length, list-at-zero}
+use Rattle.rules.proofs.Laws.Division.{lt-or-ge}
+use Rattle.rules.proofs.Laws.Walks.{list-length, list-at-zero}
 use Rattle.calendar.specs.declared.Calendar.{Calendar}
 use Rattle.calendar.specs.Held.{heldWindow, heldWindows}
 
@@ -62,19 +62,19 @@ module _ (x : Calendar) where
     count-most = rw held-count at (range .windows-most)
 
     module _ (k : ℕ) (l : k < x .count) where
-      pub shut-first : getD (x .shut) k 0 < getD (x .again) k 0
+      pub shut-first : getD (x .shut) k 0 < getD (x .reopening) k 0
       shut-first = rw (held-at k l) at (range .not-empty k (rw held-count l))
 
-      pub again-most : getD (x .again) k 0 ≤ mostReopening
-      again-most = rw (held-at k l) at (range .reopens k (rw held-count l))
+      pub reopening-most : getD (x .reopening) k 0 ≤ mostReopening
+      reopening-most = rw (held-at k l) at (range .reopens k (rw held-count l))
 
-    pub next-apart : (k : ℕ) → suc k < x .count → getD (x .again) k 0 < getD (x .shut) (suc k) 0
+    pub next-apart : (k : ℕ) → suc k < x .count → getD (x .reopening) k 0 < getD (x .shut) (suc k) 0
     next-apart k l = rw (held-at k (omega arith), held-at (suc k) l) at (range .apart k (rw held-count l))
 
 -- ---- one slot more of a window
 -- the slots of a window up to slot t
 abbrev pub upTo : ℕ → ℕ → ℕ → Bool
-upTo shut t u = inWindow (record { shut = shut; again = t }) u
+upTo shut t u = inWindow (record { shut = shut; reopening = t }) u
 
 module _ (shut t : ℕ) (l : shut ≤ t) where
   pub slot-in : upTo shut (t + 1) t ≡ true

@@ -10,7 +10,7 @@ use Rattle.calendar.specs.declared.Calendar.{Calendar}
 
 -- window k
 abbrev pub heldWindow : Calendar → ℕ → Window
-heldWindow x k = record { shut = getD (x .shut) k 0; again = getD (x .again) k 0 }
+heldWindow x k = record { shut = getD (x .shut) k 0; reopening = getD (x .reopening) k 0 }
 
 unfoldable pub heldWindows : Calendar → List Window
 heldWindows x = listFrom (heldWindow x) (x .count) 0

@@ -19,7 +19,7 @@ use rules::Verdict;
 pub struct Calendar {
     pub count: usize,
     pub shut: [u16; 32],
-    pub again: [u16; 32],
+    pub reopening: [u16; 32],
 }
 
 // Whether window k breaks its rules.
@@ -29,11 +29,11 @@ pub fn window_fault(calendar: &[u8], k: usize) -> bool
 {
     let at = 6 + 4 * k;
     let shut = bytes::read16(calendar, at);
-    let again = bytes::read16(calendar, at + 2);
-    if again <= shut {
+    let reopening = bytes::read16(calendar, at + 2);
+    if reopening <= shut {
         return true;
     }
-    if 4096 < again {
+    if 4096 < reopening {
         return true;
     }
     if k == 0 {
@@ -101,26 +101,26 @@ pub fn calendar_of(calendar: &[u8]) -> Calendar
 {
     let count = bytes::wide(calendar[5]);
     let mut shut = [0u16; 32];
-    let mut again = [0u16; 32];
+    let mut reopening = [0u16; 32];
     let mut k: usize = 0;
     while k < count {
         shut[k] = bytes::read16(calendar, 6 + 4 * k);
-        again[k] = bytes::read16(calendar, 8 + 4 * k);
+        reopening[k] = bytes::read16(calendar, 8 + 4 * k);
         k = k + 1;
     }
-    Calendar { count, shut, again }
+    Calendar { count, shut, reopening }
 }
 
 // How many slots of a window stand before a slot.
-pub fn shut_before(shut: u16, again: u16, slot: u16) -> usize
-    requires { ⌜ shut < again ⌝ }
-    ensures { λ r. ⌜ r ≡ min again slot - shut ⌝ }
+pub fn shut_before(shut: u16, reopening: u16, slot: u16) -> usize
+    requires { ⌜ shut < reopening ⌝ }
+    ensures { λ r. ⌜ r ≡ min reopening slot - shut ⌝ }
 {
     if slot <= shut {
         return 0;
     }
-    if again <= slot {
-        return (again - shut) as usize;
+    if reopening <= slot {
+        return (reopening - shut) as usize;
     }
     (slot - shut) as usize
 }
@@ -133,19 +133,19 @@ pub fn open_before(x: Calendar, slot: u16) -> usize
     let mut n = slot as usize;
     let mut k: usize = 0;
     while k < x.count {
-        n = n - shut_before(x.shut[k], x.again[k], slot);
+        n = n - shut_before(x.shut[k], x.reopening[k], slot);
         k = k + 1;
     }
     n
 }
 
 // The limit with one window more: a window that shuts before it moves it on by the window's slots.
-pub fn past_window(limit: usize, shut: u16, again: u16) -> usize
-    requires { ⌜ (limit ≤ slots) × (shut < again) ⌝ }
-    ensures { λ r. ⌜ r ≡ (if ltb shut limit then limit + (again - shut) else limit) ⌝ }
+pub fn past_window(limit: usize, shut: u16, reopening: u16) -> usize
+    requires { ⌜ (limit ≤ slots) × (shut < reopening) ⌝ }
+    ensures { λ r. ⌜ r ≡ (if ltb shut limit then limit + (reopening - shut) else limit) ⌝ }
 {
     if (shut as usize) < limit {
-        return limit + (again - shut) as usize;
+        return limit + (reopening - shut) as usize;
     }
     limit
 }
@@ -158,20 +158,20 @@ pub fn limit_of(x: Calendar, deadline: u16) -> usize
     let mut limit = 2 * open_before(x, deadline);
     let mut k: usize = 0;
     while k < x.count {
-        limit = past_window(limit, x.shut[k], x.again[k]);
+        limit = past_window(limit, x.shut[k], x.reopening[k]);
         k = k + 1;
     }
     limit
 }
 
 // A value written into the pair of each slot of a window.
-pub fn set_window(work: &mut [u8], shut: u16, again: u16, value: u16)
-    requires { ⌜ (shut ≤ again) × (again ≤ slots) × (workBytes ≤ length (now work)) ⌝ }
+pub fn set_window(work: &mut [u8], shut: u16, reopening: u16, value: u16)
+    requires { ⌜ (shut ≤ reopening) × (reopening ≤ slots) × (workBytes ≤ length (now work)) ⌝ }
     ensures { λ _. ⌜ ((used : ℕ → ℕ) (bytes : List ℕ) → now (work .entry) ≡ workOf slots used bytes →
-        now (work .exit) ≡ workOf slots (λ t. if inWindow (record { shut = shut; again = again }) t then value else used t) bytes) ⌝ }
+        now (work .exit) ≡ workOf slots (λ t. if inWindow (record { shut = shut; reopening = reopening }) t then value else used t) bytes) ⌝ }
 {
     let mut t = shut;
-    while t < again {
+    while t < reopening {
         bytes::write16(work, 2 * bytes::wide16(t), value);
         t = t + 1;
     }
@@ -185,18 +185,18 @@ pub fn set_shut(work: &mut [u8], x: Calendar, value: u16)
 {
     let mut k: usize = 0;
     while k < x.count {
-        set_window(work, x.shut[k], x.again[k], value);
+        set_window(work, x.shut[k], x.reopening[k], value);
         k = k + 1;
     }
 }
 
 // The flag of each slot of a window set.
-pub fn flag_window(flags: &mut [u8], shut: u16, again: u16)
-    requires { ⌜ (shut ≤ again) × (again ≤ length (now flags)) ⌝ }
-    ensures { λ _. ⌜ ((t : ℕ) → openBy (now (flags .exit)) t ≡ (openBy (now (flags .entry)) t && not (inWindow (record { shut = shut; again = again }) t))) ⌝ }
+pub fn flag_window(flags: &mut [u8], shut: u16, reopening: u16)
+    requires { ⌜ (shut ≤ reopening) × (reopening ≤ length (now flags)) ⌝ }
+    ensures { λ _. ⌜ ((t : ℕ) → openBy (now (flags .exit)) t ≡ (openBy (now (flags .entry)) t && not (inWindow (record { shut = shut; reopening = reopening }) t))) ⌝ }
 {
     let mut slot = shut;
-    while slot < again {
+    while slot < reopening {
         flags[slot as usize] = 1;
         slot = slot + 1;
     }
@@ -209,7 +209,7 @@ pub fn set_flags(flags: &mut [u8], x: Calendar)
 {
     let mut k: usize = 0;
     while k < x.count {
-        flag_window(flags, x.shut[k], x.again[k]);
+        flag_window(flags, x.shut[k], x.reopening[k]);
         k = k + 1;
     }
 }

@@ -15,11 +15,11 @@ use Rattle.rules.specs.Walks.{if_then_else_, bit, sumTo}
 use Rattle.rules.specs.Book.{Flow, jobCount, jobOf}
 use Rattle.rules.specs.Ideal.{lastTake, startOf, endOf, path, takeOf}
 use Rattle.rules.specs.PseudoJobs.{unchanged, runs, chain, rate}
-use Rattle.rules.proofs.Division.{lt-or-ge}
-use Rattle.rules.proofs.Walks.{last-or}
-use Rattle.rules.proofs.Sums.{sum-nothing}
-use Rattle.rules.proofs.Ideal.{Sized, duration-positive, end-is-start-plus-duration, take-before-start, take-from-end, take-positive}
-use Rattle.rules.proofs.PseudoJobs.{unchanged-where-all-are, changed-where-one-is, run-step, chain-length}
+use Rattle.rules.proofs.Laws.Division.{lt-or-ge}
+use Rattle.rules.proofs.Laws.Walks.{last-or}
+use Rattle.rules.proofs.Laws.Sums.{sum-nothing}
+use Rattle.rules.proofs.Chains.Ideal.{Sized, duration-positive, end-is-start-plus-duration, take-before-start, take-from-end, take-positive}
+use Rattle.rules.proofs.Chains.PseudoJobs.{unchanged-where-all-are, changed-where-one-is, run-step, chain-length}
 use Rattle.book.specs.Promise.{FlowJobs, flowFrom}
 use Rattle.chain.specs.declared.Run.{Run}
 use Rattle.chain.specs.Jobs.{ChainInput}

@@ -4,7 +4,7 @@ use mathlib.Core.Path.{_≡_, refl, ap, sym, _∙_}
 use Prim.Native.Nat.{ℕ, zero, suc, _+_, _*_, _-_, _<_, _≤_}
 use native.Mathlib.Omega.{arith}
 use Rattle.rules.specs.Ideal.{quotientUp, duration, lastTake}
-use Rattle.rules.proofs.Division.{quotient-up-mul, quotient-up-eq}
+use Rattle.rules.proofs.Laws.Division.{quotient-up-mul, quotient-up-eq}
 use Rattle.chain.specs.Jobs.{jobWith, LastsAs}
 
 -- the last take, where the duration is known

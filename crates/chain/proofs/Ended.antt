@@ -5,7 +5,7 @@ use Prim.Native.Nat.{ℕ, _≤_, _<_}
 use native.Mathlib.Nat.{not-suc-le-zero}
 use native.Mathlib.Omega.{arith}
 use lib.ListN.{getD}
-use Rattle.rules.proofs.Division.{lt-or-ge}
+use Rattle.rules.proofs.Laws.Division.{lt-or-ge}
 
 -- the jobs below `from` have ended at ideal slot t
 pub record EndedBelow (ends : List ℕ) (count from t : ℕ) : Type 0 where

@@ -7,7 +7,7 @@ use native.Mathlib.Nat.{eq-or-lt-of-le, le-refl}
 use native.Mathlib.Omega.{arith}
 use lib.ListN.{length, getD, set, length-set}
 use lib.Seq.{getD-set-same, getD-set-other}
-use Rattle.rules.proofs.Division.{lt-or-ge}
+use Rattle.rules.proofs.Laws.Division.{lt-or-ge}
 use Rattle.chain.specs.Runs.{LeastFrom}
 
 -- a list as long as another, whose places from k to n have the least from there on; v is that of place k, and 4,294,967,295 where k is n

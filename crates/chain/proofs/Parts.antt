@@ -12,9 +12,9 @@ use lib.Seq.{getD-set-same, getD-set-other}
 use lib.Dec.{ltb}
 use borrow.Author.Tests.{lt-ltb}
 use Rattle.rules.specs.Walks.{bit, sumTo}
-use Rattle.rules.proofs.Division.{lt-or-ge}
-use Rattle.rules.proofs.Sums.{count-most, sum-split, sum-up, sum-nothing}
-use Rattle.rules.proofs.Walks.{last-or}
+use Rattle.rules.proofs.Laws.Division.{lt-or-ge}
+use Rattle.rules.proofs.Laws.Sums.{count-most, sum-split, sum-up, sum-nothing}
+use Rattle.rules.proofs.Laws.Walks.{last-or}
 use Rattle.chain.specs.Runs.{partsBelow, PartsOf}
 
 pub bit-some : (n : ℕ) → 0 < n → bit (ltb 0 n) ≡ 1

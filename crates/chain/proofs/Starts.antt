@@ -12,9 +12,9 @@ use lib.Seq.{drop-cons, getD-at, set-at, append-snoc}
 use Rattle.rules.specs.Walks.{if_then_else_, sumTo, maxTo}
 use Rattle.rules.specs.Book.{Job, Flow, JobInRange, FlowInRange, jobCount, jobOf, noJob, hasBit, precedes}
 use Rattle.rules.specs.Ideal.{duration, lastTake, startAfter, startOf, endOf, endsBelow, path, takeOf}
-use Rattle.rules.proofs.Sums.{sum-le}
-use Rattle.rules.proofs.Walks.{last-or, max-ext, max-least, list-length, list-at}
-use Rattle.rules.proofs.Ideal.{ends-length, ends-at, end-is-start-plus-duration, start-is-largest-end, duration-is-least, duration-positive, size-left, take-within-cap, Sized}
+use Rattle.rules.proofs.Laws.Sums.{sum-le}
+use Rattle.rules.proofs.Laws.Walks.{last-or, max-ext, max-least, list-length, list-at}
+use Rattle.rules.proofs.Chains.Ideal.{ends-length, ends-at, end-is-start-plus-duration, start-is-largest-end, duration-is-least, duration-positive, size-left, take-within-cap, Sized}
 use Rattle.book.specs.Promise.{FlowJobs, flowFrom}
 use Rattle.chain.specs.declared.Lasting.{Lasting}
 use Rattle.chain.specs.Jobs.{ChainInput, jobOfValues, LastsAs, startAmong, endsBy}

@@ -9,7 +9,7 @@ use mathlib.Core.Logic.{_⊎_, inl, inr}
 use lib.Dec.{ltb, leb, eqb}
 use borrow.Author.Tests.{ltb-true, ltb-false, leb-true, leb-false, eqb-true, eqb-false, lt-ltb, le-ltb, le-leb, lt-leb, eq-eqb, ne-eqb}
 use Rattle.rules.specs.Walks.{if_then_else_}
-use Rattle.rules.proofs.Division.{lt-or-ge}
+use Rattle.rules.proofs.Laws.Division.{lt-or-ge}
 use Rattle.chain.specs.Runs.{takeBetween, NextChange}
 
 -- ---- the take in one slot

@@ -22,15 +22,15 @@ use Rattle.rules.specs.Rows.{Row, usedIn, workUsed, workZero}
 use Rattle.rules.specs.Table.{rowsBytes}
 use Rattle.rules.specs.Check.{tableFault, CheckOutcome, checkOutcome, checkCall}
 use Rattle.rules.specs.Dispatch.{listRows, listLength, listBytes, listOutcome, dispatchChecked, dispatchCall}
-use Rattle.rules.proofs.Fields.{bytes-length, sets-append}
-use Rattle.rules.proofs.Passing.{calendar-of-book, read-passes}
-use Rattle.rules.proofs.SameUse.{with-same, rows-same}
-use Rattle.rules.proofs.TablePasses.{accepted-without}
-use Rattle.rules.proofs.WorkArea.{used-length, used-rest, used-cleared}
-use Rattle.rules.proofs.TableBytes.{rows-bytes-length}
-use Rattle.rules.proofs.ListOrder.{list-length}
-use Rattle.rules.proofs.AcceptsExactly.{call-accepts}
-use Rattle.rules.proofs.Dispatches.{check-reads, dispatches}
+use Rattle.rules.proofs.Laws.Fields.{bytes-length, sets-append}
+use Rattle.rules.proofs.Reading.Passing.{calendar-of-book, read-passes}
+use Rattle.rules.proofs.Reading.SameUse.{with-same, rows-same}
+use Rattle.rules.proofs.Tables.TablePasses.{accepted-without}
+use Rattle.rules.proofs.Rows.WorkArea.{used-length, used-rest, used-cleared}
+use Rattle.rules.proofs.Tables.TableBytes.{rows-bytes-length}
+use Rattle.rules.proofs.Rows.ListOrder.{list-length}
+use Rattle.rules.proofs.Demands.AcceptsExactly.{call-accepts}
+use Rattle.rules.proofs.Demands.Dispatches.{check-reads, dispatches}
 use Rattle.dispatch.specs.Merge.{Accepted, rowsOf, InUse}
 use Rattle.dispatch.specs.Call.{headBytes}
 use Rattle.dispatch.proofs.Tables.{rows-fill}

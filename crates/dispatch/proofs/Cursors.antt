@@ -17,10 +17,10 @@ use Rattle.rules.specs.Book.{Book}
 use Rattle.rules.specs.Rows.{Row}
 use Rattle.rules.specs.Service.{servedBefore}
 use Rattle.rules.specs.Check.{noRow}
-use Rattle.rules.proofs.Division.{lt-or-ge}
-use Rattle.rules.proofs.Rising.{at-in, Rising}
-use Rattle.rules.proofs.RowOrder.{Before, deadlineOf, before-slot}
-use Rattle.rules.proofs.ServiceOrder.{earlier-served, served-irreflexive, served-transitive, served-asymmetric}
+use Rattle.rules.proofs.Laws.Division.{lt-or-ge}
+use Rattle.rules.proofs.Rows.Rising.{at-in, Rising}
+use Rattle.rules.proofs.Rows.RowOrder.{Before, deadlineOf, before-slot}
+use Rattle.rules.proofs.Reading.ServiceOrder.{earlier-served, served-irreflexive, served-transitive, served-asymmetric}
 use Rattle.dispatch.specs.Merge.{keepRows, rowsAt, Cursor, FirstRow}
 use Rattle.dispatch.proofs.Keeping.{keep-append, keep-none, keep-all}
 

@@ -9,7 +9,7 @@ use lib.ListN.{length, getD}
 use Rattle.rules.specs.Walks.{if_then_else_}
 use Rattle.rules.specs.Rows.{Row}
 use Rattle.rules.specs.Check.{noRow}
-use Rattle.rules.proofs.Rising.{_∈_, first-in, Rising}
+use Rattle.rules.proofs.Rows.Rising.{_∈_, first-in, Rising}
 use Rattle.dispatch.specs.Merge.{keepRows}
 
 pub no-rows : (xs : List Row) → length xs ≡ 0 → xs ≡ []

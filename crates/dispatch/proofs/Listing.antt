@@ -14,13 +14,13 @@ use Rattle.rules.specs.Reading.{bookOf}
 use Rattle.rules.specs.Rows.{Row}
 use Rattle.rules.specs.Check.{noRow}
 use Rattle.rules.specs.Dispatch.{listRows}
-use Rattle.rules.proofs.Division.{lt-or-ge}
-use Rattle.rules.proofs.Walks.{join-last, join-split}
-use Rattle.rules.proofs.Rising.{_∈_, first-in, in-at, join-in, in-join, Rising, rising-join, rising-unique}
-use Rattle.rules.proofs.Lexical.{Lexical, lexical-rest}
-use Rattle.rules.proofs.RowOrder.{Before, before-same-flow}
-use Rattle.rules.proofs.ListOrder as order
-use Rattle.rules.proofs.ListOrder.{listed-asymmetric, list-in, in-list, list-length, list-rising}
+use Rattle.rules.proofs.Laws.Division.{lt-or-ge}
+use Rattle.rules.proofs.Laws.Walks.{join-last, join-split}
+use Rattle.rules.proofs.Rows.Rising.{_∈_, first-in, in-at, join-in, in-join, Rising, rising-join, rising-unique}
+use Rattle.rules.proofs.Laws.Lexical.{Lexical, lexical-rest}
+use Rattle.rules.proofs.Rows.RowOrder.{Before, before-same-flow}
+use Rattle.rules.proofs.Rows.ListOrder as order
+use Rattle.rules.proofs.Rows.ListOrder.{listed-asymmetric, list-in, in-list, list-length, list-rising}
 use Rattle.dispatch.specs.Merge.{Accepted, rowsOf, keepRows, rowsAt, rowsIn, rowsBelow}
 use Rattle.dispatch.proofs.Keeping.{no-rows, keep-in, in-keep, keep-rising}
 use Rattle.dispatch.proofs.Cursors.{isIn, is-in, in-is}

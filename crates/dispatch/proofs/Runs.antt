@@ -14,9 +14,9 @@ use lib.Dec.{leb, eqb}
 use borrow.Author.Tests.{leb-false, le-leb, lt-leb, eqb-true, eq-eqb, ne-eqb}
 use Rattle.rules.specs.Walks.{if_then_else_, listFrom}
 use Rattle.rules.specs.Fields.{byte, field}
-use Rattle.rules.proofs.Walks.{last-or, list-length}
-use Rattle.rules.proofs.Division.{lt-or-ge}
-use Rattle.rules.proofs.Fields.{sets-append}
+use Rattle.rules.proofs.Laws.Walks.{last-or, list-length}
+use Rattle.rules.proofs.Laws.Division.{lt-or-ge}
+use Rattle.rules.proofs.Laws.Fields.{sets-append}
 use Rattle.dispatch.specs.Runs.{part, dueAt, WholeRows, RunOf, RunTo, Room, Copied, RunCopied}
 
 -- ---- parts

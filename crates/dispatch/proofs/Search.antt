@@ -10,8 +10,8 @@ use Rattle.rules.specs.Book.{Book}
 use Rattle.rules.specs.Rows.{Row}
 use Rattle.rules.specs.Service.{servedBefore}
 use Rattle.rules.specs.Check.{noRow}
-use Rattle.rules.proofs.Rising.{Rising}
-use Rattle.rules.proofs.RowOrder.{Before}
+use Rattle.rules.proofs.Rows.Rising.{Rising}
+use Rattle.rules.proofs.Rows.RowOrder.{Before}
 use Rattle.dispatch.specs.Merge.{FirstRow, halved}
 use Rattle.dispatch.proofs.Cursors.{served-down}
 

@@ -16,12 +16,12 @@ use Rattle.rules.specs.Reading.{bookOf}
 use Rattle.rules.specs.Rows.{Row, usedIn}
 use Rattle.rules.specs.Table.{tableHead, rowLength, rowBytes, rowsBytes}
 use Rattle.rules.specs.Check.{noRow}
-use Rattle.rules.proofs.Walks.{last-or, join-last}
-use Rattle.rules.proofs.Fields.{sets-append}
-use Rattle.rules.proofs.Rising.{at-in}
-use Rattle.rules.proofs.RowSums.{sum-where-least}
-use Rattle.rules.proofs.TableBytes.{rows-bytes-length}
-use Rattle.rules.proofs.WorkArea.{used-pair}
+use Rattle.rules.proofs.Laws.Walks.{last-or, join-last}
+use Rattle.rules.proofs.Laws.Fields.{sets-append}
+use Rattle.rules.proofs.Rows.Rising.{at-in}
+use Rattle.rules.proofs.Rows.RowSums.{sum-where-least}
+use Rattle.rules.proofs.Tables.TableBytes.{rows-bytes-length}
+use Rattle.rules.proofs.Rows.WorkArea.{used-pair}
 use Rattle.dispatch.specs.Runs.{dueAt, Run, RunCopied}
 use Rattle.dispatch.specs.Merge.{Accepted, rowsOf, InUse, rowsAt, rowsIn, placeAfter, CursorAt, Cursors, RowsListed}
 use Rattle.dispatch.proofs.Runs.{run-none}

@@ -14,14 +14,14 @@ use Rattle.rules.specs.Reading.{bookOf}
 use Rattle.rules.specs.Rows.{Row, usedIn}
 use Rattle.rules.specs.Table.{tableHead, rowLength, rowsBytes, rowAt}
 use Rattle.rules.specs.Check.{noRow}
-use Rattle.rules.proofs.Walks.{list-length, list-at}
-use Rattle.rules.proofs.Fields.{StandsAt, field-lt}
-use Rattle.rules.proofs.Passing.{pass-in-range}
-use Rattle.rules.proofs.Rising.{Rising}
-use Rattle.rules.proofs.RowOrder.{Before}
-use Rattle.rules.proofs.TableBytes.{rows-bytes-length, rows-read, head-passes}
-use Rattle.rules.proofs.TablePasses.{RowPasses, TablePasses, table-passes}
-use Rattle.rules.proofs.AcceptedRows.{passing-rising, passing-use}
+use Rattle.rules.proofs.Laws.Walks.{list-length, list-at}
+use Rattle.rules.proofs.Laws.Fields.{StandsAt, field-lt}
+use Rattle.rules.proofs.Reading.Passing.{pass-in-range}
+use Rattle.rules.proofs.Rows.Rising.{Rising}
+use Rattle.rules.proofs.Rows.RowOrder.{Before}
+use Rattle.rules.proofs.Tables.TableBytes.{rows-bytes-length, rows-read, head-passes}
+use Rattle.rules.proofs.Tables.TablePasses.{RowPasses, TablePasses, table-passes}
+use Rattle.rules.proofs.Tables.AcceptedRows.{passing-rising, passing-use}
 use Rattle.table_check.proofs.TableRows.{row-at, table-length}
 use Rattle.dispatch.specs.Runs.{part, dueAt, WholeRows, RunOf, Run}
 use Rattle.dispatch.specs.Merge.{Accepted, rowsOf, rowsAt, CursorAt}

@@ -17,8 +17,8 @@ use Rattle.rules.specs.Service.{servedAt, position}
 use Rattle.rules.specs.Rows.{finishOf, workUsed, workZero}
 use Rattle.rules.specs.Placing.{infeasible, placeFirst}
 use Rattle.rules.specs.Finish.{upToNamed, FinishOutcome, finishOutcome, finishReading, unknownFlow, inputFault, finishCall}
-use Rattle.rules.proofs.Position.{served-position}
-use Rattle.rules.proofs.WorkArea.{used-over-cleared}
+use Rattle.rules.proofs.Reading.Position.{served-position}
+use Rattle.rules.proofs.Rows.WorkArea.{used-over-cleared}
 use Rattle.place.specs.Order.{shutRows}
 use Rattle.place.proofs.FlowByFlow.{infeasible-stays, flows-left, nothing-left}
 use Rattle.place.proofs.Maintenance.{ShutTo}

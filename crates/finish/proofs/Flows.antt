@@ -15,7 +15,7 @@ use Rattle.rules.specs.Reading.{bookOf}
 use Rattle.rules.specs.Service.{servedAt}
 use Rattle.rules.specs.Rows.{Row, usedIn, finishOf, workUsed}
 use Rattle.rules.specs.Placing.{infeasible}
-use Rattle.rules.proofs.Passing.{calendar-of-book, pass-in-range}
+use Rattle.rules.proofs.Reading.Passing.{calendar-of-book, pass-in-range}
 use Rattle.book.specs.declared.Index.{Index}
 use Rattle.place.specs.declared.Placed.{Placed}
 use Rattle.place.specs.declared.Placed.the-variants.{To, Infeasible}

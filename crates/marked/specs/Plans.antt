@@ -16,7 +16,7 @@ use Rattle.rules.specs.Check.{checkCall}
 use Rattle.rules.specs.Dispatch.{dispatchCall}
 use Rattle.rules.specs.Finish.{finishCall}
 use Rattle.rules.specs.Quote.{quote}
-use Rattle.rules.specs.Demands.{Appended}
+use Rattle.rules.specs.Demands.Quote.{Appended}
 use Rattle.marked.specs.Listings.{
   hex,
   bookA,

@@ -7,11 +7,11 @@ use mathlib.Core.List.{List, _++_}
 use Rattle.rules.specs.Book.{Flow, jobCount}
 use Rattle.rules.specs.Rows.{Row, finishOf}
 use Rattle.rules.specs.Placing.{flowRows}
-use Rattle.rules.proofs.Rising.{_∈_}
-use Rattle.rules.proofs.RowSums.{finish-least}
-use Rattle.rules.proofs.FlowRows.{grid-in}
-use Rattle.rules.proofs.PlacedFlow.{shareIn}
-use Rattle.rules.proofs.PlannedRows.{flow-rows-grid}
+use Rattle.rules.proofs.Rows.Rising.{_∈_}
+use Rattle.rules.proofs.Rows.RowSums.{finish-least}
+use Rattle.rules.proofs.Rows.FlowRows.{grid-in}
+use Rattle.rules.proofs.Placing.PlacedFlow.{shareIn}
+use Rattle.rules.proofs.Placing.PlannedRows.{flow-rows-grid}
 use Rattle.place.proofs.OneSlot.{finish-append}
 
 -- ---- finishes

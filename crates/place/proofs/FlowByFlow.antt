@@ -15,11 +15,11 @@ use Rattle.rules.specs.Reading.{bookOf}
 use Rattle.rules.specs.Service.{serviceOrder, servedAt}
 use Rattle.rules.specs.Rows.{Row, finishOf, workUsed, workZero}
 use Rattle.rules.specs.Placing.{infeasible, placeFirst, placeFlow, freeProcessors, slotsFor}
-use Rattle.rules.proofs.Caps.{used-in-range}
-use Rattle.rules.proofs.Passing.{pass-in-range}
-use Rattle.rules.proofs.ServiceOrder.{service-length, service-below, service-once}
-use Rattle.rules.proofs.WorkArea.{used-none, used-cleared, cleared-twice}
-use Rattle.rules.proofs.SameUse.{with-same, service-same}
+use Rattle.rules.proofs.Reading.Caps.{used-in-range}
+use Rattle.rules.proofs.Reading.Passing.{pass-in-range}
+use Rattle.rules.proofs.Reading.ServiceOrder.{service-length, service-below, service-once}
+use Rattle.rules.proofs.Rows.WorkArea.{used-none, used-cleared, cleared-twice}
+use Rattle.rules.proofs.Reading.SameUse.{with-same, service-same}
 use Rattle.book.specs.declared.Index.{Index}
 use Rattle.book.specs.Promise.{Indexed, FlowStands}
 use Rattle.place.specs.Order.{InOrder, shutRows, Asked, Stands}

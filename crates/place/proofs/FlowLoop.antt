@@ -15,14 +15,14 @@ use Rattle.rules.specs.Ideal.{path}
 use Rattle.rules.specs.PseudoJobs.{PseudoJob, runs, chain, rate, sumOver}
 use Rattle.rules.specs.Rows.{Row, usedIn, finishOf, workUsed}
 use Rattle.rules.specs.Placing.{Progress, progress, flowRows, freeProcessors}
-use Rattle.rules.proofs.Caps.{used-in-range}
-use Rattle.rules.proofs.Passing.{pass-in-range}
-use Rattle.rules.proofs.Ideal.{Sized, in-range-sized, end-is-start-plus-duration, end-within-path, duration-positive}
-use Rattle.rules.proofs.PseudoJobs.{slot-rate-positive, chain-widths, chain-live}
-use Rattle.rules.proofs.Usable.{none-free-before, free-within}
-use Rattle.rules.proofs.Greedy.{not-begun}
-use Rattle.rules.proofs.PlannedRows.{no-rows-yet}
-use Rattle.rules.proofs.FlowRows.{used-append}
+use Rattle.rules.proofs.Reading.Caps.{used-in-range}
+use Rattle.rules.proofs.Reading.Passing.{pass-in-range}
+use Rattle.rules.proofs.Chains.Ideal.{Sized, in-range-sized, end-is-start-plus-duration, end-within-path, duration-positive}
+use Rattle.rules.proofs.Chains.PseudoJobs.{slot-rate-positive, chain-widths, chain-live}
+use Rattle.rules.proofs.Placing.Usable.{none-free-before, free-within}
+use Rattle.rules.proofs.Placing.Greedy.{not-begun}
+use Rattle.rules.proofs.Placing.PlannedRows.{no-rows-yet}
+use Rattle.rules.proofs.Rows.FlowRows.{used-append}
 use Rattle.book.specs.Promise.{FlowJobs, FlowStands, flowFrom, Loaded}
 use Rattle.chain.specs.declared.Run.{Run}
 use Rattle.chain.specs.Jobs.{ChainInput}

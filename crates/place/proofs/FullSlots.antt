@@ -11,8 +11,8 @@ use Rattle.rules.specs.Ideal.{takeOf}
 use Rattle.rules.specs.PseudoJobs.{PseudoJob, rate, work}
 use Rattle.rules.specs.Rows.{rowFor}
 use Rattle.rules.specs.Placing.{share}
-use Rattle.rules.proofs.Division.{lt-or-ge}
-use Rattle.rules.proofs.Shares.{share-law, share-up-to-round}
+use Rattle.rules.proofs.Laws.Division.{lt-or-ge}
+use Rattle.rules.proofs.Chains.Shares.{share-law, share-up-to-round}
 use Rattle.chain.specs.Runs.{partsBelow}
 use Rattle.place.specs.declared.Current.{Current}
 use Rattle.place.specs.Service.{Serving, currentFlow, pseudoJob, packedRow, packedRows, jobRows}

@@ -12,8 +12,8 @@ use Rattle.rules.specs.Reading.{bookOf}
 use Rattle.rules.specs.PseudoJobs.{PseudoJob, rate, work}
 use Rattle.rules.specs.Rows.{usedIn}
 use Rattle.rules.specs.Placing.{share, given, freeProcessors}
-use Rattle.rules.proofs.Passing.{calendar-of-book}
-use Rattle.rules.proofs.Usable.{free-from-release}
+use Rattle.rules.proofs.Reading.Passing.{calendar-of-book}
+use Rattle.rules.proofs.Placing.Usable.{free-from-release}
 use Rattle.place.specs.declared.Current.{Current}
 use Rattle.place.specs.Output.{Put}
 use Rattle.place.specs.Service.{InService, currentFlow, pseudoJob, jobRows}

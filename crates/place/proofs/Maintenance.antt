@@ -17,13 +17,13 @@ use Rattle.rules.specs.Book.{Flow, Book, withCalendar, flowOf, twiceDeadline}
 use Rattle.rules.specs.PseudoJobs.{PseudoJob}
 use Rattle.rules.specs.Rows.{Row, rowFor, sumWhere, usedIn, finishOf, workUsed, workZero}
 use Rattle.rules.specs.Placing.{Progress, progress, flowRows, freeProcessors, slotsFor, planned, infeasible, settled, placeFlow}
-use Rattle.rules.proofs.Division.{lt-or-ge}
-use Rattle.rules.proofs.WorkArea.{used-rest, used-cleared}
-use Rattle.rules.proofs.Sums.{sum-one, sum-nothing}
-use Rattle.rules.proofs.FlowRows.{sum-where-join, row-counts, row-does-not-count, used-append}
-use Rattle.rules.proofs.OpenSlots.{reopened}
-use Rattle.rules.proofs.Usable.{usable-from, shut-unusable, free-usable, none-free, free-from-release, none-free-before}
-use Rattle.rules.proofs.SameUse.{with-same}
+use Rattle.rules.proofs.Laws.Division.{lt-or-ge}
+use Rattle.rules.proofs.Rows.WorkArea.{used-rest, used-cleared}
+use Rattle.rules.proofs.Laws.Sums.{sum-one, sum-nothing}
+use Rattle.rules.proofs.Rows.FlowRows.{sum-where-join, row-counts, row-does-not-count, used-append}
+use Rattle.rules.proofs.Placing.OpenSlots.{reopened}
+use Rattle.rules.proofs.Placing.Usable.{usable-from, shut-unusable, free-usable, none-free, free-from-release, none-free-before}
+use Rattle.rules.proofs.Reading.SameUse.{with-same}
 use Rattle.calendar.specs.Area.{workOf}
 use Rattle.calendar.proofs.Area.{used-work, work-ext}
 use Rattle.place.specs.Output.{Put}

@@ -11,11 +11,11 @@ use lib.Dec.{eqb}
 use borrow.Author.Tests.{eq-eqb, ne-eqb}
 use Rattle.rules.specs.Walks.{sumTo, joinFrom}
 use Rattle.rules.specs.Rows.{Row, rowFor, usedIn, finishOf}
-use Rattle.rules.proofs.Division.{lt-or-ge}
-use Rattle.rules.proofs.Sums.{sum-ext, sum-nothing}
-use Rattle.rules.proofs.Walks.{join-last}
+use Rattle.rules.proofs.Laws.Division.{lt-or-ge}
+use Rattle.rules.proofs.Laws.Sums.{sum-ext, sum-nothing}
+use Rattle.rules.proofs.Laws.Walks.{join-last}
 use Rattle.place.proofs.Output.{row-for-none}
-use Rattle.rules.proofs.FlowRows.{sum-where-join, row-counts, row-does-not-count}
+use Rattle.rules.proofs.Rows.FlowRows.{sum-where-join, row-counts, row-does-not-count}
 
 pub finish-nothing : (f : ℕ) → finishOf [] f ≡ 0
 unfolding finishOf

@@ -12,8 +12,8 @@ use borrow.Author.Tests.{le-leb, lt-leb}
 use Rattle.rules.specs.Walks.{if_then_else_}
 use Rattle.rules.specs.Rows.{Row, rowFor}
 use Rattle.rules.specs.Table.{rowBytes}
-use Rattle.rules.proofs.TableBytes.{row-bytes-length}
-use Rattle.rules.proofs.WorkArea.{sets-between}
+use Rattle.rules.proofs.Tables.TableBytes.{row-bytes-length}
+use Rattle.rules.proofs.Rows.WorkArea.{sets-between}
 use Rattle.place.specs.Output.{putRow, putRows, Put}
 
 -- a row

@@ -11,7 +11,7 @@ use lib.Seq.{sets}
 use Rattle.rules.specs.Walks.{joinFrom}
 use Rattle.rules.specs.Fields.{bytesOf}
 use Rattle.rules.specs.Table.{rowBytes}
-use Rattle.rules.proofs.Walks.{join-last}
+use Rattle.rules.proofs.Laws.Walks.{join-last}
 use Rattle.book.proofs.Stores.{row-stores}
 use Rattle.place.specs.Output.{Put}
 use Rattle.place.specs.Service.{Packs, packedRow, packedRows}

@@ -18,7 +18,7 @@ use Rattle.place.specs.declared.Placed.the-variants.{To, Infeasible}
 use Rattle.place.specs.declared.Served.{Served}
 use Rattle.place.specs.Service.{InService, currentFlow, pseudoJob}
 use Rattle.place.specs.Flows.{standing, Beside, UnderwayBy, SlotServed, RunDone, WorkLeft, RunPlaced, RunAnswer, SlotUsed, RunUsed, RunGoes}
-use Rattle.rules.proofs.Division.{lt-or-ge}
+use Rattle.rules.proofs.Laws.Division.{lt-or-ge}
 use Rattle.place.proofs.Given.{work-held}
 use Rattle.place.proofs.Serving.{processors-within}
 use Rattle.place.proofs.Steps.{after-slot-goes-on, after-slot-finishes}

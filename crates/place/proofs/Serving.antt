@@ -9,10 +9,10 @@ use Rattle.rules.specs.Book.{flowCount, jobCount, flowOf, InRange, FlowInRange}
 use Rattle.rules.specs.Ideal.{takeOf}
 use Rattle.rules.specs.Reading.{bookOf, bookFault}
 use Rattle.rules.specs.PseudoJobs.{rate}
-use Rattle.rules.proofs.Caps.{used-in-range}
-use Rattle.rules.proofs.Sums.{sum-le}
-use Rattle.rules.proofs.Ideal.{take-within-cap}
-use Rattle.rules.proofs.Passing.{pass-in-range}
+use Rattle.rules.proofs.Reading.Caps.{used-in-range}
+use Rattle.rules.proofs.Laws.Sums.{sum-le}
+use Rattle.rules.proofs.Chains.Ideal.{take-within-cap}
+use Rattle.rules.proofs.Reading.Passing.{pass-in-range}
 use Rattle.place.specs.declared.Current.{Current}
 use Rattle.place.specs.Service.{InService, PartsHeld, currentFlow}
 use Rattle.chain.proofs.Parts.{parts-few, amount-within}

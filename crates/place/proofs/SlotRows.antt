@@ -12,7 +12,7 @@ use Rattle.rules.specs.Ideal.{takeOf}
 use Rattle.rules.specs.PseudoJobs.{PseudoJob, rate, work}
 use Rattle.rules.specs.Rows.{Row, rowFor}
 use Rattle.rules.specs.Placing.{share}
-use Rattle.rules.proofs.Shares.{offset, offset-within-rate, share-none, share-overlap}
+use Rattle.rules.proofs.Chains.Shares.{offset, offset-within-rate, share-none, share-overlap}
 use Rattle.chain.specs.Runs.{partsBelow}
 use Rattle.place.specs.declared.Current.{Current}
 use Rattle.place.specs.Output.{Put}

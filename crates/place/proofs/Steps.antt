@@ -13,15 +13,15 @@ use Rattle.rules.specs.Book.{Flow, jobCount}
 use Rattle.rules.specs.PseudoJobs.{PseudoJob, work}
 use Rattle.rules.specs.Rows.{Row, usedIn, finishOf}
 use Rattle.rules.specs.Placing.{share, given, afterSlot, slotRows, progress, flowRows}
-use Rattle.rules.proofs.Division.{lt-or-ge}
+use Rattle.rules.proofs.Laws.Division.{lt-or-ge}
 use Rattle.place.proofs.OneSlot.{rowsOfSlot, finish-nothing, finish-append, slot-rows-few, slot-rows-finish-le}
 use Rattle.place.specs.Flows.{standing}
-use Rattle.rules.proofs.Ideal.{Sized}
-use Rattle.rules.proofs.FlowRows.{grid-used, grid-not-used}
-use Rattle.rules.proofs.Greedy.{given-in-le-free}
-use Rattle.rules.proofs.PlacedFlow.{shareIn, placed-together}
-use Rattle.rules.proofs.PlannedRows.{flow-rows-grid}
-use Rattle.rules.proofs.Walks.{join-last}
+use Rattle.rules.proofs.Chains.Ideal.{Sized}
+use Rattle.rules.proofs.Rows.FlowRows.{grid-used, grid-not-used}
+use Rattle.rules.proofs.Placing.Greedy.{given-in-le-free}
+use Rattle.rules.proofs.Placing.PlacedFlow.{shareIn, placed-together}
+use Rattle.rules.proofs.Placing.PlannedRows.{flow-rows-grid}
+use Rattle.rules.proofs.Laws.Walks.{join-last}
 
 -- the rows of flow f in slot t
 unfoldable pub rowsIn : Flow → ℕ → (ℕ → ℕ) → ℕ → List Row

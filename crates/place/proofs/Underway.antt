@@ -11,9 +11,9 @@ use Rattle.rules.specs.Book.{Flow, Book, jobCount, flowOf}
 use Rattle.rules.specs.PseudoJobs.{PseudoJob, rate, work}
 use Rattle.rules.specs.Rows.{usedIn, finishOf, workUsed}
 use Rattle.rules.specs.Placing.{given, afterSlot, progress, freeProcessors}
-use Rattle.rules.proofs.FlowRows.{used-append}
-use Rattle.rules.proofs.Shares.{share-of-nothing, shares-sum}
-use Rattle.rules.proofs.WorkArea.{used-pair, used-more}
+use Rattle.rules.proofs.Rows.FlowRows.{used-append}
+use Rattle.rules.proofs.Chains.Shares.{share-of-nothing, shares-sum}
+use Rattle.rules.proofs.Rows.WorkArea.{used-pair, used-more}
 use Rattle.place.specs.Output.{Put}
 use Rattle.place.specs.Service.{jobRows}
 use Rattle.place.specs.Flows.{standing, Beside, rowsUpTo, Underway}

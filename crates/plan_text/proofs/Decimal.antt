@@ -7,7 +7,7 @@ use native.Mathlib.Omega.{arith}
 use mathlib.Core.Logic.{_⊎_, inl, inr}
 use mathlib.Core.List.{List, [], _∷_, _++_}
 use Rattle.rules.specs.Text.{digit, digitsOf, decimal}
-use Rattle.rules.proofs.Division.{lt-or-ge}
+use Rattle.rules.proofs.Laws.Division.{lt-or-ge}
 use Rattle.plan_text.proofs.Pieces.{digits-last, digits-single, digits-more}
 
 -- what is read so far, and the digits after it

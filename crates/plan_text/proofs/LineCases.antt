@@ -10,7 +10,7 @@ use lib.Dec.{eqb, leb}
 use borrow.Author.Tests.{eq-eqb, ne-eqb, le-leb, lt-leb}
 use Rattle.rules.specs.declared.PlanAnswer.{PlanAnswer}
 use Rattle.rules.specs.Walks.{if_then_else_, joinFrom}
-use Rattle.rules.proofs.Walks.{join-last}
+use Rattle.rules.proofs.Laws.Walks.{join-last}
 use Rattle.rules.specs.Fields.{byte, field}
 use Rattle.rules.specs.Table.{rowAt}
 use Rattle.rules.specs.Text.{tableLine, finishLine, rowLine, refusalLine}

@@ -32,7 +32,7 @@ use Rattle.rules.specs.Text.{
   refusalLine,
 }
 use Rattle.rules.specs.Rows.{Row}
-use Rattle.rules.proofs.Fields.{sets-append}
+use Rattle.rules.proofs.Laws.Fields.{sets-append}
 use Rattle.plan_text.specs.Put.{Put, pairLine, longestLine}
 
 -- a piece put after another: both are one piece

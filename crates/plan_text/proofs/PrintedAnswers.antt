@@ -20,10 +20,10 @@ use Rattle.rules.specs.Placing.{Plan, planned, infeasible, plan}
 use Rattle.rules.specs.Table.{tableLength, tableBytes}
 use Rattle.rules.specs.Planner.{planOutcome, planReading, planCall}
 use Rattle.rules.specs.Text.{refusalLine}
-use Rattle.rules.proofs.Division.{lt-or-ge}
-use Rattle.rules.proofs.Passing.{read-in-range}
-use Rattle.rules.proofs.TableBytes.{table-bytes-length}
-use Rattle.rules.proofs.Refusals.{unread-numbered}
+use Rattle.rules.proofs.Laws.Division.{lt-or-ge}
+use Rattle.rules.proofs.Reading.Passing.{read-in-range}
+use Rattle.rules.proofs.Tables.TableBytes.{table-bytes-length}
+use Rattle.rules.proofs.Demands.Refusals.{unread-numbered}
 use Rattle.plan_text.specs.Put.{longestLine}
 use Rattle.plan_text.specs.Lines.{Stands, tableLines, lineCount, lineAt, firstLines, textOf}
 use Rattle.plan_text.specs.Printed.{Prints, lentBytes, textBytes, planText, outcomeText, readingText, printed}

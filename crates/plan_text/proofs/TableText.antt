@@ -13,13 +13,13 @@ use Rattle.rules.specs.Placing.{planned, plan}
 use Rattle.rules.specs.Table.{tableHead, rowLength, tableLength, tableBytes, rowAt}
 use Rattle.rules.specs.Check.{tableRows}
 use Rattle.rules.specs.Text.{tableLine, finishLine, rowLine}
-use Rattle.rules.proofs.Caps.{used-in-range}
-use Rattle.rules.proofs.Walks.{join-split, join-ext, join-moved}
-use Rattle.rules.proofs.Rising.{_∈_}
-use Rattle.rules.proofs.OpenSlots.{limit-most}
-use Rattle.rules.proofs.PlannedValid.{planned-rows-fit}
-use Rattle.rules.proofs.Demand3Values.{planned-finish-fits}
-use Rattle.rules.proofs.TableBytes.{RowFits, table-bytes-length, table-rows-written, finish-written}
+use Rattle.rules.proofs.Reading.Caps.{used-in-range}
+use Rattle.rules.proofs.Laws.Walks.{join-split, join-ext, join-moved}
+use Rattle.rules.proofs.Rows.Rising.{_∈_}
+use Rattle.rules.proofs.Placing.OpenSlots.{limit-most}
+use Rattle.rules.proofs.Placing.PlannedValid.{planned-rows-fit}
+use Rattle.rules.proofs.Demands.Demand3Values.{planned-finish-fits}
+use Rattle.rules.proofs.Tables.TableBytes.{RowFits, table-bytes-length, table-rows-written, finish-written}
 use Rattle.plan_text.specs.Lines.{flowsIn, rowsFrom, tableLines, tableLineAt}
 use Rattle.plan_text.specs.Printed.{rowLines, planText}
 use Rattle.plan_text.proofs.LineCases.{line-first, line-finish, line-row}

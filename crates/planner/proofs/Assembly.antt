@@ -14,10 +14,10 @@ use Rattle.rules.specs.Fields.{bytesOf}
 use Rattle.rules.specs.Book.{Book, flowCount}
 use Rattle.rules.specs.Rows.{Row, finishOf}
 use Rattle.rules.specs.Table.{tableHead, tableLength, rowBytes, rowsBytes, tableBytes}
-use Rattle.rules.proofs.Walks.{join-ext, join-snoc}
-use Rattle.rules.proofs.Fields.{bytes-length, join-bytes-length, sets-append}
-use Rattle.rules.proofs.TableBytes.{row-bytes-length, rows-bytes-length}
-use Rattle.rules.proofs.WorkArea.{sets-between}
+use Rattle.rules.proofs.Laws.Walks.{join-ext, join-snoc}
+use Rattle.rules.proofs.Laws.Fields.{bytes-length, join-bytes-length, sets-append}
+use Rattle.rules.proofs.Tables.TableBytes.{row-bytes-length, rows-bytes-length}
+use Rattle.rules.proofs.Rows.WorkArea.{sets-between}
 use Rattle.place.specs.Output.{putRow, putRows}
 use Rattle.planner.specs.Head.{headBytes, finishBytes}
 

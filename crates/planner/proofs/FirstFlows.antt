@@ -15,8 +15,8 @@ use Rattle.rules.specs.Service.{servedAt}
 use Rattle.rules.specs.Rows.{Row, finishOf, workUsed}
 use Rattle.rules.specs.Placing.{infeasible, placeFirst}
 use Rattle.rules.specs.Table.{tableHead, tableLength}
-use Rattle.rules.proofs.Division.{lt-or-ge}
-use Rattle.rules.proofs.ServiceOrder.{service-below}
+use Rattle.rules.proofs.Laws.Division.{lt-or-ge}
+use Rattle.rules.proofs.Reading.ServiceOrder.{service-below}
 use Rattle.place.specs.declared.Placed.the-variants.{To}
 use Rattle.place.specs.Output.{putRows}
 use Rattle.place.specs.Flows.{FlowDone, FlowPlaced}

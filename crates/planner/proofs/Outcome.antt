@@ -18,10 +18,10 @@ use Rattle.rules.specs.Rows.{Row, lateFlows, workUsed, workZero}
 use Rattle.rules.specs.Placing.{Plan, planned, infeasible, placeFirst, plan}
 use Rattle.rules.specs.Planner.{PlanOutcome, planOutcome, planReading, planCall}
 use Rattle.rules.specs.Table.{tableHead, tableLength}
-use Rattle.rules.proofs.CallCases.{outcome-infeasible, outcome-longer, outcome-written, call-plans}
-use Rattle.rules.proofs.Passing.{pass-reads}
-use Rattle.rules.proofs.WorkArea.{used-none, cleared-twice, used-over-cleared}
-use Rattle.rules.proofs.SameUse.{with-same, late-same}
+use Rattle.rules.proofs.Calls.CallCases.{outcome-infeasible, outcome-longer, outcome-written, call-plans}
+use Rattle.rules.proofs.Reading.Passing.{pass-reads}
+use Rattle.rules.proofs.Rows.WorkArea.{used-none, cleared-twice, used-over-cleared}
+use Rattle.rules.proofs.Reading.SameUse.{with-same, late-same}
 use Rattle.book.specs.declared.Index.{Index}
 use Rattle.book.specs.Promise.{Indexed}
 use Rattle.planner.specs.declared.Whole.{Whole}

@@ -1,19 +1,31 @@
 -- The demands, all of them, of the outcomes of planner, check, dispatch list and finish of one flow. The contracts of the exported calls say that they
 -- have these outcomes. Assumes nothing.
+pub mod Refusals
+pub mod PlansByTheRules
+pub mod AcceptsExactly
+pub mod AcceptsPlans
+pub mod Demand3Values
+pub mod Demand3
+pub mod Dispatches
+pub mod Finishes
+pub mod WriteBack
+pub mod Calendars
+pub mod Quotes
+pub mod Appends
 use Rattle.rules.specs.Demands.{Demands}
-use Rattle.rules.proofs.Refusals.{demand-1}
-use Rattle.rules.proofs.PlansByTheRules.{plans-by-the-rules}
-use Rattle.rules.proofs.AcceptsExactly.{accepts-exactly}
-use Rattle.rules.proofs.Demand3.{demand-3}
-use Rattle.rules.proofs.AcceptsPlans.{accepts-plans}
-use Rattle.rules.proofs.Versions.{version-1-kept}
-use Rattle.rules.proofs.Lowered.{caps-lowered}
-use Rattle.rules.proofs.Dispatches.{dispatches}
-use Rattle.rules.proofs.Finishes.{finishes}
-use Rattle.rules.proofs.WriteBack.{write-back}
-use Rattle.rules.proofs.Calendars.{calendars, no-windows}
-use Rattle.rules.proofs.Quotes.{quotes}
-use Rattle.rules.proofs.Appends.{appends}
+use Rattle.rules.proofs.Demands.Refusals.{demand-1}
+use Rattle.rules.proofs.Demands.PlansByTheRules.{plans-by-the-rules}
+use Rattle.rules.proofs.Demands.AcceptsExactly.{accepts-exactly}
+use Rattle.rules.proofs.Demands.Demand3.{demand-3}
+use Rattle.rules.proofs.Demands.AcceptsPlans.{accepts-plans}
+use Rattle.rules.proofs.Reading.Versions.{version-1-kept}
+use Rattle.rules.proofs.Reading.Lowered.{caps-lowered}
+use Rattle.rules.proofs.Demands.Dispatches.{dispatches}
+use Rattle.rules.proofs.Demands.Finishes.{finishes}
+use Rattle.rules.proofs.Demands.WriteBack.{write-back}
+use Rattle.rules.proofs.Demands.Calendars.{calendars, no-windows}
+use Rattle.rules.proofs.Demands.Quotes.{quotes}
+use Rattle.rules.proofs.Demands.Appends.{appends}
 
 pub demands : Demands
 demands = record {

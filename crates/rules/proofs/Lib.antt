@@ -1,64 +1,16 @@
--- What follows from the rules.
+-- What follows from the rules, a folder a topic. `Demands` first: the theorem of all demands, and one file for each below it.
 pub mod Demands
-pub mod Demand3Values
-pub mod Demand3
-pub mod Refusals
-pub mod PlansByTheRules
-pub mod WrittenPlans
-pub mod CallCases
-pub mod AcceptsExactly
-pub mod AcceptsPlans
-pub mod Dispatches
-pub mod Finishes
-pub mod WriteBack
-pub mod Calendars
-pub mod Quotes
-pub mod Appends
--- laws that the proofs here and in the crates above cite
-pub mod Division
-pub mod Bits
-pub mod Sums
-pub mod Walks
-pub mod Lexical
-pub mod Faults
-pub mod Fields
--- the reading of books
-pub mod Caps
-pub mod Passing
-pub mod RoundTrip
-pub mod Versions
-pub mod ServiceOrder
-pub mod CutBook
-pub mod Position
-pub mod SameUse
-pub mod Lowered
+-- the cases of a call, and what stands in the output of an accepted one
+pub mod Calls
+-- laws of numbers, walks, verdicts and fields, which the proofs here and in the crates above cite
+pub mod Laws
+-- the reading of books, their versions and caps, service order, books that are cut
+pub mod Reading
 -- rules 1 to 3 and 5
-pub mod Ideal
-pub mod PseudoJobs
-pub mod Shares
--- rows
-pub mod Rising
-pub mod RowOrder
-pub mod RowSums
-pub mod ListOrder
-pub mod ScheduleRows
-pub mod FlowRows
-pub mod RowsSoFar
-pub mod WorkArea
+pub mod Chains
+-- rows: their order, their sums, the schedule that they state, the work area
+pub mod Rows
 -- placing, what it guarantees, and what a refusal proves
-pub mod OpenSlots
-pub mod Usable
-pub mod Greedy
-pub mod Necessity
-pub mod Refusal
-pub mod PlacedFlow
-pub mod PlannedRows
-pub mod PlannedValid
-pub mod PlannedTable
-pub mod CutPlan
-pub mod Infeasible
--- tables, and what the check accepts
-pub mod TableBytes
-pub mod ListBytes
-pub mod TablePasses
-pub mod AcceptedRows
+pub mod Placing
+-- tables and lists, and what the check accepts
+pub mod Tables

@@ -25,14 +25,14 @@ firstFault g (suc n) = firstFault g n andThen g n
 -- "An accepted call returns number 0 and place 255, 255." "Planner and check both answer with the number of late flows; the planner also
 -- with the table's length."
 abbrev pub planAccepted : ℕ → ℕ → PlanAnswer
-planAccepted late length = record { number = 0; flow = none; job = none; late = late; length = length }
+planAccepted late bytes = record { number = 0; flow = none; job = none; late = late; length = bytes }
 
 abbrev pub checkAccepted : ℕ → CheckAnswer
 checkAccepted late = record { number = 0; flow = none; job = none; late = late }
 
 -- "The answer is the list's length" (02, Req 03)
 abbrev pub listAccepted : ℕ → ListAnswer
-listAccepted length = record { number = 0; flow = none; job = none; length = length }
+listAccepted bytes = record { number = 0; flow = none; job = none; length = bytes }
 
 -- "The result is the finish" (02, Req 05)
 abbrev pub finishAccepted : ℕ → FinishAnswer

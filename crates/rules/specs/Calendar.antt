@@ -15,7 +15,7 @@ use Rattle.rules.specs.Limits.{mostWindows, mostReopening, slots}
 -- "each window as first slot shut (2) and first slot open again (2)"
 pub record Window : Type 0 where
   pub shut : ℕ
-  pub again : ℕ
+  pub reopening : ℕ
 
 abbrev pub Calendar : Type 0
 Calendar = List Window
@@ -23,7 +23,7 @@ Calendar = List Window
 -- ---- open slots
 -- slot t is in the window
 abbrev pub inWindow : Window → ℕ → Bool
-inWindow v t = leb (v .shut) t && ltb t (v .again)
+inWindow v t = leb (v .shut) t && ltb t (v .reopening)
 
 -- "Maintenance shuts the whole cluster for some slots.": a slot that is in no window is open
 unfoldable pub isOpen : Calendar → ℕ → Bool
@@ -53,7 +53,7 @@ windowLength = 4
 
 -- window k
 unfoldable pub windowAt : List ℕ → ℕ → Window
-windowAt s k = record { shut = field 2 s (calendarHead + windowLength * k); again = field 2 s (calendarHead + windowLength * k + 2) }
+windowAt s k = record { shut = field 2 s (calendarHead + windowLength * k); reopening = field 2 s (calendarHead + windowLength * k + 2) }
 
 unfoldable pub calendarOf : List ℕ → Calendar
 calendarOf s = listFrom (windowAt s) (byte s 5) 0
@@ -65,11 +65,11 @@ noWindows = 0 ∷ 0 ∷ 0 ∷ 6 ∷ 1 ∷ 0 ∷ []
 -- window k does not begin "later than the one before it reopened"; the first may begin at slot 0
 unfoldable pub beginsEarly : List ℕ → ℕ → Bool
 beginsEarly s zero = false
-beginsEarly s (suc k) = leb (windowAt s (suc k) .shut) (windowAt s k .again)
+beginsEarly s (suc k) = leb (windowAt s (suc k) .shut) (windowAt s k .reopening)
 
 -- "A window is not empty, begins later than the one before it reopened, and reopens at slot 4,096 or sooner.": window k breaks these rules
 unfoldable pub windowFault : List ℕ → ℕ → Bool
-windowFault s k = leb (windowAt s k .again) (windowAt s k .shut) || beginsEarly s k || ltb mostReopening (windowAt s k .again)
+windowFault s k = leb (windowAt s k .reopening) (windowAt s k .shut) || beginsEarly s k || ltb mostReopening (windowAt s k .reopening)
 
 -- "24 when the calendar breaks its layout, .. with 255 and 255": too short, length field, version, count above 32, bytes unlike the count, a window that
 -- breaks its rules
@@ -86,13 +86,13 @@ calendarFault s =
 -- ---- the ranges: what 24 leaves
 -- window k of a calendar; past the last one, a window of no slots
 abbrev pub noWindow : Window
-noWindow = record { shut = 0; again = 0 }
+noWindow = record { shut = 0; reopening = 0 }
 
 unfoldable pub windowOf : Calendar → ℕ → Window
 windowOf c k = getD c k noWindow
 
 pub record CalendarInRange (c : Calendar) : Type 0 where
   pub windows-most : length c ≤ mostWindows
-  pub not-empty : (k : ℕ) → k < length c → windowOf c k .shut < windowOf c k .again
-  pub apart : (k : ℕ) → suc k < length c → windowOf c k .again < windowOf c (suc k) .shut
-  pub reopens : (k : ℕ) → k < length c → windowOf c k .again ≤ mostReopening
+  pub not-empty : (k : ℕ) → k < length c → windowOf c k .shut < windowOf c k .reopening
+  pub apart : (k : ℕ) → suc k < length c → windowOf c k .reopening < windowOf c (suc k) .shut
+  pub reopens : (k : ℕ) → k < length c → windowOf c k .reopening ≤ mostReopening

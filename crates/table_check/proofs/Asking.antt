@@ -13,9 +13,9 @@ use Rattle.rules.specs.declared.Verdict.the-variants.{Refused}
 use Rattle.rules.specs.Book.{flowOf, jobOf}
 use Rattle.rules.specs.Reading.{bookOf}
 use Rattle.rules.specs.Check.{tableRows, beforeRelease, lacksPredecessor, rowFault}
-use Rattle.rules.proofs.Division.{lt-or-ge}
-use Rattle.rules.proofs.Walks.{last-or}
-use Rattle.rules.proofs.Bits.{bit-of-left, left-next, no-bit-left, left-below}
+use Rattle.rules.proofs.Laws.Division.{lt-or-ge}
+use Rattle.rules.proofs.Laws.Walks.{last-or}
+use Rattle.rules.proofs.Laws.Bits.{bit-of-left, left-next, no-bit-left, left-below}
 use Rattle.table_check.specs.declared.row.Row.{Row}
 use Rattle.table_check.specs.declared.row.Current.{Current}
 use Rattle.table_check.specs.declared.row.Tested.{Tested}

@@ -21,13 +21,13 @@ use Rattle.rules.specs.Reading.{bookOf}
 use Rattle.rules.specs.Rows as rules
 use Rattle.rules.specs.Rows.{usedIn, finishOf, workUsed, workZero}
 use Rattle.rules.specs.Check.{noRow, tableRows, beforeRelease, lacksPredecessor, rowFault}
-use Rattle.rules.proofs.Caps.{used-in-range}
-use Rattle.rules.proofs.Division.{lt-or-ge}
-use Rattle.rules.proofs.Faults.{fault-next}
-use Rattle.rules.proofs.Walks.{any-true, any-false}
-use Rattle.rules.proofs.Bits.{no-bit-left}
-use Rattle.rules.proofs.TablePasses.{in-book-of}
-use Rattle.rules.proofs.WorkArea.{used-row, used-rest, used-cleared}
+use Rattle.rules.proofs.Reading.Caps.{used-in-range}
+use Rattle.rules.proofs.Laws.Division.{lt-or-ge}
+use Rattle.rules.proofs.Laws.Faults.{fault-next}
+use Rattle.rules.proofs.Laws.Walks.{any-true, any-false}
+use Rattle.rules.proofs.Laws.Bits.{no-bit-left}
+use Rattle.rules.proofs.Tables.TablePasses.{in-book-of}
+use Rattle.rules.proofs.Rows.WorkArea.{used-row, used-rest, used-cleared}
 use Rattle.table_check.specs.declared.row.Row.{Row}
 use Rattle.table_check.specs.declared.row.Current.{Current}
 use Rattle.table_check.specs.declared.row.Tested.{Tested}

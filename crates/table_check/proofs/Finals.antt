@@ -15,9 +15,9 @@ use Rattle.rules.specs.Book.{Book, flowCount, jobCount, flowOf, jobOf, InRange}
 use Rattle.rules.specs.Rows.{Row, totalOf, lateFlows}
 use Rattle.rules.specs.Table.{finishIn}
 use Rattle.rules.specs.Check.{totalFault, finishFault}
-use Rattle.rules.proofs.Caps.{used-in-range}
-use Rattle.rules.proofs.Faults.{not-pass, fault-stop, fault-next, fault-ext}
-use Rattle.rules.proofs.Passing.{pass-in-range}
+use Rattle.rules.proofs.Reading.Caps.{used-in-range}
+use Rattle.rules.proofs.Laws.Faults.{not-pass, fault-stop, fault-next, fault-ext}
+use Rattle.rules.proofs.Reading.Passing.{pass-in-range}
 use Rattle.book.specs.declared.Index.{Index}
 use Rattle.book.specs.Promise.{Indexed}
 use Rattle.table_check.specs.declared.row.Current.{Current}

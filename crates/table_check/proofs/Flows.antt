@@ -21,12 +21,12 @@ use Rattle.rules.specs.Rows as rules
 use Rattle.rules.specs.Rows.{sumWhere, totalOf, finishOf, workUsed, workZero}
 use Rattle.rules.specs.Table.{tableHead, rowLength, rowAt}
 use Rattle.rules.specs.Check.{noRow, tableRows, tableHeadFault, rowFault, totalFault}
-use Rattle.rules.proofs.Caps.{used-in-range}
-use Rattle.rules.proofs.Division.{lt-or-ge}
-use Rattle.rules.proofs.Walks.{after-set}
-use Rattle.rules.proofs.Faults.{not-pass, fault-stop, fault-ext}
-use Rattle.rules.proofs.Passing.{pass-in-range}
-use Rattle.rules.proofs.WorkArea.{used-none, used-over-cleared, cleared-twice, cleared-length}
+use Rattle.rules.proofs.Reading.Caps.{used-in-range}
+use Rattle.rules.proofs.Laws.Division.{lt-or-ge}
+use Rattle.rules.proofs.Laws.Walks.{after-set}
+use Rattle.rules.proofs.Laws.Faults.{not-pass, fault-stop, fault-ext}
+use Rattle.rules.proofs.Reading.Passing.{pass-in-range}
+use Rattle.rules.proofs.Rows.WorkArea.{used-none, used-over-cleared, cleared-twice, cleared-length}
 use Rattle.book.specs.declared.Index.{Index}
 use Rattle.book.specs.Promise.{Indexed, FlowStands}
 use Rattle.table_check.specs.declared.row.Row.{Row}

@@ -6,7 +6,7 @@ use native.Mathlib.Omega.{arith}
 use lib.ListN.{length, getD, set, length-set}
 use lib.Seq.{getD-set-same, getD-set-other}
 use Rattle.rules.specs.Book.{Book, Job, flowOf, jobOf}
-use Rattle.rules.proofs.Walks.{last-or}
+use Rattle.rules.proofs.Laws.Walks.{last-or}
 use Rattle.book.specs.declared.JobRecord.{JobRecord}
 use Rattle.book.specs.Promise.{jobFrom}
 use Rattle.table_check.specs.Tally.{JobsHeld}

@@ -16,10 +16,10 @@ use Rattle.rules.specs.Calendar.{isOpen, calendarOf, calendarFault}
 use Rattle.rules.specs.Reading.{bookOf, bookFault, bookWith, readBook}
 use Rattle.rules.specs.Rows.{workZero}
 use Rattle.rules.specs.Check.{tableRows, tableHeadFault, totalFault, finishFault, tableFault, checkOutcome, checkReading, checkCall}
-use Rattle.rules.proofs.Faults.{not-pass, fault-stands}
-use Rattle.rules.proofs.Passing.{pass-in-range, pass-reads}
-use Rattle.rules.proofs.SameUse.{with-same, faults-same, judged-same}
-use Rattle.rules.proofs.TableBytes.{head-passes}
+use Rattle.rules.proofs.Laws.Faults.{not-pass, fault-stands}
+use Rattle.rules.proofs.Reading.Passing.{pass-in-range, pass-reads}
+use Rattle.rules.proofs.Reading.SameUse.{with-same, faults-same, judged-same}
+use Rattle.rules.proofs.Tables.TableBytes.{head-passes}
 use Rattle.book.specs.declared.Index.{Index}
 use Rattle.book.specs.Promise.{Indexed}
 use Rattle.table_check.specs.declared.walk.Walked.{Walked}

@@ -15,8 +15,8 @@ use Rattle.rules.specs.Book.{Book, flowCount, jobCount, flowOf, InRange}
 use Rattle.rules.specs.Service.{servedBefore}
 use Rattle.rules.specs.Rows.{Row}
 use Rattle.rules.specs.Check.{noRow, rowBefore, rises}
-use Rattle.rules.proofs.Caps.{used-in-range}
-use Rattle.rules.proofs.Division.{lt-or-ge}
+use Rattle.rules.proofs.Reading.Caps.{used-in-range}
+use Rattle.rules.proofs.Laws.Division.{lt-or-ge}
 use Rattle.table_check.specs.Tests.{serviceKey, placeOf, places, rowKey, leastKey}
 
 -- ---- pairs

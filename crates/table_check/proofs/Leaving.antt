@@ -13,8 +13,8 @@ use Rattle.rules.specs.Reading.{bookOf}
 use Rattle.rules.specs.Rows as rules
 use Rattle.rules.specs.Table.{rowAt}
 use Rattle.rules.specs.Check.{noRow, tableRows, rowFault}
-use Rattle.rules.proofs.Division.{lt-or-ge}
-use Rattle.rules.proofs.Faults.{fault-stop, not-pass}
+use Rattle.rules.proofs.Laws.Division.{lt-or-ge}
+use Rattle.rules.proofs.Laws.Faults.{fault-stop, not-pass}
 use Rattle.table_check.specs.declared.row.Row.{Row}
 use Rattle.table_check.specs.declared.row.Current.{Current}
 use Rattle.table_check.specs.Tests.{rowFrom}

@@ -16,10 +16,10 @@ use Rattle.rules.specs.Answers.{firstFault}
 use Rattle.rules.specs.Book.{Book, flowCount, jobCount, flowOf, jobOf, hasBit, InRange}
 use Rattle.rules.specs.Rows.{Row, usedIn, doneBefore, finishOf}
 use Rattle.rules.specs.Check.{noRow, rises, beforeRelease, lacksPredecessor, rowFault}
-use Rattle.rules.proofs.Walks.{any-ext}
-use Rattle.rules.proofs.Faults.{fault-pass}
-use Rattle.rules.proofs.Passing.{test-passed}
-use Rattle.rules.proofs.TablePasses.{in-book-of}
+use Rattle.rules.proofs.Laws.Walks.{any-ext}
+use Rattle.rules.proofs.Laws.Faults.{fault-pass}
+use Rattle.rules.proofs.Reading.Passing.{test-passed}
+use Rattle.rules.proofs.Tables.TablePasses.{in-book-of}
 use Rattle.table_check.specs.Tests.{rowKey, leastKey, earlyNumber, lateNumber, lacksAt}
 use Rattle.table_check.specs.Tally.{FlowTally}
 use Rattle.table_check.proofs.Keys.{KeyFits, key-fits, rises-key}

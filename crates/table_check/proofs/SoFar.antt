@@ -15,12 +15,12 @@ use Rattle.rules.specs.Answers.{firstFault}
 use Rattle.rules.specs.Book.{Book, InRange}
 use Rattle.rules.specs.Rows.{Row, sumWhere, usedIn, isOf, totalOf, doneBefore, finishOf}
 use Rattle.rules.specs.Check.{noRow, rowFault}
-use Rattle.rules.proofs.Caps.{used-in-range}
-use Rattle.rules.proofs.Faults.{both-pass, fault-pass}
-use Rattle.rules.proofs.RowsSoFar.{total-last, done-last, finish-last}
-use Rattle.rules.proofs.RowSums.{done-le-total}
-use Rattle.rules.proofs.TablePasses.{RowPasses, row-passes}
-use Rattle.rules.proofs.AcceptedRows.{use-kept}
+use Rattle.rules.proofs.Reading.Caps.{used-in-range}
+use Rattle.rules.proofs.Laws.Faults.{both-pass, fault-pass}
+use Rattle.rules.proofs.Rows.RowsSoFar.{total-last, done-last, finish-last}
+use Rattle.rules.proofs.Rows.RowSums.{done-le-total}
+use Rattle.rules.proofs.Tables.TablePasses.{RowPasses, row-passes}
+use Rattle.rules.proofs.Tables.AcceptedRows.{use-kept}
 use Rattle.table_check.specs.Tests.{serviceKey, places, rowKey, leastKey}
 use Rattle.table_check.proofs.Keys.{KeyFits, key-fits, rises-key, key-slots, key-slots-less}
 

@@ -15,10 +15,10 @@ use Rattle.rules.specs.Answers.{firstFault}
 use Rattle.rules.specs.Book.{Book, flowOf, jobOf, precedes}
 use Rattle.rules.specs.Rows.{Row, isOf, totalOf, doneBefore, finishOf}
 use Rattle.rules.specs.Check.{noRow, beforeRelease, lacksPredecessor, rowFault}
-use Rattle.rules.proofs.Faults.{fault-pass}
-use Rattle.rules.proofs.RowSums.{sum-where-mono, sum-where-met, sum-where-take, finish-above}
-use Rattle.rules.proofs.Rising.{in-at}
-use Rattle.rules.proofs.TablePasses.{PredecessorsDone, RowPasses, row-passes, none-lacks}
+use Rattle.rules.proofs.Laws.Faults.{fault-pass}
+use Rattle.rules.proofs.Rows.RowSums.{sum-where-mono, sum-where-met, sum-where-take, finish-above}
+use Rattle.rules.proofs.Rows.Rising.{in-at}
+use Rattle.rules.proofs.Tables.TablePasses.{PredecessorsDone, RowPasses, row-passes, none-lacks}
 
 -- more rows and later slots: no less
 done-grows : (rows : List Row) (j f k s t : ℕ) → s ≤ t → doneBefore (take j rows) f k s ≤ doneBefore rows f k t

@@ -10,8 +10,8 @@ use Rattle.rules.specs.Book.{Book}
 use Rattle.rules.specs.Rows.{Row}
 use Rattle.rules.specs.Table.{tableHead, rowLength, rowAt}
 use Rattle.rules.specs.Check.{noRow, tableRows, tableHeadFault}
-use Rattle.rules.proofs.Walks.{list-length, list-at}
-use Rattle.rules.proofs.TableBytes.{head-passes}
+use Rattle.rules.proofs.Laws.Walks.{list-length, list-at}
+use Rattle.rules.proofs.Tables.TableBytes.{head-passes}
 use Rattle.table_check.specs.Tally.{rowsTo, Reached}
 
 pub rows-length : (b : Book) (s : List ℕ) → length (tableRows b s) ≡ (length s - tableHead b) / rowLength

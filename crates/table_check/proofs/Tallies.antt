@@ -15,11 +15,11 @@ use Rattle.rules.specs.Walks.{if_then_else_, sumTo}
 use Rattle.rules.specs.Limits.{slots}
 use Rattle.rules.specs.Book.{Book, flowCount, jobCount, flowOf, jobOf, InRange}
 use Rattle.rules.specs.Rows.{Row, isOf, totalOf, doneBefore, finishOf}
-use Rattle.rules.proofs.Caps.{used-in-range}
-use Rattle.rules.proofs.Division.{lt-or-ge}
-use Rattle.rules.proofs.Walks.{after-set}
-use Rattle.rules.proofs.RowsSoFar.{total-last, done-last, finish-last, done-is-total}
-use Rattle.rules.proofs.RowSums.{done-le-total, sum-schedule}
+use Rattle.rules.proofs.Reading.Caps.{used-in-range}
+use Rattle.rules.proofs.Laws.Division.{lt-or-ge}
+use Rattle.rules.proofs.Laws.Walks.{after-set}
+use Rattle.rules.proofs.Rows.RowsSoFar.{total-last, done-last, finish-last, done-is-total}
+use Rattle.rules.proofs.Rows.RowSums.{done-le-total, sum-schedule}
 use Rattle.table_check.specs.Tests.{readyAfter}
 use Rattle.table_check.specs.Tally.{FlowTally}
 use Rattle.table_check.proofs.SoFar.{finish-here}

@@ -18,8 +18,8 @@ use Rattle.rules.specs.Rows as rules
 use Rattle.rules.specs.Rows.{usedIn, totalOf, finishOf, workZero}
 use Rattle.rules.specs.Table.{rowAt}
 use Rattle.rules.specs.Check.{noRow, tableRows, tableHeadFault, rowFault}
-use Rattle.rules.proofs.Passing.{pass-in-range}
-use Rattle.rules.proofs.WorkArea.{used-pair}
+use Rattle.rules.proofs.Reading.Passing.{pass-in-range}
+use Rattle.rules.proofs.Rows.WorkArea.{used-pair}
 use Rattle.table_check.specs.declared.row.Row.{Row}
 use Rattle.table_check.specs.declared.row.Current.{Current}
 use Rattle.table_check.specs.declared.row.Tested.{Tested}

@@ -6,7 +6,7 @@ use mathlib.Core.Bool.{false}
 use Prim.Native.Nat.{_-_, _≤_}
 use Rattle.rules.specs.Walks.{anyTo}
 use Rattle.rules.specs.Calendar.{windowFault}
-use Rattle.rules.proofs.Walks.{any-true}
+use Rattle.rules.proofs.Laws.Walks.{any-true}
 use Rattle.calendar.proofs.Verdicts.{none-yet, none-more}
 use Rattle.calendar.proofs.any_window_fault.Statement.{statement}
 use Rattle.calendar.proofs.any_window_fault.Tie as tie

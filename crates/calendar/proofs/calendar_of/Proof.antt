@@ -7,19 +7,19 @@ use Prim.Native.Nat.{_+_, _*_, _-_, _≤_}
 use lib.ListN.{length}
 use Rattle.rules.specs.Fields.{byte}
 use Rattle.rules.specs.Calendar.{windowAt}
-use Rattle.rules.proofs.Passing.{calendar-passes}
+use Rattle.rules.proofs.Reading.Passing.{calendar-passes}
 use Rattle.book.proofs.Filled.{Filled, filled-none, filled-next}
-use Rattle.calendar.proofs.Read.{shut-read, again-read, windows-filled}
+use Rattle.calendar.proofs.Read.{shut-read, reopening-read, windows-filled}
 use Rattle.calendar.proofs.calendar_of.Statement.{statement}
 use Rattle.calendar.proofs.calendar_of.Tie as tie
 
 abbrev Inv-loop : tie.InvT-loop
-Inv-loop calendar count shut₀ again₀ k₀ shut again k =
+Inv-loop calendar count shut₀ reopening₀ k₀ shut reopening k =
     (count ≡ byte calendar 5) × (count ≤ 32) × (6 + 4 * count ≤ length calendar) × (k ≤ count)
-    × Filled (λ j v. v ≡ windowAt calendar j .shut) k shut₀ shut × Filled (λ j v. v ≡ windowAt calendar j .again) k again₀ again
+    × Filled (λ j v. v ≡ windowAt calendar j .shut) k shut₀ shut × Filled (λ j v. v ≡ windowAt calendar j .reopening) k reopening₀ reopening
 
 abbrev μ-loop : tie.MeasureT-loop
-μ-loop calendar count shut₀ again₀ k₀ shut again k = count - k
+μ-loop calendar count shut₀ reopening₀ k₀ shut reopening k = count - k
 
 shared-slice-read-wide : tie.Need-shared-slice-read-wide Inv-loop μ-loop
 shared-slice-read-wide c =
@@ -60,11 +60,11 @@ add-read16-2 c = search needs
 read16-requires-2 : tie.Need-read16-requires-2 Inv-loop μ-loop
 read16-requires-2 c κs = search needs
 
-mul-again : tie.Need-mul-again Inv-loop μ-loop
-mul-again c = search needs
+mul-reopening : tie.Need-mul-reopening Inv-loop μ-loop
+mul-reopening c = search needs
 
-array-write-again : tie.Need-array-write-again Inv-loop μ-loop
-array-write-again c = search needs
+array-write-reopening : tie.Need-array-write-reopening Inv-loop μ-loop
+array-write-reopening c = search needs
 
 add-k : tie.Need-add-k Inv-loop μ-loop
 add-k c = search needs
@@ -81,7 +81,7 @@ loop-again c =
       l .inv .2,
       omega arith,
       filled-next _ (l .k) _ _ (l .shut) (omega arith) (l .inv .4) (c .before .read16 .ensures ∙ shut-read s (l .k)),
-      filled-next _ (l .k) _ _ (l .again) (omega arith) (l .inv .5) (c .read162 .ensures ∙ again-read s (l .k)),
+      filled-next _ (l .k) _ _ (l .reopening) (omega arith) (l .inv .5) (c .read162 .ensures ∙ reopening-read s (l .k)),
     )
 
 returns : tie.Need-returns Inv-loop μ-loop
@@ -108,8 +108,8 @@ calendar-of-spec =
     mul-read16-2
     add-read16-2
     read16-requires-2
-    mul-again
-    array-write-again
+    mul-reopening
+    array-write-reopening
     add-k
     loop-less
     loop-again

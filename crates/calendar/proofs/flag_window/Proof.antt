@@ -10,10 +10,10 @@ use Rattle.calendar.proofs.flag_window.Statement.{statement}
 use Rattle.calendar.proofs.flag_window.Tie as tie
 
 abbrev Inv-loop : tie.InvT-loop
-Inv-loop flags₀ shut again slot₀ flags slot = (shut ≤ slot) × (slot ≤ again) × (length flags ≡ length flags₀) × FlaggedTo flags₀ shut slot flags
+Inv-loop flags₀ shut reopening slot₀ flags slot = (shut ≤ slot) × (slot ≤ reopening) × (length flags ≡ length flags₀) × FlaggedTo flags₀ shut slot flags
 
 abbrev μ-loop : tie.MeasureT-loop
-μ-loop flags₀ shut again slot₀ flags slot = again - slot
+μ-loop flags₀ shut reopening slot₀ flags slot = reopening - slot
 
 loop-holds : tie.Need-loop-holds Inv-loop μ-loop
 loop-holds c = let a = c .args in (search needs, search needs, search needs, flagged-none (a .flags .now) (a .shut))
@@ -43,7 +43,7 @@ returns : tie.Need-returns Inv-loop μ-loop
 returns c =
     let a = c .before .before .args in
     let l = c .before .loop in
-    let e : l .slot ≡ a .again = omega arith in
+    let e : l .slot ≡ a .reopening = omega arith in
     subst (λ (n : ℕ). FlaggedTo (a .flags .now) (a .shut) n (l .flags)) e (l .inv .3)
 
 pub flag-window-spec : {M : Type 1} → statement M

@@ -7,7 +7,7 @@ use mathlib.Core.List.{List}
 use Prim.Native.Nat.{ℕ, _+_, _*_, _-_, _≤_}
 use Rattle.rules.specs.Limits.{mostWindows, slots}
 use Rattle.rules.specs.Calendar.{Window, openBefore}
-use Rattle.rules.proofs.OpenSlots.{open-most}
+use Rattle.rules.proofs.Placing.OpenSlots.{open-most}
 use Rattle.calendar.specs.Held.{heldWindows}
 use Rattle.calendar.proofs.Windows.{firstWindows, first-all, count-most, shut-first}
 use Rattle.calendar.proofs.Limit.{Reached, reached-none, reached-next, reached-most, reached-all}

@@ -10,7 +10,7 @@ use Rattle.rules.specs.Limits.{mostWindows, mostReopening}
 use Rattle.rules.specs.Calendar.{Window, inWindow, isOpen}
 use Rattle.calendar.specs.Area.{openBy}
 use Rattle.calendar.specs.Held.{heldWindow}
-use Rattle.calendar.proofs.Windows.{firstWindows, none-shut, first-next, first-all, count-most, shut-first, again-most}
+use Rattle.calendar.proofs.Windows.{firstWindows, none-shut, first-next, first-all, count-most, shut-first, reopening-most}
 use Rattle.calendar.proofs.Flags.{unset-open}
 use Rattle.calendar.proofs.set_flags.Statement.{statement}
 use Rattle.calendar.proofs.set_flags.Tie as tie
@@ -51,7 +51,7 @@ flag-window-requires c κs =
     let entry = c .before .before .before .before .before .before in
     let l = c .before .before .before .before .loop in
     let x = entry .args .t2 in
-    (omega (arith, shut-first x (entry .pre .0) (l .k) (omega arith)), omega (arith, again-most x (entry .pre .0) (l .k) (omega arith)))
+    (omega (arith, shut-first x (entry .pre .0) (l .k) (omega arith)), omega (arith, reopening-most x (entry .pre .0) (l .k) (omega arith)))
 
 add-k : tie.Need-add-k Inv-loop μ-loop
 add-k c = search needs

@@ -10,7 +10,7 @@ use Rattle.rules.specs.Walks.{if_then_else_}
 use Rattle.rules.specs.Limits.{mostWindows, slots}
 use Rattle.rules.specs.Calendar.{Window, isOpen}
 use Rattle.calendar.specs.Area.{workOf}
-use Rattle.calendar.proofs.Windows.{first-all, count-most, shut-first, again-most}
+use Rattle.calendar.proofs.Windows.{first-all, count-most, shut-first, reopening-most}
 use Rattle.calendar.proofs.Area.{ShutTo, shut-none, shut-next}
 use Rattle.calendar.proofs.set_shut.Statement.{statement}
 use Rattle.calendar.proofs.set_shut.Tie as tie
@@ -45,7 +45,7 @@ set-window-requires c κs =
     let entry = c .before .before .before .before .before .before in
     let l = c .before .before .before .before .loop in
     let x = entry .args .t2 in
-    (omega (arith, shut-first x (entry .pre .0) (l .k) (omega arith)), omega (arith, again-most x (entry .pre .0) (l .k) (omega arith)), omega arith)
+    (omega (arith, shut-first x (entry .pre .0) (l .k) (omega arith)), omega (arith, reopening-most x (entry .pre .0) (l .k) (omega arith)), omega arith)
 
 add-k : tie.Need-add-k Inv-loop μ-loop
 add-k c = search needs

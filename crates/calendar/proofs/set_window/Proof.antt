@@ -13,10 +13,10 @@ use Rattle.calendar.proofs.set_window.Statement.{statement}
 use Rattle.calendar.proofs.set_window.Tie as tie
 
 abbrev Inv-loop : tie.InvT-loop
-Inv-loop work₀ shut again value t₀ work t = (shut ≤ t) × (t ≤ again) × (length work ≡ length work₀) × WindowTo slots value work₀ shut t work
+Inv-loop work₀ shut reopening value t₀ work t = (shut ≤ t) × (t ≤ reopening) × (length work ≡ length work₀) × WindowTo slots value work₀ shut t work
 
 abbrev μ-loop : tie.MeasureT-loop
-μ-loop work₀ shut again value t₀ work t = again - t
+μ-loop work₀ shut reopening value t₀ work t = reopening - t
 
 loop-holds : tie.Need-loop-holds Inv-loop μ-loop
 loop-holds c = let a = c .before .args in (omega arith, c .before .pre .0, refl, window-none slots (a .value) (a .work .now) (a .shut))
@@ -53,7 +53,7 @@ returns : tie.Need-returns Inv-loop μ-loop
 returns c =
     let a = c .before .before .before .args in
     let l = c .before .loop in
-    let e : l .t ≡ a .again = omega arith in
+    let e : l .t ≡ a .reopening = omega arith in
     subst (λ (n : ℕ). WindowTo slots (a .value) (a .work .now) (a .shut) n (l .work)) e (l .inv .3)
 
 pub set-window-spec : {M : Type 1} → statement M

@@ -4,7 +4,7 @@ use Prim.Native.Nat.{ℕ, _-_, _≤_, _<_}
 use native.Mathlib.Numerals.{add-one}
 use native.Mathlib.Omega.{arith}
 use lib.ListN.{getD}
-use Rattle.rules.proofs.Walks.{last-or}
+use Rattle.rules.proofs.Laws.Walks.{last-or}
 use Rattle.chain.proofs.skip_ended.Statement.{statement}
 use Rattle.chain.proofs.skip_ended.Tie as tie
 

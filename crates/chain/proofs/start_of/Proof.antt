@@ -8,7 +8,7 @@ use native.Mathlib.Omega.{arith}
 use lib.Bits.{and-le-l, and-le-r}
 use lib.Count.{trailing-le}
 use Rattle.chain.specs.Jobs.{startAmong}
-use Rattle.rules.proofs.Bits.{no-bit-left}
+use Rattle.rules.proofs.Laws.Bits.{no-bit-left}
 use Rattle.chain.proofs.Lowest.{lowest}
 use Rattle.chain.proofs.Starts.{start-none, start-lowest}
 use Rattle.chain.proofs.start_of.Statement.{statement}

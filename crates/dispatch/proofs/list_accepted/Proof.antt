@@ -8,8 +8,8 @@ use Rattle.rules.specs.Answers.{listAccepted}
 use Rattle.rules.specs.Book.{flowCount}
 use Rattle.rules.specs.Reading.{bookOf}
 use Rattle.rules.specs.Dispatch.{listLength, listBytes, DispatchOutcome}
-use Rattle.rules.proofs.Passing.{flow-count, book-passes}
-use Rattle.rules.proofs.Dispatches.{rows-listed, rows-too-long}
+use Rattle.rules.proofs.Reading.Passing.{flow-count, book-passes}
+use Rattle.rules.proofs.Demands.Dispatches.{rows-listed, rows-too-long}
 use Rattle.dispatch.specs.Merge.{rowsOf}
 use Rattle.dispatch.proofs.Tables.{rows-fill, size-of-table}
 use Rattle.dispatch.proofs.Calls.{size-of-list}

@@ -7,7 +7,7 @@ use Rattle.rules.specs.declared.Verdict.the-variants.{Pass}
 use Rattle.rules.specs.Calendar.{calendarFault}
 use Rattle.rules.specs.Book.{flowCount}
 use Rattle.rules.specs.Reading.{bookOf, bookFault}
-use Rattle.rules.proofs.Passing.{flow-count, book-passes, calendar-pass-in-range}
+use Rattle.rules.proofs.Reading.Passing.{flow-count, book-passes, calendar-pass-in-range}
 use Rattle.finish.proofs.Call.{call-refused, call-unknown, call-refused-calendar, call-short, call-placed, leaves, leaves-placed}
 use Rattle.finish.proofs.finish_flow.Statement.{statement}
 use Rattle.finish.proofs.finish_flow.Tie as tie

@@ -6,8 +6,8 @@ use mathlib.Core.List.{[]}
 use lib.ListN.{length}
 use native.Mathlib.Omega.{arith}
 use borrow.Author.Needs.{needs}
-use Rattle.rules.proofs.Passing.{pass-in-range}
-use Rattle.rules.proofs.SameUse.{with-same, position-same}
+use Rattle.rules.proofs.Reading.Passing.{pass-in-range}
+use Rattle.rules.proofs.Reading.SameUse.{with-same, position-same}
 use Rattle.calendar.specs.Held.{heldWindows}
 use Rattle.place.specs.Order.{shutRows, Asked}
 use Rattle.place.proofs.FlowByFlow.{in-array, asked-up-to, maintenance-held, asked-beside}
@@ -17,7 +17,7 @@ use Rattle.rules.specs.Book.{Book, withCalendar, flowCount}
 use Rattle.rules.specs.Reading.{bookOf}
 use Rattle.rules.specs.Rows.{workUsed}
 use Rattle.rules.specs.Finish.{upToNamed}
-use Rattle.rules.proofs.Position.{position-below}
+use Rattle.rules.proofs.Reading.Position.{position-below}
 use Rattle.book.proofs.Served.{index-deadlines}
 use Rattle.finish.proofs.finish_passing.Statement.{statement}
 use Rattle.finish.proofs.finish_passing.Tie as tie

@@ -3,7 +3,7 @@ use mathlib.Core.Path.{_≡_, refl}
 use Prim.Native.Nat.{ℕ, _-_, _≤_, _<_}
 use lib.ListN.{length, getD, length-set}
 use lib.Seq.{getD-set-same, getD-set-other}
-use Rattle.rules.proofs.Walks.{last-or}
+use Rattle.rules.proofs.Laws.Walks.{last-or}
 use Rattle.place.specs.Service.{Packs}
 use borrow.Author.Needs.{needs}
 use native.Mathlib.Nat.{not-suc-le-zero}

@@ -8,7 +8,7 @@ use Rattle.rules.specs.Book.{Book, withCalendar, flowOf}
 use Rattle.rules.specs.Reading.{bookOf}
 use Rattle.rules.specs.Rows.{Row}
 use Rattle.rules.specs.Placing.{slotsFor}
-use Rattle.rules.proofs.Passing.{calendar-of-book}
+use Rattle.rules.proofs.Reading.Passing.{calendar-of-book}
 use Rattle.calendar.specs.declared.Calendar.{Calendar}
 use Rattle.calendar.specs.Held.{heldWindows}
 use Rattle.place.specs.declared.Placed.{Placed}

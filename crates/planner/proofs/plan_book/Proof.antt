@@ -3,7 +3,7 @@ use mathlib.Core.Path.{_≡_, refl, sym, _∙_}
 use Rattle.rules.specs.declared.Verdict.the-variants.{Pass}
 use Rattle.rules.specs.Calendar.{calendarFault}
 use Rattle.rules.specs.Reading.{bookFault}
-use Rattle.rules.proofs.Passing.{calendar-pass-in-range}
+use Rattle.rules.proofs.Reading.Passing.{calendar-pass-in-range}
 use Rattle.planner.proofs.Outcome.{leaves, call-refused, call-refused-calendar, call-short, leaves-passing}
 use native.Mathlib.Omega.{arith}
 use borrow.Author.Needs.{needs}

@@ -2,7 +2,7 @@
 use mathlib.Core.Path.{refl, ap, _∙_}
 use mathlib.Core.List.{List}
 use Rattle.rules.specs.Calendar.{Window, isOpen}
-use Rattle.rules.proofs.Passing.{calendar-pass-in-range}
+use Rattle.rules.proofs.Reading.Passing.{calendar-pass-in-range}
 use Rattle.table_check.proofs.Judging.{judged-by}
 use borrow.Author.Needs.{needs}
 use Rattle.table_check.proofs.judge_with.Statement.{statement}

@@ -1,6 +1,6 @@
 -- `bytes::read32` meets its contract. A field of four bytes is two fields of two (`field-add`). Assumes nothing.
 use native.Mathlib.Omega.{arith}
-use Rattle.rules.proofs.Fields.{field-add}
+use Rattle.rules.proofs.Laws.Fields.{field-add}
 use borrow.Author.Needs.{needs}
 use Rattle.book.proofs.bytes.read32.Statement.{statement}
 use Rattle.book.proofs.bytes.read32.Tie as tie

@@ -3,7 +3,7 @@ use mathlib.Core.Path.{_≡_, ap}
 use Prim.Native.Nat.{ℕ, _+_}
 use native.Mathlib.Omega.{arith}
 use Rattle.rules.specs.Fields.{field}
-use Rattle.rules.proofs.Fields.{field-add}
+use Rattle.rules.proofs.Laws.Fields.{field-add}
 use borrow.Author.Needs.{needs}
 use Rattle.book.proofs.bytes.read64.Statement.{statement}
 use Rattle.book.proofs.bytes.read64.Tie as tie

@@ -3,7 +3,7 @@ use mathlib.Core.Path.{_≡_, sym, ap, _∙_}
 use Prim.Native.Nat.{_+_, _-_, _≤_}
 use lib.ListN.{getD}
 use Rattle.rules.specs.Walks.{bit}
-use Rattle.rules.proofs.Sums.{bit-most}
+use Rattle.rules.proofs.Laws.Sums.{bit-most}
 use Rattle.book.specs.Late.{lateBy, lateCount}
 use Rattle.book.proofs.LateFlows.{late-none, late-next}
 use borrow.Author.Needs.{needs}

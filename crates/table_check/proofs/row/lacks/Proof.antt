@@ -1,6 +1,6 @@
 -- `table_check::row::lacks` meets its contract: the lowest bit is the rest by 2. Assumes nothing.
 use borrow.Author.Tests.{eq-eqb, ne-eqb}
-use Rattle.rules.proofs.Bits.{lowest-bit}
+use Rattle.rules.proofs.Laws.Bits.{lowest-bit}
 use Rattle.table_check.specs.Tests.{lacksAt}
 use Rattle.table_check.proofs.row.lacks.Statement.{statement}
 use Rattle.table_check.proofs.row.lacks.Tie as tie

@@ -1,0 +1,21 @@
+-- Demand 2, first half: where the planner answers 0, it writes the table of the plan, row for row, and answers with its length and its late flows.
+-- Of the cases of a call only that of the written table answers so. Assumes nothing.
+use mathlib.Core.Path.{_≡_, refl}
+use Prim.Native.Nat.{ℕ}
+use mathlib.Core.List.{List}
+use native.Mathlib.Omega.{arith}
+use Rattle.rules.specs.Book.{Book}
+use Rattle.rules.specs.Planner.{PlanOutcome}
+use Rattle.rules.specs.Demands.Planner.{WritesPlan, PlansByTheRules}
+use Rattle.rules.proofs.Calls.CallCases.{PlanCase, short-11, stopped-12, long-13, written-0, call-case}
+
+pub writes-plan : {b : Book} {out area : List ℕ} {o : PlanOutcome} → PlanCase b out area o → o .answer .number ≡ 0 → WritesPlan b out o
+writes-plan (short-11 h) z = absurd (omega arith)
+writes-plan (stopped-12 h f e) z = absurd (omega arith)
+writes-plan (long-13 h rows e l) z = absurd (omega arith)
+writes-plan (written-0 h rows e l) z = record { all-placed = rw e refl; table = rw e refl; late-flows = rw e refl; table-length = rw e refl }
+
+-- "row for row"
+pub plans-by-the-rules : PlansByTheRules
+unfolding PlansByTheRules
+plans-by-the-rules book calendar out area b e = writes-plan (call-case book calendar out area b e)

@@ -1,0 +1,32 @@
+-- Which books pass, and what a version 1 book and a cap above P mean, in every call. Assumes nothing.
+use mathlib.Core.Path.{_≡_}
+use Prim.Native.Nat.{ℕ, _≤_, _<_}
+use mathlib.Core.List.{List}
+use Rattle.rules.specs.Book.{Book, flowCount, flowIn, flowOf, lowered, jobOf}
+use Rattle.rules.specs.Reading.{versionOf, read, readBook, bookBytes}
+use Rattle.rules.specs.Planner.{planCall}
+use Rattle.rules.specs.Check.{checkCall}
+
+-- ---- "a version 1 book means release 0" (02, Req 01)
+
+-- every release is 0, and the outcome is that of the version 2 book with these values: answer, output and work area
+pub record AsVersion2 (book calendar : List ℕ) (b : Book) : Type 0 where
+  pub release-zero : (f : ℕ) → f < flowCount b → flowOf b f .release ≡ 0
+  pub same-plan : (out area : List ℕ) → planCall book calendar out area ≡ planCall (bookBytes 2 b) calendar out area
+  pub same-check : (table area : List ℕ) → checkCall book calendar table area ≡ checkCall (bookBytes 2 b) calendar table area
+
+unfoldable pub Version1Kept : Type 0
+Version1Kept = (book calendar : List ℕ) (b : Book) → readBook book calendar ≡ read b → versionOf book ≡ 1 → AsVersion2 book calendar b
+
+-- ---- "A cap above P, up to 65,535, shall count as P wherever a cap is read" (02, Req 02)
+
+-- the same book with each cap lowered to P is a book too, and has the same outcome: answer, output and work area
+pub record AsLowered (book calendar : List ℕ) (b : Book) : Type 0 where
+  pub lowered-reads : readBook (bookBytes (versionOf book) (lowered b)) calendar ≡ read (lowered b)
+  pub same-plan : (out area : List ℕ) → planCall book calendar out area ≡ planCall (bookBytes (versionOf book) (lowered b)) calendar out area
+  pub same-check : (table area : List ℕ) → checkCall book calendar table area ≡ checkCall (bookBytes (versionOf book) (lowered b)) calendar table area
+
+pub record CapsLowered : Type 0 where
+  pub as-lowered : (book calendar : List ℕ) (b : Book) → readBook book calendar ≡ read b → AsLowered book calendar b
+  -- caps at or below P are untouched: where no cap is above P, each flow is used as it stands in the book
+  pub untouched : (b : Book) → ((f i : ℕ) → jobOf (flowIn b f) i .cap ≤ b .processors) → (f : ℕ) → flowOf b f ≡ flowIn b f
