@@ -1,10 +1,15 @@
-// Reads a book from standard input and prints the plan. What is printed for an input is proved; only the read and the write are not.
+// Reads a book from standard input and prints the plan. `put_answer` is proved to put the text that the rules give for
+// its input. `main`, which reads, calls it and writes, has no contract: it is proved to be safe and to end, and nothing
+// says what it reads or writes. A read that fails counts as the end of the input; a book states its length, so one that
+// is cut short by it is turned down by 1. A write that fails is told in a line on standard error. The exit status is 0
+// in either case: a Rattle program cannot set it.
 ghost use mathlib.Core.Path.{_≡_};
 ghost use Prim.Native.Nat.{_≤_};
 ghost use lib.ListN.{length};
 ghost use Rattle.rules.specs.Limits.{workBytes};
 ghost use Rattle.plan_text.specs.Put.{Put};
 ghost use Rattle.plan_text.specs.Printed.{lentBytes, textBytes, printed, Prints};
+use libc::STDERR_FILENO;
 use libc::STDOUT_FILENO;
 use plan_text::lines;
 use rules::PlanAnswer;
@@ -44,11 +49,18 @@ fn text_buffer() -> [u8; 720896] {
     [0u8; 720896]
 }
 
+// Writes the text, or says on standard error that it could not.
+fn write_text(text: &[u8]) {
+    if !io::write_all(STDOUT_FILENO, text) {
+        io::write_all(STDERR_FILENO, b"plan: could not write the whole answer\n");
+    }
+}
+
 // One byte more than a book may have tells a longer input.
 fn main() {
     let mut input = [0u8; 65537];
     let mut text = text_buffer();
     let read = io::read_full(0, &mut input);
     let written = put_answer(&input[..read], &mut text);
-    io::write_all(STDOUT_FILENO, &text[..written]);
+    write_text(&text[..written]);
 }
