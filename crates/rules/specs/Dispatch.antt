@@ -23,7 +23,7 @@ listedBefore q r =
     ltb (q .slot) (r .slot)
     || eqb (q .slot) (r .slot) && (ltb (q .flow) (r .flow) || eqb (q .flow) (r .flow) && ltb (q .job) (r .job))
 
--- row r put into its place among rows in this order
+-- row r put where it belongs among rows in this order
 unfoldable pub insertRow : Row → List Row → List Row
 insertRow r [] = r ∷ []
 insertRow r (q ∷ qs) = if listedBefore q r then q ∷ insertRow r qs else r ∷ q ∷ qs

@@ -303,7 +303,7 @@ module _ (w : Flow) (p : PseudoJob) where
           rw (first, second, ← share-in-slot i (y - rate w p) inside, add-comm (takeOf w i (p .first)) (shareUpTo w p i (y - rate w p)))
           (sym (ap (shareUpTo w p i) q) ∙ share-up-to-round i (y - rate w p) pos)
 
-  -- without division: the n units from place o = x % rate on, against the job's units in this slot of the run and in the next
+  -- without division: the n units from number o = x % rate on, against the job's units in this slot of the run and in the next
   pub share-overlap : (i x n : ℕ) → 0 < rate w p → x + n ≤ work w p → n ≤ rate w p → i < jobCount w →
       share w p i x n ≡ min (x % rate w p + n) (offset w p i + takeOf w i (p .first)) - max (x % rate w p) (offset w p i) +
       (min (x % rate w p + n) (offset w p i + rate w p + takeOf w i (p .first)) - max (x % rate w p) (offset w p i + rate w p))

@@ -323,7 +323,7 @@ module _ (book calendar : List â„•) (b : Book) (reads : readBook book calendar â
         let w = stopped-proves b range many g fits s in
         record {
           in-book = w .0;
-          up-to-named = rw (s .served) at (up-to-at b range (position b f) f fits named (s .place) (s .place-below));
+          up-to-named = rw (s .served) at (up-to-at b range (position b f) f fits named (s .position-at) (s .position-below));
           none-on-time = w .1;
         }
 

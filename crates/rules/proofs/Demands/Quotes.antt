@@ -42,7 +42,7 @@ use Rattle.rules.proofs.Calls.WrittenPlans.{written-finish}
 use Rattle.rules.proofs.Calls.CallCases.{call-case, plan-number-13}
 use Rattle.rules.proofs.Demands.Finishes.{answered-holds}
 
--- the work up to the flow at place n is that of the flows at the places up to it
+-- the work up to the flow at position n is that of the flows at the positions up to it
 pub work-served : (b : Book) (n : ℕ) → n < flowCount b → workUpTo b (servedAt b n) ≡ sumTo (λ k. workOf (servedFlow b k)) (suc n)
 unfolding workUpTo
 work-served b n l = ap (λ m. sumTo (λ k. workOf (servedFlow b k)) (suc m)) (position-served b n l)

@@ -171,7 +171,7 @@ sum-one f (suc n) k l h = go (eq-or-lt-of-le (le-of-suc-le-suc l)) (λ q. sum-on
     go (inl e) ih = omega (arith, ap f e, sum-nothing f n (λ i b. h i (omega arith) (λ (q : i ≡ k). omega arith)))
     go (inr q) ih = omega (arith, ih q, h n (omega arith) (λ (e : n ≡ k). omega arith))
 
--- terms at places that differ are part of the whole sum
+-- terms at indices that differ are part of the whole sum
 pub sum-distinct : (f at : ℕ → ℕ) (m n : ℕ) → ((k : ℕ) → k < m → at k < n) → ((j k : ℕ) → j < m → k < m → at j ≡ at k → j ≡ k) →
     sumTo (λ k. f (at k)) m ≤ sumTo f n
 sum-distinct f at zero n below once = unfold sumTo in omega arith

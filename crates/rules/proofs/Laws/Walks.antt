@@ -23,7 +23,7 @@ pub or-cases : (p q : Bool) → (p || q) ≡ true → (p ≡ true) ⊎ (q ≡ tr
 or-cases true q e = inl refl
 or-cases false q e = inr e
 
--- what holds of the value that is set at place n, and of the values before at the other places, holds of each value after
+-- what holds of the value that is set at index n, and of the values before at the other ones, holds of each value after
 pub after-set : (X : ℕ → ℕ → Type 0) (l : List ℕ) (n v : ℕ) → n < length l → X n v → ((i : ℕ) → (i ≡ n → ⊥) → X i (getD l i 0)) → (i : ℕ) → X i (getD (set l n v) i 0)
 after-set X l n v room here others i = go (eqb i n) refl
   where

@@ -32,7 +32,7 @@ use Rattle.rules.proofs.Placing.PlannedRows.{servedFlow, freeFor, Stopp
 use Rattle.rules.proofs.Placing.PlannedValid.{range-at, sized-at, used-within-work}
 
 module _ (b : Book) (range : InRange b) where
-  -- in a slot that the flow at a place can use, the processors free for it and those that the flows before it use are P
+  -- in a slot that the flow at a position can use, the processors free for it and those that the flows before it use are P
   pub free-or-used : (n : ℕ) (earlier : List Row) → placeFirst b n ≡ planned earlier → (t : ℕ) → usable b (servedFlow b n) t ≡ true →
       b .processors ≤ usedIn earlier t + freeFor b n t
   free-or-used n earlier e t u = rw e (omega (arith, free-usable b (servedAt b n) earlier t u))
@@ -52,7 +52,7 @@ module _ (b : Book) (range : InRange b) where
           go true = refl
           go false = q
 
-  -- ---- a schedule of the flows up to f, at place n, that ends each by its deadline
+  -- ---- a schedule of the flows up to f, at position n, that ends each by its deadline
   module _ (n f : ℕ) (below : n < flowCount b) (at : servedAt b n ≡ f) (σ : Schedule) (valid : Valid b (upTo b f) σ)
       (on-time : (g : ℕ) → g < flowCount b → upTo b f g ≡ true → EndsBy σ g (flowOf b g .deadline)) where
     is-job : (m i : ℕ) → m < suc n → i < jobCount (servedFlow b m) → IsJob b (upTo b f) (servedAt b m) i
@@ -82,7 +82,7 @@ module _ (b : Book) (range : InRange b) where
     pub sequence-on-time : OnTime (b .processors) (suc n) (servedFlow b) (λ m. usable b (servedFlow b m)) (λ m. servedFlow b m .deadline) (λ m. σ (servedAt b m))
     sequence-on-time = record { keeps = keeps-rules; load = shares-load; complete = ends-complete }
 
-  -- the flow at place n, with work left after twice the open slots before its deadline
+  -- the flow at position n, with work left after twice the open slots before its deadline
   none-on-time : (n : ℕ) (earlier : List Row) → n < flowCount b → placeFirst b n ≡ planned earlier →
       0 < unitsLeftAt (servedFlow b n) (freeFor b n) (slotsFor b (servedFlow b n)) → NoneOnTime b (servedAt b n)
   unfolding NoneOnTime
@@ -104,8 +104,8 @@ module _ (b : Book) (range : InRange b) where
   -- a flow that stops the placing
   pub stopped-proves : (m f : ℕ) → m ≤ flowCount b → Stopped b m f → (f < flowCount b) × NoneOnTime b f
   stopped-proves m f h s =
-      let n = s .place in
-      let below : n < flowCount b = omega (arith, s .place-below) in
+      let n = s .position-at in
+      let below : n < flowCount b = omega (arith, s .position-below) in
       let left : 0 < unitsLeftAt (servedFlow b n) (freeFor b n) (slotsFor b (servedFlow b n)) =
       something-left (servedFlow b n) (freeFor b n) (chain-live (servedFlow b n) (sized-at b range n below)) (slotsFor b (servedFlow b n)) (s .not-finished) in
       (rw (s .served) at (service-below b n below), rw (s .served) at (none-on-time n (s .earlier) below (s .placed-before) left))

@@ -55,7 +55,7 @@ no-rows-yet w f free n none =
     (λ t l. rw (none (0 + t) (omega arith)) (no-slot-rows w f (0 + t) (progress w free (0 + t) .left) (progress w free (0 + t) .done)))
 
 -- ---- flows one after the other
--- the flow at place n of the service order, as it is used
+-- the flow at position n of the service order, as it is used
 abbrev pub servedFlow : Book → ℕ → Flow
 servedFlow b n = flowOf b (servedAt b n)
 
@@ -63,14 +63,14 @@ servedFlow b n = flowOf b (servedAt b n)
 abbrev pub freeFor : Book → ℕ → ℕ → ℕ
 freeFor b n = freeProcessors b (servedAt b n) (rowsOf (placeFirst b n))
 
--- what job i of the flow at place n gets in slot t, and its rows
+-- what job i of the flow at position n gets in slot t, and its rows
 abbrev pub plannedShare : Book → ℕ → ℕ → ℕ → ℕ
 plannedShare b n = shareIn (servedFlow b n) (freeFor b n)
 
 unfoldable pub plannedGrid : Book → ℕ → List Row
 plannedGrid b n = flowGrid (servedAt b n) (jobCount (servedFlow b n)) (slotsFor b (servedFlow b n)) (plannedShare b n)
 
--- the flow at place n has no pseudo-job left after its slots
+-- the flow at position n has no pseudo-job left after its slots
 abbrev pub Finished : Book → ℕ → Type 0
 Finished b n = progress (servedFlow b n) (freeFor b n) (slotsFor b (servedFlow b n)) .left ≡ []
 
@@ -113,12 +113,12 @@ placed-next b k rows e = go (placeFirst b k) refl e
 
 -- the flow at which the placing stops
 pub record Stopped (b : Book) (m f : ℕ) : Type 0 where
-  pub place : ℕ
-  pub place-below : place < m
-  pub served : servedAt b place ≡ f
+  pub position-at : ℕ
+  pub position-below : position-at < m
+  pub served : servedAt b position-at ≡ f
   pub earlier : List Row
-  pub placed-before : placeFirst b place ≡ planned earlier
-  pub not-finished : Finished b place → ⊥
+  pub placed-before : placeFirst b position-at ≡ planned earlier
+  pub not-finished : Finished b position-at → ⊥
 
 pub placing-stops : (b : Book) (m f : ℕ) → placeFirst b m ≡ infeasible f → Stopped b m f
 unfolding placeFirst
@@ -128,11 +128,11 @@ placing-stops b (suc k) f e = go (placeFirst b k) refl e (placing-stops b k f)
     go : (q : Plan) → placeFirst b k ≡ q → thenPlace q (placeFlow b (servedAt b k)) ≡ infeasible f → (placeFirst b k ≡ infeasible f → Stopped b k f) → Stopped b (suc k) f
     go (infeasible g) z d ih =
         let s = ih (z ∙ d) in
-        record { place = s .place; place-below = omega (arith, s .place-below); served = s .served; earlier = s .earlier; placed-before = s .placed-before; not-finished = s .not-finished }
+        record { position-at = s .position-at; position-below = omega (arith, s .position-below); served = s .served; earlier = s .earlier; placed-before = s .placed-before; not-finished = s .not-finished }
     go (planned earlier) z d ih =
         let s = settled-infeasible (servedAt b k) f (progress (servedFlow b k) (freeProcessors b (servedAt b k) earlier) (slotsFor b (servedFlow b k)) .left)
         (earlier ++ flowRows (servedFlow b k) (servedAt b k) (freeProcessors b (servedAt b k) earlier) (slotsFor b (servedFlow b k))) (unfold placeFlow in d) in
-        record { place = k; place-below = lt-suc-self k; served = s .1; earlier = earlier; placed-before = z; not-finished = rw z (s .0) }
+        record { position-at = k; position-below = lt-suc-self k; served = s .1; earlier = earlier; placed-before = z; not-finished = rw z (s .0) }
 
 -- ---- the rows of the first k flows
 pub placed-rows : (b : Book) (k : ℕ) (rows : List Row) → placeFirst b k ≡ planned rows → rows ≡ joinFrom (plannedGrid b) k 0

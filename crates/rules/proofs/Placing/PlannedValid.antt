@@ -200,8 +200,8 @@ module _ (b : Book) (range : InRange b) where
               )
           go (inr d) = flow-ends i t d
 
-    at-no-place : (f : ℕ) → amongFirst b k f ≡ false → (n : ℕ) → n < k → servedAt b n ≡ f → ⊥
-    at-no-place f c n l q = false≢true (sym c ∙ (rw q at (position-among b k n l)))
+    at-no-position : (f : ℕ) → amongFirst b k f ≡ false → (n : ℕ) → n < k → servedAt b n ≡ f → ⊥
+    at-no-position f c n l q = false≢true (sym c ∙ (rw q at (position-among b k n l)))
 
     -- what holds of each flow placed, and trivially of the others, holds of all
     by-flow : (X : ℕ → Type 0) → ((n : ℕ) → n < k → X (servedAt b n)) → ((f : ℕ) → ((i t : ℕ) → scheduleOf rows f i t ≡ 0) → amongFirst b k f ≡ false → X f) →
@@ -210,7 +210,7 @@ module _ (b : Book) (range : InRange b) where
       where
         go : (c : Bool) → amongFirst b k f ≡ c → X f
         go true q = let m = among-position b k f q in subst X (m .2) (own (m .0) (m .1))
-        go false q = other f (λ i t. states-nothing b k rows e f i t (at-no-place f q)) q
+        go false q = other f (λ i t. states-nothing b k rows e f i t (at-no-position f q)) q
 
     -- each row is one of a flow placed
     pub first-rows-fit : (r : Row) → r ∈ rows → RowFits b r

@@ -1,5 +1,5 @@
 -- Values in range, written as a book of version 1 or 2, are read back as they are: the bytes pass every test, and stand for the same values.
--- Each part of the encoding stands in it at the place where the reading looks for it; a field reads what was written there. Assumes nothing.
+-- Each part of the encoding stands in it at the offset where the reading looks for it; a field reads what was written there. Assumes nothing.
 use mathlib.Core.Path.{_≡_, refl, sym, ap, subst, _∙_}
 use mathlib.Core.Logic.{inl, inr}
 use Prim.Native.Nat.{ℕ, zero, suc, _+_, _*_, _^_, _≤_, _<_}
@@ -91,10 +91,10 @@ module _ (v : ℕ) (w : Flow) (s : List ℕ) (at : ℕ) (r : FlowInRange mostCap
   pub job-count-read : jobsAt s at ≡ jobCount w
   unfolding jobsAt
   job-count-read =
-      let place : at + (2 + releaseSize v) ≡ at + 2 + releaseSize v = omega arith in
+      let offset : at + (2 + releaseSize v) ≡ at + 2 + releaseSize v = omega arith in
       rw version
       (byte-written (jobCount w) s (at + 2 + releaseSize v) (omega (arith, r .jobs-most))
-      (rw place at (stands-after s at (2 + releaseSize v) (deadline ++ release) count (simp (length-append, bytes-length)) head-stands)))
+      (rw offset at (stands-after s at (2 + releaseSize v) (deadline ++ release) count (simp (length-append, bytes-length)) head-stands)))
 
   -- job i stands where the reading looks for it
   pub job-stands : (i : ℕ) → i < jobCount w → StandsAt s (jobStart s at i) (jobBytes (jobOf w i))

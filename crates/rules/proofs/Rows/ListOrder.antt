@@ -1,6 +1,6 @@
 -- The order of the dispatch list (02, Req 03): rows by slot, flow number and job.
--- The test of two rows says the order, as in the table's. A row put into its place is counted once, so the list has each row as often as the table, as
--- many rows and the same sums. Of two rows that differ in slot, flow or job one comes before the other, so putting rows into their places one by one
+-- The test of two rows says the order, as in the table's. A row put where it belongs is counted once, so the list has each row as often as the table, as
+-- many rows and the same sums. Of two rows that differ in slot, flow or job one comes before the other, so putting rows where they belong one by one
 -- gives rising order; rows that rise in the table's order differ so. Assumes nothing.
 use mathlib.Core.Path.{_≡_, refl, sym, subst}
 use mathlib.Core.Logic.{_⊎_, inl, inr, ⊎-elim}

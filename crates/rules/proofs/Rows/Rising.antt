@@ -1,6 +1,6 @@
 -- Lists in strictly rising order, over any order of their elements: each element comes before all that stand after it.
 -- Lists that are joined rise where each of them rises and its elements come before those of the later ones. Two rising lists with the same
--- elements are equal: the first of each is in the other, so neither can come before the other. An element that is put into its place keeps a list
+-- elements are equal: the first of each is in the other, so neither can come before the other. An element that is put where it belongs keeps a list
 -- rising. Assumes nothing.
 use mathlib.Core.Path.{_≡_, refl, sym, ap, _∙_, subst}
 use mathlib.Core.Logic.{_⊎_, inl, inr, ⊎-elim}
@@ -70,7 +70,7 @@ module _ {A : Type 0} (Before : A → A → Type 0) where
   rising-after [] ys p = p
   rising-after (x ∷ xs) ys p = rising-after xs ys (p .1)
 
-  -- of two places the earlier one comes before the later one
+  -- of two positions the earlier one comes before the later one
   pub rising-at : (xs : List A) (d : A) → Rising xs → (m n : ℕ) → m < n → n < length xs → Before (getD xs m d) (getD xs n d)
   unfolding Rising
   rising-at [] d h m n l k = absurd (not-suc-le-zero k)
@@ -112,7 +112,7 @@ module _ {A : Type 0} (Before : A → A → Type 0) where
         beyond {u} {v} {z} h e m (inl d) = let b : Before u u = subst (λ w. Before u w) (d ∙ sym e) (h z m) in absurd (asymmetric u u b b)
         beyond h e m (inr l) = l
 
--- ---- elements put into their places, one after another
+-- ---- elements put where they belong, one after another
 -- an element is put behind those that a test says come before it
 pub record Inserts {A : Type 0} (before : A → A → Bool) (insert : A → List A → List A) : Type 0 where
   pub first : (x : A) → insert x [] ≡ x ∷ []

@@ -71,7 +71,7 @@ use-kept b opened rows t (suc k) l pass =
 
 -- ---- rows that pass are those of a valid schedule
 module _ (b : Book) (range : InRange b) (rows : List Row) (pass : RowsPass b rows) where
-  -- what is said of every place of the list is said of every row
+  -- what is said of every position of the list is said of every row
   row-at : {r : Row} → r ∈ rows → (k : ℕ) × RowPasses b (isOpen (b .calendar)) rows k × (getD rows k noRow ≡ r)
   row-at m = let w = in-at noRow m in (w .0, pass .each-row (w .0) (w .1), w .2)
 

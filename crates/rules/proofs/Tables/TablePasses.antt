@@ -101,14 +101,14 @@ pub row-passes : (b : Book) (opened : ℕ → Bool) (rows : List Row) (k : ℕ) 
 unfolding rowFault beforeRelease
 row-passes b opened rows k pass =
     let r = getD rows k noRow in
-    let place = test-passed _ 15 (r .flow) (r .job) _ pass in
-    let shut = test-passed _ 25 (r .flow) (r .job) _ (place .1) in
+    let range = test-passed _ 15 (r .flow) (r .job) _ pass in
+    let shut = test-passed _ 25 (r .flow) (r .job) _ (range .1) in
     let order = test-passed _ 16 (r .flow) (r .job) _ (shut .1) in
     let cap = test-passed _ 17 (r .flow) (r .job) _ (order .1) in
     let used = test-passed _ 18 (r .flow) (r .job) _ (cap .1) in
     let begun = test-passed _ 19 (r .flow) (r .job) _ (used .1) in
     let done = neither-true _ _ (begun .0) in
-    let inside = in-book-of b r (place .0) in
+    let inside = in-book-of b r (range .0) in
     record {
       slot-in = inside .0;
       flow-in = inside .1;
