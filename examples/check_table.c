@@ -3,8 +3,9 @@
  *
  *     check_table BOOK TABLE [CALENDAR]
  *
- * Without a calendar no slot is shut. The exit status is 0 when the table is accepted, 1 when it is refused and 2
- * when a file could not be read.
+ * Without a calendar no slot is shut. The exit status is 0 when the table is accepted,
+ * 1 when it is refused and 2 when a file could not be read. It is also 2 when the
+ * library was built with another header than this program.
  *
  * Without arguments it takes the marked book A and its table, which must be
  * accepted, then the same table with a row moved to a slot that is too full,
@@ -131,8 +132,8 @@ static int check_with(const uint8_t *book, size_t book_len, const uint8_t *calen
                        sizeof work);
 
     if (answer.number != FLOWPLAN_ACCEPTED) {
-        printf("refused %u flow %u job %u\n", (unsigned)answer.number, (unsigned)answer.flow,
-               (unsigned)answer.job);
+        printf("refused %u flow %u job %u: %s\n", (unsigned)answer.number,
+               (unsigned)answer.flow, (unsigned)answer.job, flowplan_text(answer.number));
         return 1;
     }
     unsigned busiest = 0;
@@ -186,6 +187,11 @@ static uint8_t *read_file(const char *name, size_t *length)
 
 int main(int count, char **arguments)
 {
+    if (flowplan_version() != FLOWPLAN_HEADER_VERSION) {
+        fprintf(stderr, "header version %lu, library version %lu\n",
+                (unsigned long)FLOWPLAN_HEADER_VERSION, (unsigned long)flowplan_version());
+        return 2;
+    }
     if (count == 1) {
         uint8_t full[sizeof table_a], early[sizeof table_g];
         uint8_t book_e[sizeof book_a], wide[sizeof table_e];

@@ -81,8 +81,9 @@ static unsigned ask_with(const uint8_t *book, size_t book_len, const uint8_t *ca
         flowplan_finish(book, book_len, calendar, calendar_len, flow, work, sizeof work);
 
     if (answer.number != FLOWPLAN_ACCEPTED) {
-        printf("flow %lu: refused %u flow %u job %u\n", (unsigned long)flow,
-               (unsigned)answer.number, (unsigned)answer.flow, (unsigned)answer.job);
+        printf("flow %lu: refused %u flow %u job %u: %s\n", (unsigned long)flow,
+               (unsigned)answer.number, (unsigned)answer.flow, (unsigned)answer.job,
+               flowplan_text(answer.number));
         return answer.number;
     }
     printf("flow %lu ends at %u, in use up to there:", (unsigned long)flow,
@@ -108,17 +109,17 @@ static int ask_marked(void)
     printf("book A\n");
     for (uint32_t flow = 0; flow < 2; flow++)
         as_said &= ask(book_a, sizeof book_a, flow) == FLOWPLAN_ACCEPTED;
-    as_said &= ask(book_a, sizeof book_a, 2) == FLOWPLAN_NO_SUCH_FLOW;
-    as_said &= ask(book_a, sizeof book_a, 256) == FLOWPLAN_NO_SUCH_FLOW;
+    as_said &= ask(book_a, sizeof book_a, 2) == FLOWPLAN_REFUSED_NO_SUCH_FLOW;
+    as_said &= ask(book_a, sizeof book_a, 256) == FLOWPLAN_REFUSED_NO_SUCH_FLOW;
 
     memcpy(longer, book_a, sizeof book_a);
     memcpy(longer + sizeof book_a, too_long, sizeof too_long);
     longer[3] = sizeof longer;
     longer[7] = 3;
     printf("book A with a flow too long\n");
-    as_said &= ask(longer, sizeof longer, 0) == FLOWPLAN_INFEASIBLE;
+    as_said &= ask(longer, sizeof longer, 0) == FLOWPLAN_REFUSED_INFEASIBLE;
     as_said &= ask(longer, sizeof longer, 1) == FLOWPLAN_ACCEPTED;
-    as_said &= ask(longer, sizeof longer, 2) == FLOWPLAN_INFEASIBLE;
+    as_said &= ask(longer, sizeof longer, 2) == FLOWPLAN_REFUSED_INFEASIBLE;
 
     printf("book G\n");
     for (uint32_t flow = 0; flow < 2; flow++)

@@ -69,9 +69,10 @@ static unsigned be16(const uint8_t *bytes)
     return (unsigned)bytes[0] << 8 | bytes[1];
 }
 
-static int refused(unsigned number, unsigned flow, unsigned job)
+static int refused(uint8_t number, uint8_t flow, uint8_t job)
 {
-    printf("refused %u flow %u job %u\n", number, flow, job);
+    printf("refused %u flow %u job %u: %s\n", (unsigned)number, (unsigned)flow,
+           (unsigned)job, flowplan_text(number));
     return 1;
 }
 
@@ -144,7 +145,7 @@ static int dispatch(const uint8_t *book, size_t book_len, const uint8_t *calenda
         table = larger;
         plan = flowplan_plan(book, book_len, calendar, calendar_len, table, room, work,
                              sizeof work);
-        if (plan.number != FLOWPLAN_OUTPUT || room >= FLOWPLAN_LONGEST_TABLE)
+        if (plan.number != FLOWPLAN_REFUSED_OUTPUT || room >= FLOWPLAN_LONGEST_TABLE)
             break;
         room *= 2;
     }

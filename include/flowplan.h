@@ -1,7 +1,9 @@
 /*
  * flowplan.h: flow planner, table check, dispatch list and finish of one flow.
  *
- * Version of this header, FLOWPLAN_HEADER_VERSION
+ * Version of this header, FLOWPLAN_HEADER_VERSION; what the library was built with
+ * is told by flowplan_version. "Req 01" and so on are the change requests to the
+ * rules, with a note on each in docs/requests/.
  *   1  the base: planner and table check
  *   2  Req 01, releases: book version 2, so that number 2 is any other version;
  *      number 22; number 19 also for a row before its flow's release; a larger
@@ -17,6 +19,8 @@
  *   7  Req 07, service windows: every call takes a calendar behind the book;
  *      numbers 24 and 25; number 12 by open slots. With FLOWPLAN_NO_WINDOWS every
  *      call answers as before
+ *   8  flowplan_version, flowplan_text, limits as macros, refusal names
+ *      FLOWPLAN_REFUSED_..; layouts, numbers and answers are as they were
  *
  * Every call takes every sequence of bytes, comes to an end on each, allocates
  * nothing and keeps nothing between calls.
@@ -90,10 +94,11 @@
  *
  * Work area
  *   At least FLOWPLAN_WORK_BYTES, two bytes for each of the slots 0 to 8,191.
- *   After acceptance each pair holds the processors in use in that slot: by all
- *   flows, or where the finish of one was asked for, by that flow and those
- *   before it in service order; 0 in a shut slot. Bytes past FLOWPLAN_WORK_BYTES
- *   are never touched.
+ *   After acceptance each pair, big-endian as every field, holds the processors in
+ *   use in that slot: by all flows, or where the finish of one was asked for, by
+ *   that flow and those before it in service order; 0 in a shut slot. What is left
+ *   after a refusal stands at FLOWPLAN_NUMBERS. Bytes past FLOWPLAN_WORK_BYTES are
+ *   never touched.
  *
  * Stack
  *   A call needs at most FLOWPLAN_CHECK_STACK, FLOWPLAN_PLAN_STACK,
@@ -101,8 +106,15 @@
  *   x86-64 Linux, on full, small and refused input).
  *
  * Buffers
- *   The buffers of one call must not overlap. No pointer may be null, also
- *   where its length is 0. A buffer may start at any address.
+ *   A buffer may start at any address. Those that a call only reads (book,
+ *   calendar, table) may coincide or overlap. Output and work area may overlap no
+ *   other buffer of the call and not each other, so that a list cannot be made in
+ *   place of its table. No pointer may be null, also where its length is 0: any
+ *   valid address will do there, and such a buffer overlaps nothing.
+ *
+ * Threads
+ *   Any number of threads may call at once, each with an output and a work area of
+ *   its own. Buffers that are only read may be shared, while nobody writes to them.
  */
 #ifndef FLOWPLAN_H
 #define FLOWPLAN_H
@@ -115,7 +127,17 @@ extern "C" {
 #endif
 
 /* What changed from version to version stands at the top. */
-#define FLOWPLAN_HEADER_VERSION 7
+#define FLOWPLAN_HEADER_VERSION 8
+
+/* The most that a field may be, as the layouts above have it. */
+#define FLOWPLAN_MOST_PROCESSORS 4096
+#define FLOWPLAN_MOST_FLOWS 64
+#define FLOWPLAN_MOST_DEADLINE 4096
+#define FLOWPLAN_MOST_JOBS 64 /* in one flow */
+#define FLOWPLAN_MOST_SIZE 1000000
+#define FLOWPLAN_MOST_CAP 65535
+#define FLOWPLAN_MOST_WINDOWS 32
+#define FLOWPLAN_MOST_REOPENING 4096 /* first slot open again */
 
 /* Bytes of the work area that are used, and the slots that they stand for. */
 #define FLOWPLAN_WORK_BYTES 16384
@@ -140,8 +162,10 @@ extern "C" {
 #define FLOWPLAN_NONE 255
 
 /*
- * What a book, calendar or table is turned down by. The place that goes with each
- * number stands behind it; "-, -" is FLOWPLAN_NONE, FLOWPLAN_NONE.
+ * What a call answers: each number with its name, the place that goes with it and
+ * its sentence, as LINE(name, number, sentence). The place "-, -" is FLOWPLAN_NONE,
+ * FLOWPLAN_NONE. Ranges are those of the layouts. Number 0 is no refusal, and all
+ * others are; a refusal leaves the output as it was.
  *
  * Numbers 1 to 4 are tested in that order; then for each flow 5, 6, 22, 7 and
  * for each of its jobs 5, 8, 9, 10; then bytes left over; then 23, only for the
@@ -151,74 +175,99 @@ extern "C" {
  * first fault met is answered. A flow head or job record must be there whole before
  * any of its fields is looked at.
  *
- * Numbers 1 to 11 and 22 to 24 leave the work area as it was; the others leave
- * its first FLOWPLAN_WORK_BYTES bytes zero.
+ * Refusals by 1 to 11 and 22 to 24 leave the work area as it was; those by 12 to 21
+ * and 25 leave its first FLOWPLAN_WORK_BYTES bytes zero. With number 0 it holds the
+ * use of each slot, see Work area.
  */
-enum flowplan_number {
-    /* accepted; -, - */
-    FLOWPLAN_ACCEPTED = 0,
-    /* book under 8 bytes, or its length field differs from the bytes given;
-       -, - */
-    FLOWPLAN_BOOK_LENGTH = 1,
-    /* book version neither 1 nor 2; -, - */
-    FLOWPLAN_BOOK_VERSION = 2,
-    /* P out of range; -, - */
-    FLOWPLAN_PROCESSORS = 3,
-    /* more than 64 flows; -, - */
-    FLOWPLAN_FLOWS = 4,
-    /* a flow head (flow, -) or job record (flow, job) is cut short; bytes left
-       over (-, -) */
-    FLOWPLAN_CUT_SHORT = 5,
-    /* deadline out of range; flow, - */
-    FLOWPLAN_DEADLINE = 6,
-    /* job count out of range; flow, - */
-    FLOWPLAN_JOBS = 7,
-    /* size out of range; flow, job */
-    FLOWPLAN_SIZE = 8,
-    /* a cap of 0; flow, job */
-    FLOWPLAN_CAP = 9,
-    /* predecessor bit at or above the job's own number; flow, job */
-    FLOWPLAN_PREDECESSOR = 10,
-    /* work area too short; -, - */
-    FLOWPLAN_WORK_AREA = 11,
-    /* infeasible: a flow is not finished when twice as many open slots from slot
-       0 have passed as stand before its deadline; that flow, - */
-    FLOWPLAN_INFEASIBLE = 12,
-    /* the planner's table, or the dispatch list, longer than the lent output;
-       -, - */
-    FLOWPLAN_OUTPUT = 13,
-    /* table too short for head and finishes, length field wrong, version not 1,
-       P or flows unlike the book, rows not whole; -, - */
-    FLOWPLAN_TABLE_HEAD = 14,
-    /* row's slot above 8,191, flow or job not in the book, or 0 processors; the
-       two bytes of the row */
-    FLOWPLAN_ROW_RANGE = 15,
-    /* row not after the one before it; row's flow, job */
-    FLOWPLAN_ROW_ORDER = 16,
-    /* more than the cap, or than P where the cap is above P; row's flow, job */
-    FLOWPLAN_ROW_CAP = 17,
-    /* more than P used in the slot by the rows so far, this one counted; row's
-       flow, job */
-    FLOWPLAN_SLOT_FULL = 18,
-    /* a row before its flow's release, or with a predecessor whose rows so far
-       in earlier slots sum to less than its size; row's flow, job */
-    FLOWPLAN_PRECEDENCE = 19,
-    /* a job's total differs from its size; lowest flow, then job */
-    FLOWPLAN_TOTAL = 20,
-    /* a stated finish differs; lowest flow, - */
-    FLOWPLAN_FINISH = 21,
-    /* release not below the deadline, tested directly after 6; flow, - */
-    FLOWPLAN_RELEASE = 22,
-    /* the flow that was named is not in the book; -, - */
-    FLOWPLAN_NO_SUCH_FLOW = 23,
-    /* calendar under 6 bytes, length field wrong, version not 1, more than 32
-       windows, bytes unlike the windows, or a window that is empty, that does not
-       begin later than the one before it opened again, or that opens again after
-       slot 4,096; -, - */
-    FLOWPLAN_CALENDAR = 24,
-    /* a row in a shut slot, tested directly after 15; row's flow, job */
-    FLOWPLAN_ROW_SHUT = 25
-};
+#define FLOWPLAN_NUMBERS(LINE)                                                     \
+    LINE(FLOWPLAN_ACCEPTED, 0, /* -, - */                                          \
+         "accepted")                                                               \
+    LINE(FLOWPLAN_REFUSED_BOOK_LENGTH, 1, /* -, - */                               \
+         "book under 8 bytes, or its length field differs from the bytes given")   \
+    LINE(FLOWPLAN_REFUSED_BOOK_VERSION, 2, /* -, - */                              \
+         "book version neither 1 nor 2")                                           \
+    LINE(FLOWPLAN_REFUSED_PROCESSORS, 3, /* -, - */                                \
+         "processors P out of range")                                              \
+    LINE(FLOWPLAN_REFUSED_FLOWS, 4, /* -, - */                                     \
+         "too many flows")                                                         \
+    LINE(FLOWPLAN_REFUSED_CUT_SHORT, 5, /* in turn flow, -; flow, job; -, - */     \
+         "a flow head or job record is cut short, or bytes are left over")         \
+    LINE(FLOWPLAN_REFUSED_DEADLINE, 6, /* flow, - */                               \
+         "deadline out of range")                                                  \
+    LINE(FLOWPLAN_REFUSED_JOBS, 7, /* flow, - */                                   \
+         "job count out of range")                                                 \
+    LINE(FLOWPLAN_REFUSED_SIZE, 8, /* flow, job */                                 \
+         "size out of range")                                                      \
+    LINE(FLOWPLAN_REFUSED_CAP, 9, /* flow, job */                                  \
+         "a cap of 0")                                                             \
+    LINE(FLOWPLAN_REFUSED_PREDECESSOR, 10, /* flow, job */                         \
+         "predecessor bit at or above the job's own number")                       \
+    LINE(FLOWPLAN_REFUSED_WORK_AREA, 11, /* -, - */                                \
+         "work area too short")                                                    \
+    LINE(FLOWPLAN_REFUSED_INFEASIBLE, 12, /* that flow, - */                       \
+         "infeasible: a flow is not finished when twice as many open slots from "  \
+         "slot 0 have passed as stand before its deadline")                        \
+    LINE(FLOWPLAN_REFUSED_OUTPUT, 13, /* -, - */                                   \
+         "table or dispatch list longer than the lent output")                     \
+    LINE(FLOWPLAN_REFUSED_TABLE_HEAD, 14, /* -, - */                               \
+         "table too short for head and finishes, length field wrong, version not " \
+         "1, P or flows unlike the book, or rows not whole")                       \
+    LINE(FLOWPLAN_REFUSED_ROW_RANGE, 15, /* the two bytes of the row */            \
+         "row's slot out of range, flow or job not in the book, or 0 processors")  \
+    LINE(FLOWPLAN_REFUSED_ROW_ORDER, 16, /* row's flow, job */                     \
+         "row not after the one before it")                                        \
+    LINE(FLOWPLAN_REFUSED_ROW_CAP, 17, /* row's flow, job */                       \
+         "row with more than the cap, or than P where the cap is above P")         \
+    LINE(FLOWPLAN_REFUSED_SLOT_FULL, 18, /* row's flow, job */                     \
+         "more than P used in the slot by the rows so far, this one counted")      \
+    LINE(FLOWPLAN_REFUSED_PRECEDENCE, 19, /* row's flow, job */                    \
+         "row before its flow's release, or with a predecessor whose rows so far " \
+         "in earlier slots sum to less than its size")                             \
+    LINE(FLOWPLAN_REFUSED_TOTAL, 20, /* lowest flow, then job */                   \
+         "a job's total differs from its size")                                    \
+    LINE(FLOWPLAN_REFUSED_FINISH, 21, /* lowest flow, - */                         \
+         "a stated finish differs from that of the rows")                          \
+    LINE(FLOWPLAN_REFUSED_RELEASE, 22, /* flow, - */                               \
+         "release not below the deadline")                                         \
+    LINE(FLOWPLAN_REFUSED_NO_SUCH_FLOW, 23, /* -, - */                             \
+         "the flow that was named is not in the book")                             \
+    LINE(FLOWPLAN_REFUSED_CALENDAR, 24, /* -, - */                                 \
+         "calendar under 6 bytes, length field wrong, version not 1, too many "    \
+         "windows, bytes unlike the windows, or a window that is empty, that "     \
+         "does not begin later than the one before it opened again, or that "      \
+         "opens again too late")                                                   \
+    LINE(FLOWPLAN_REFUSED_ROW_SHUT, 25, /* row's flow, job */                      \
+         "row in a shut slot")
+
+/* The names as constants. */
+#define FLOWPLAN_NAME(name, number, sentence) name = number,
+enum flowplan_number { FLOWPLAN_NUMBERS(FLOWPLAN_NAME) };
+#undef FLOWPLAN_NAME
+
+/* The sentence of a number; "unknown number" where no call answers with it. */
+#define FLOWPLAN_SENTENCE(name, number, sentence) \
+    case name:                                    \
+        return sentence;
+static inline const char *flowplan_text(uint8_t number)
+{
+    switch (number) {
+        FLOWPLAN_NUMBERS(FLOWPLAN_SENTENCE)
+    default:
+        return "unknown number";
+    }
+}
+#undef FLOWPLAN_SENTENCE
+
+/* ---- Version ----------------------------------------------------------- */
+
+/*
+ * The FLOWPLAN_HEADER_VERSION that the library was built with. Where it is not that
+ * of this header, nothing else in here may be relied on. A library from before
+ * version 8 does not have this call.
+ */
+uint32_t flowplan_version(void);
+
+/* ---- End of version ---------------------------------------------------- */
 
 /* ---- Table check ------------------------------------------------------- */
 
@@ -236,9 +285,9 @@ struct flowplan_check_answer {
  * beyond twice the deadline is accepted and counted as late.
  *
  * book, calendar, table: read only, any bytes, any length.
- * work: accepted: the use of each slot by the table's rows. Number 1 to 11, 22 or
- *       24: as it was. Any other number: its first FLOWPLAN_WORK_BYTES bytes are
- *       zero.
+ * work: accepted: the use of each slot by the table's rows. Refused by 1 to 11, 22
+ *       or 24: as it was. Refused by another number: its first FLOWPLAN_WORK_BYTES
+ *       bytes are zero.
  */
 struct flowplan_check_answer flowplan_check(const uint8_t *book, size_t book_len,
                                             const uint8_t *calendar, size_t calendar_len,
@@ -249,7 +298,11 @@ struct flowplan_check_answer flowplan_check(const uint8_t *book, size_t book_len
 
 /* ---- Planner ----------------------------------------------------------- */
 
-/* The longest table that a plan can have. */
+/*
+ * A table that the planner writes or the check accepts has at most 8 + 2 x flows +
+ * 6 x the sum of all sizes bytes, and never above FLOWPLAN_LONGEST_TABLE. The sum
+ * fits 32 bits, 6 times the sum may not.
+ */
 #define FLOWPLAN_LONGEST_TABLE 201326728
 
 struct flowplan_plan_answer {
@@ -268,9 +321,9 @@ struct flowplan_plan_answer {
  * book, calendar: read only, any bytes, any length.
  * output: accepted: its first `length` bytes are the table, the bytes past them
  *         are as they were. Refused: as it was.
- * work:   accepted: the use of each slot by the table's rows. Number 1 to 11, 22
- *         or 24: as it was. Number 12 or 13: its first FLOWPLAN_WORK_BYTES bytes
- *         are zero.
+ * work:   accepted: the use of each slot by the table's rows. Refused by 1 to 11,
+ *         22 or 24: as it was. Refused by 12 or 13: its first FLOWPLAN_WORK_BYTES
+ *         bytes are zero.
  */
 struct flowplan_plan_answer flowplan_plan(const uint8_t *book, size_t book_len,
                                           const uint8_t *calendar, size_t calendar_len,
@@ -300,9 +353,9 @@ struct flowplan_list_answer {
  * book, calendar, table: read only, any bytes, any length.
  * output: accepted: its first `length` bytes are the dispatch list, the bytes past
  *         them are as they were. Refused: as it was.
- * work:   accepted: the use of each slot by the table's rows. Number 1 to 11, 22
- *         or 24: as it was. Any other number: its first FLOWPLAN_WORK_BYTES bytes
- *         are zero.
+ * work:   accepted: the use of each slot by the table's rows. Refused by 1 to 11,
+ *         22 or 24: as it was. Refused by another number: its first
+ *         FLOWPLAN_WORK_BYTES bytes are zero.
  */
 struct flowplan_list_answer flowplan_dispatch(const uint8_t *book, size_t book_len,
                                               const uint8_t *calendar, size_t calendar_len,
@@ -335,8 +388,8 @@ struct flowplan_finish_answer {
  * flow: number of the flow in the book, 0 for the first. One that is not in the
  *       book is answered by 23; all 32 bits count, so that 256 is not flow 0.
  * work: accepted: the use of each slot by this flow and those before it in
- *       service order. Number 1 to 11 or 22 to 24: as it was. Number 12: its
- *       first FLOWPLAN_WORK_BYTES bytes are zero.
+ *       service order. Refused by 1 to 11 or 22 to 24: as it was. Refused by 12:
+ *       its first FLOWPLAN_WORK_BYTES bytes are zero.
  */
 struct flowplan_finish_answer flowplan_finish(const uint8_t *book, size_t book_len,
                                               const uint8_t *calendar, size_t calendar_len,

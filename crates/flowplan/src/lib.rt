@@ -1,14 +1,23 @@
-// The calls that a dispatcher in C makes. Thin: each hands its slices to the proved core and has the core's contract. None has a
-// `requires`: every sequence of bytes is taken.
+// The calls that a dispatcher in C makes. Thin: each that takes slices hands them to the proved core and has the core's contract. None has
+// a `requires`: every sequence of bytes is taken.
 ghost use mathlib.Core.Path.{_≡_};
 ghost use Rattle.rules.specs.Check.{checkCall};
 ghost use Rattle.rules.specs.Dispatch.{dispatchCall};
 ghost use Rattle.rules.specs.Finish.{finishCall};
 ghost use Rattle.rules.specs.Planner.{planCall};
+ghost use Rattle.rules.specs.Version.{headerVersion};
 use rules::CheckAnswer;
 use rules::FinishAnswer;
 use rules::ListAnswer;
 use rules::PlanAnswer;
+
+// The version of the C header that the library was built with.
+#[no_mangle]
+pub extern "C" fn flowplan_version() -> u32
+    ensures version { λ r. ⌜ r ≡ headerVersion ⌝ }
+{
+    8
+}
 
 // The check of a table against a book and its calendar.
 #[no_mangle]

@@ -21,4 +21,5 @@ pub mod Schedule
 pub mod Cut
 pub mod Quote
 pub mod Text
+pub mod Version
 pub mod Demands
