@@ -21,6 +21,7 @@ pub mod linked_dispatch;
 pub mod linked_finish;
 pub mod linked_plan;
 pub mod lists;
+pub mod longest;
 pub mod lowered;
 pub mod marked;
 pub mod measure;

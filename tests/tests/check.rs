@@ -9,6 +9,7 @@ use flowplan_tests::calendar::{read_calendar, NO_WINDOWS};
 use flowplan_tests::calendars::{self, Kinds};
 use flowplan_tests::edges::Edges;
 use flowplan_tests::lent::{work_length, Junk, Lent};
+use flowplan_tests::longest::Lengths;
 use flowplan_tests::reader::{read_book, Version};
 use flowplan_tests::rng::Rng;
 use flowplan_tests::table_trial::{Of, TableTrial};
@@ -43,6 +44,8 @@ struct Trial {
     beyond_twice: u64,
     /// Of the flows of accepted tables.
     edges: Edges,
+    /// Of accepted tables.
+    lengths: Lengths,
     /// Of the calendars of accepted tables.
     calendars: Kinds,
 }
@@ -58,6 +61,7 @@ impl Trial {
             wide_rows: WideRows::default(),
             beyond_twice: 0,
             edges: Edges::default(),
+            lengths: Lengths::default(),
             calendars: Kinds::default(),
         }
     }
@@ -98,6 +102,7 @@ impl Trial {
         self.met[expected.number as usize] += 1;
         if expected.number == 0 {
             self.edges.count(book.slice(), table.slice());
+            self.lengths.count(book.slice(), table.slice());
             let book = read_book(book.slice()).expect("an accepted book");
             let calendar = read_calendar(calendar.slice()).expect("an accepted calendar");
             self.calendars.count(&book, &calendar);
@@ -191,5 +196,6 @@ fn hold_trial(version: Version, seed: u64) {
     trial.wide_rows.hold();
     assert!(trial.beyond_twice > 0);
     trial.edges.hold(&format!("{version:?}, checked"));
+    trial.lengths.hold(&format!("{version:?}, checked"));
     trial.calendars.hold(version, "checked", &[]);
 }

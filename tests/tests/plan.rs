@@ -10,6 +10,7 @@ use flowplan_tests::calendar::{read_calendar, Calendar, NO_WINDOWS};
 use flowplan_tests::calendars::{self, Kinds, NONE_OPEN};
 use flowplan_tests::edges::Edges;
 use flowplan_tests::lent::{work_length, Junk, Lent};
+use flowplan_tests::longest::Lengths;
 use flowplan_tests::reader::{read_book, Book, Flow, Job, Version, VERSIONS};
 use flowplan_tests::rng::Rng;
 use flowplan_tests::second_planner::{self, Outcome, PseudoJob};
@@ -56,6 +57,8 @@ struct Trial {
     late: u64,
     /// Of the flows of accepted calls.
     edges: Edges,
+    /// Of the tables of accepted calls.
+    lengths: Lengths,
     /// Of the calendars of accepted calls, and of those that were refused by 12.
     calendars: Kinds,
     infeasible: Kinds,
@@ -71,6 +74,7 @@ impl Trial {
             books: 0,
             late: 0,
             edges: Edges::default(),
+            lengths: Lengths::default(),
             calendars: Kinds::default(),
             infeasible: Kinds::default(),
         }
@@ -126,6 +130,7 @@ impl Trial {
             self.late += u64::from(answer.late > 0);
             let table = &output.slice()[..answer.length as usize];
             self.edges.count(book.slice(), table);
+            self.lengths.count(book.slice(), table);
             let mut checked = Lent::junk(&mut self.rng, &self.junk, work_length);
             let verdict = linked::check(book.slice(), calendar.slice(), table, checked.slice());
             assert_eq!(verdict, CheckAnswer::accepted(answer.late));
@@ -249,6 +254,7 @@ fn hold_trial(version: Version, seed: u64) {
     }
     assert!(trial.late > 0);
     trial.edges.hold(&format!("{version:?}, planned"));
+    trial.lengths.hold(&format!("{version:?}, planned"));
     // With no open slot before a deadline a flow is infeasible.
     trial.calendars.hold(version, "planned", &[NONE_OPEN]);
     trial.infeasible.hold(version, "infeasible", &[]);
