@@ -20,6 +20,7 @@ pub mod linked;
 pub mod linked_dispatch;
 pub mod linked_finish;
 pub mod linked_plan;
+pub mod linked_version;
 pub mod lists;
 pub mod longest;
 pub mod lowered;
