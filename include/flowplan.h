@@ -73,7 +73,7 @@
  *   rising. Service order is by deadline, equal deadlines by place in the book.
  *
  * Late flows
- *   Results are written back and reach the stands one slot after a flow's
+ *   Results are written back and reach the mill one slot after a flow's
  *   finish, so a flow is late when its finish plus 1 is greater than its
  *   deadline, both in slots, shut or open.
  *

@@ -3,34 +3,26 @@
 use mathlib.Core.Path.{_≡_, sym, ap, _∙_, subst, refl}
 use mathlib.Core.Logic.{⊎-elim}
 use Prim.Native.Nat.{ℕ, _+_, _<_, _^_}
-use mathlib.Core.Bool.{true, not, _||_}
+use mathlib.Core.Bool.{not, _||_}
 use mathlib.Core.List.{List}
-use native.Mathlib.Omega.{arith}
 use lib.ListN.{length}
 use lib.Dec.{ltb, eqb, leb}
-use borrow.Author.Tests.{ltb-true}
+use borrow.Author.Tests.{eqb-true}
 use Rattle.rules.specs.declared.Verdict.the-variants.{Pass, Refused}
 use Rattle.rules.specs.Fields.{byte, field, AllBytes}
 use Rattle.rules.specs.Answers.{none, firstFault}
-use Rattle.rules.specs.Limits.{outside, mostCap, mostSize, mostDeadline, mostJobs, mostProcessors, mostFlows}
+use Rattle.rules.specs.Limits.{outside, mostSize, mostDeadline, mostJobs, mostProcessors, mostFlows}
 use Rattle.rules.specs.Calendar.{calendarBytes}
 use Rattle.rules.specs.Book.{Book, InRange, flowIn, jobOf}
 use Rattle.rules.specs.Reading.{jobsAt, flowStart, jobStart, jobAt, bookOf, flowHeadFault, jobFault, flowFault, leftoverFault, bookFault, read, readBook, bookBytes, jobRecord, versionOf, flowHead, bookHead, releaseAt}
 use Rattle.rules.specs.Demands.Books.{BooksRead}
-use Rattle.rules.proofs.Laws.Walks.{or-cases}
 use Rattle.rules.proofs.Laws.Faults.{not-pass, then-met, fault-met, test-skipped, test-said, hold-skipped}
 use Rattle.rules.proofs.Reading.Passing.{flow-in-book, job-of-flow, read-in-range}
 use Rattle.rules.proofs.Reading.RoundTrip.{Writable, writable-two, writable-one, read-written, calendar-read, calendar-written-passes}
-use Rattle.rules.proofs.Laws.Fields.{field-lt}
+use Rattle.rules.proofs.Reading.Lowered.{only-zero}
 
 module _ (s : List ℕ) (bytes : AllBytes s) (f i : ℕ) where
-  -- of a cap that its field holds
-  only-zero : (at : ℕ) → outside 1 mostCap (field 2 s at) ≡ true → field 2 s at ≡ 0
-  only-zero at e =
-      ⊎-elim (λ p. omega (arith, ltb-true (field 2 s at) 1 p)) (λ p. omega (arith, ltb-true mostCap (field 2 s at) p, field-lt 2 s at bytes))
-      (or-cases (ltb (field 2 s at) 1) (ltb mostCap (field 2 s at)) e)
-
-  -- of a job
+  -- where 9 is said of a job, its cap is 0
   job-said : (g j at : ℕ) → jobFault s g j at ≡ Refused 9 f i → (jobAt s at .cap ≡ 0) × (g ≡ f) × (j ≡ i)
   unfolding jobFault jobAt
   job-said g j at e =
@@ -38,7 +30,7 @@ module _ (s : List ℕ) (bytes : AllBytes s) (f i : ℕ) where
       let size = test-skipped (outside 1 mostSize (field 4 s at)) 8 g j _ 9 f i refl (short .1) in
       let cap = test-said _ 9 g j _ f i (size .1)
       (λ d. not-pass 9 f i (sym (test-skipped (leb (2 ^ j) (field 8 s (at + 6))) 10 g j Pass 9 f i refl d .1))) in
-      (only-zero (at + 4) (cap .0), cap .1, cap .2)
+      (eqb-true (field 2 s (at + 4)) 0 (sym (only-zero s (at + 4) bytes) ∙ cap .0), cap .1, cap .2)
 
   -- of a flow
   flow-said : (g at : ℕ) → flowFault s g at ≡ Refused 9 f i → (i < jobsAt s at) × (jobAt s (jobStart s at i) .cap ≡ 0) × (g ≡ f)
