@@ -1,4 +1,4 @@
--- A list that is filled from the front, in places that it has. Assumes nothing.
+-- A list that is filled from the front, at indices that it has. Assumes nothing.
 use mathlib.Core.Path.{_≡_, refl, _∙_}
 use mathlib.Core.List.{List}
 use Prim.Native.Nat.{ℕ, _+_, _<_}
@@ -18,7 +18,7 @@ pub record Filled (P : ℕ → ℕ → Type 0) (n : ℕ) (before l : List ℕ) :
 pub filled-none : (P : ℕ → ℕ → Type 0) (l : List ℕ) → Filled P 0 l l
 filled-none P l = record { size = refl; values = λ k h. absurd (not-suc-le-zero h) }
 
--- the next place is filled in
+-- the next number is filled in
 pub filled-next : (P : ℕ → ℕ → Type 0) (n v : ℕ) (before l : List ℕ) → n < length before → Filled P n before l → P n v → Filled P (n + 1) before (set l n v)
 filled-next P n v before l room filled p = record {
   size = length-set l n v ∙ filled .size;

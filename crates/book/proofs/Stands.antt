@@ -1,4 +1,4 @@
--- What stands around the place where the job records of a flow of a book that passes start: its head in front of it, its jobs behind it. Both
+-- What stands around the offset at which the job records of a flow of a book that passes start: its head in front of it, its jobs behind it. Both
 -- lie inside the bytes, and their values are the book's. Assumes nothing.
 use mathlib.Core.Path.{_≡_, sym, ap, _∙_}
 use Prim.Native.Nat.{ℕ, _+_, _-_, _≤_, _<_}

@@ -17,8 +17,8 @@ use Rattle.book.specs.declared.JobRead.{JobRead}
 use Rattle.book.specs.declared.JobRead.the-variants.{Whole as WholeJob, Short as ShortJob}
 
 -- a head without a release: "a version 1 book means release 0" (02, Req 01)
-abbrev pub headAtOnce : ℕ → ℕ → FlowHead
-headAtOnce deadline jobs = record { deadline = deadline; release = 0; jobs = jobs }
+abbrev pub headReleasedAt0 : ℕ → ℕ → FlowHead
+headReleasedAt0 deadline jobs = record { deadline = deadline; release = 0; jobs = jobs }
 
 -- the values of the head at `at`
 abbrev pub headAt : List ℕ → ℕ → FlowHead

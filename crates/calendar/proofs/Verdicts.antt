@@ -22,9 +22,9 @@ module _ (s : List ℕ) (k : ℕ) {shut reopening : ℕ} (e : shut ≡ field 2 s
   unfolding windowFault windowAt
   empty-window h = rw (← e, ← d, le-leb reopening shut h)
 
-  pub late-window : mostReopening < reopening → true ≡ windowFault s k
+  pub far-window : mostReopening < reopening → true ≡ windowFault s k
   unfolding windowFault windowAt
-  late-window h = rw (← e, ← d, lt-ltb mostReopening reopening h) (last (leb reopening shut || beginsEarly s k))
+  far-window h = rw (← e, ← d, lt-ltb mostReopening reopening h) (last (leb reopening shut || beginsEarly s k))
     where
       last : (a : Bool) → true ≡ (a || true)
       last true = refl

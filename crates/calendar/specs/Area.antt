@@ -8,8 +8,8 @@ use Rattle.rules.specs.Walks.{joinFrom}
 use Rattle.rules.specs.Fields.{bytesOf}
 
 -- the work area of n slots whose pairs hold `used`, before bytes that are untouched
-unfoldable pub workOf : ℕ → (ℕ → ℕ) → List ℕ → List ℕ
-workOf n used area = joinFrom (λ t. bytesOf 2 (used t)) n 0 ++ drop (2 * n) area
+unfoldable pub areaHolding : ℕ → (ℕ → ℕ) → List ℕ → List ℕ
+areaHolding n used area = joinFrom (λ t. bytesOf 2 (used t)) n 0 ++ drop (2 * n) area
 
 -- slot t is open by its flag: 1 means shut; past the last flag it is open
 unfoldable pub openBy : List ℕ → ℕ → Bool

@@ -11,7 +11,7 @@ ghost use Rattle.rules.specs.Answers.{none};
 ghost use Rattle.rules.specs.Limits.{mostDeadline, mostReopening, slots, workBytes};
 ghost use Rattle.rules.specs.Calendar.{inWindow, isOpen, openBefore, slotAfter, windowFault, calendarFault, CalendarInRange};
 ghost use Rattle.calendar.specs.Held.{heldWindows, Held};
-ghost use Rattle.calendar.specs.Area.{workOf, openBy};
+ghost use Rattle.calendar.specs.Area.{areaHolding, openBy};
 use book::bytes;
 use rules::Verdict;
 
@@ -171,8 +171,8 @@ pub fn limit_of(x: Calendar, deadline: u16) -> usize
 // A value written into the pair of each slot of a window.
 pub fn set_window(work: &mut [u8], shut: u16, reopening: u16, value: u16)
     requires { ⌜ (shut ≤ reopening) × (reopening ≤ slots) × (workBytes ≤ length (now work)) ⌝ }
-    ensures { λ _. ⌜ ((used : ℕ → ℕ) (bytes : List ℕ) → now (work .entry) ≡ workOf slots used bytes →
-        now (work .exit) ≡ workOf slots (λ t. if inWindow (record { shut = shut; reopening = reopening }) t then value else used t) bytes) ⌝ }
+    ensures { λ _. ⌜ ((used : ℕ → ℕ) (bytes : List ℕ) → now (work .entry) ≡ areaHolding slots used bytes →
+        now (work .exit) ≡ areaHolding slots (λ t. if inWindow (record { shut = shut; reopening = reopening }) t then value else used t) bytes) ⌝ }
 {
     let mut t = shut;
     while t < reopening {
@@ -184,8 +184,8 @@ pub fn set_window(work: &mut [u8], shut: u16, reopening: u16, value: u16)
 // A value written into the pair of each shut slot.
 pub fn set_shut(work: &mut [u8], x: Calendar, value: u16)
     requires { ⌜ CalendarInRange (heldWindows x) × (workBytes ≤ length (now work)) ⌝ }
-    ensures { λ _. ⌜ ((used : ℕ → ℕ) (bytes : List ℕ) → now (work .entry) ≡ workOf slots used bytes →
-        now (work .exit) ≡ workOf slots (λ t. if isOpen (heldWindows x) t then used t else value) bytes) ⌝ }
+    ensures { λ _. ⌜ ((used : ℕ → ℕ) (bytes : List ℕ) → now (work .entry) ≡ areaHolding slots used bytes →
+        now (work .exit) ≡ areaHolding slots (λ t. if isOpen (heldWindows x) t then used t else value) bytes) ⌝ }
 {
     let mut k: usize = 0;
     while k < x.count {

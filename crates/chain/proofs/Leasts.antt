@@ -1,4 +1,4 @@
--- The least of a list's numbers from each place on, found from the last place downwards. Assumes nothing.
+-- The least of a list's numbers from each index on, found from the last index downwards. Assumes nothing.
 use mathlib.Core.Path.{_≡_, refl, ap, _∙_}
 use mathlib.Core.List.{List}
 use mathlib.Core.Logic.{_⊎_, inl, inr, ⊎-elim}
@@ -10,7 +10,7 @@ use lib.Seq.{getD-set-same, getD-set-other}
 use Rattle.rules.proofs.Laws.Division.{lt-or-ge}
 use Rattle.chain.specs.Runs.{LeastFrom}
 
--- a list as long as another, whose places from k to n have the least from there on; v is that of place k, and 4,294,967,295 where k is n
+-- a list as long as another, which has at each index from k to n the least from there on; v is that at index k, and 4,294,967,295 where k is n
 pub record LeastsFrom (l : List ℕ) (n k v : ℕ) (before leasts : List ℕ) : Type 0 where
   pub size : length leasts ≡ length before
   pub within : k ≤ n
@@ -18,7 +18,7 @@ pub record LeastsFrom (l : List ℕ) (n k v : ℕ) (before leasts : List ℕ) : 
   pub held : k < n → LeastFrom l n k v
   pub each : (i : ℕ) → k ≤ i → i < n → LeastFrom l n i (getD leasts i 0)
 
--- no place has one yet
+-- no index has one yet
 pub leasts-none : (l : List ℕ) (n : ℕ) (leasts : List ℕ) → LeastsFrom l n n 4294967295 leasts leasts
 leasts-none l n leasts = record {
   size = refl;
@@ -28,7 +28,7 @@ leasts-none l n leasts = record {
   each = λ i h g. absurd (omega arith);
 }
 
--- one place lower
+-- one index lower
 module _ (l : List ℕ) (n m k v r : ℕ) (first leasts : List ℕ) (em : m ≡ suc k) (before : LeastsFrom l n m v first leasts) (fits : getD l k 0 ≤ 4294967295)
     (er : r ≡ min (getD l k 0) v) where
   least-lower : LeastFrom l n k r

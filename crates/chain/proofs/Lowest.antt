@@ -1,4 +1,4 @@
--- The lowest set bit of a number that is not 0: `trailingZeros` is its place, and `b & (b - 1)` has the bits above it.
+-- The lowest set bit of a number that is not 0: `trailingZeros` is its index, and `b & (b - 1)` has the bits above it.
 -- Assumes nothing.
 use mathlib.Core.Path.{_≡_, refl, sym, ap, _∙_}
 use mathlib.Core.Bool.{true, false}
@@ -11,7 +11,7 @@ use lib.Bits.{bitAnd, and-block, and-self, and-mask, shifted-even}
 use lib.Count.{trailingZeros, under}
 use Rattle.rules.specs.Book.{hasBit}
 
--- z is the place of b's lowest set bit, and c has the others
+-- z is the index of b's lowest set bit, and c has the others
 pub record Lowest (b z c : ℕ) : Type 0 where
   pub set : hasBit b z ≡ true
   pub below : (i : ℕ) → i < z → hasBit b i ≡ false

@@ -14,7 +14,7 @@ use Rattle.book.specs.Promise.{FlowJobs, flowFrom}
 use Rattle.chain.specs.declared.Run.{Run}
 use Rattle.chain.specs.Jobs.{ChainInput}
 
--- v is the least of the numbers that a list has from place i to place n
+-- v is the least of the numbers that a list has from index i to index n
 pub record LeastFrom (l : List ℕ) (n i v : ℕ) : Type 0 where
   pub within : (k : ℕ) → i ≤ k → k < n → v ≤ getD l k 0
   pub attained : (k : ℕ) × (i ≤ k) × (k < n) × (getD l k 0 ≡ v)

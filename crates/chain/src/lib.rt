@@ -83,7 +83,7 @@ pub fn largest(numbers: &[u32], n: usize) -> u32
     most_so_far
 }
 
-// The least of the first n numbers from each place on.
+// The least of the first n numbers from each index on.
 pub fn least_from(numbers: &[u32], n: usize, leasts: &mut [u32])
     requires { ⌜ (n ≤ length (now numbers)) × (n ≤ length (now leasts)) ⌝ }
     ensures { λ _. ⌜ ((i : ℕ) → i < n → LeastFrom (now (numbers .entry)) n i (getD (now (leasts .exit)) i 0)) ⌝ }

@@ -24,8 +24,8 @@ use Rattle.rules.proofs.Rows.FlowRows.{sum-where-join, row-counts, row-does-not
 use Rattle.rules.proofs.Placing.OpenSlots.{reopened}
 use Rattle.rules.proofs.Placing.Usable.{usable-from, shut-unusable, free-usable, none-free, free-from-release, none-free-before}
 use Rattle.rules.proofs.Reading.SameUse.{with-same}
-use Rattle.calendar.specs.Area.{workOf}
-use Rattle.calendar.proofs.Area.{used-work, work-ext}
+use Rattle.calendar.specs.Area.{areaHolding}
+use Rattle.calendar.proofs.Area.{used-holding, holding-ext}
 use Rattle.place.specs.Output.{Put}
 use Rattle.place.specs.Flows.{standsAt, newRows, FlowDone, FlowInfeasible}
 use Rattle.place.specs.Order.{shutRows}
@@ -154,30 +154,30 @@ unfolding workUsed
 used-again n rows others area = ap (λ (l : List ℕ). joinFrom (λ t. bytesOf 2 (usedIn rows t)) n 0 ++ l) (used-rest n others area)
 
 -- an area with any use, cleared
-work-cleared : (n : ℕ) (g : ℕ → ℕ) (area : List ℕ) → workZero n (workOf n g area) ≡ workZero n area
-work-cleared n g area =
+holding-cleared : (n : ℕ) (g : ℕ → ℕ) (area : List ℕ) → workZero n (areaHolding n g area) ≡ workZero n area
+holding-cleared n g area =
     let rows = joinFrom (λ u. rowFor u mostFlows 0 (g u)) n 0 in
-    ap (workZero n) (work-ext n area g (usedIn rows) (λ t l. sym (used-here g n t l)) ∙ sym (used-work n rows area)) ∙ used-cleared n rows area
+    ap (workZero n) (holding-ext n area g (usedIn rows) (λ t l. sym (used-here g n t l)) ∙ sym (used-holding n rows area)) ∙ used-cleared n rows area
 
 -- a value in each shut slot of an area, the others as they were
 abbrev pub ShutTo : Calendar → ℕ → List ℕ → List ℕ → Type 0
-ShutTo c value area area′ = (used : ℕ → ℕ) (bytes : List ℕ) → area ≡ workOf slots used bytes →
-    area′ ≡ workOf slots (λ t. if isOpen c t then used t else value) bytes
+ShutTo c value area area′ = (used : ℕ → ℕ) (bytes : List ℕ) → area ≡ areaHolding slots used bytes →
+    area′ ≡ areaHolding slots (λ t. if isOpen c t then used t else value) bytes
 
 module _ (b : Book) (range : CalendarInRange (b .calendar)) where
   -- all processors there: the area holds the maintenance
   pub shut-area : (area area′ : List ℕ) → area ≡ workUsed slots [] area → ShutTo (b .calendar) (b .processors) area area′ → area′ ≡ workUsed slots (shutRows b) area
   unfolding usedIn sumWhere
   shut-area area area′ e set =
-      set (usedIn []) area (e ∙ used-work slots [] area) ∙ work-ext slots area _ (usedIn (shutRows b)) (λ t l. sym (shut-used b range t))
-      ∙ sym (used-work slots (shutRows b) area)
+      set (usedIn []) area (e ∙ used-holding slots [] area) ∙ holding-ext slots area _ (usedIn (shutRows b)) (λ t l. sym (shut-used b range t))
+      ∙ sym (used-holding slots (shutRows b) area)
 
   -- 0 there, and the area holds the use of the flows alone
   pub opened-area : (rows : List Row) (area₀ area area′ : List ℕ) → ((t : ℕ) → usedIn (shutRows b ++ rows) t ≤ b .processors) →
       area ≡ workUsed slots (shutRows b ++ rows) area₀ → ShutTo (b .calendar) 0 area area′ → area′ ≡ workUsed slots rows area₀
   opened-area rows area₀ area area′ within e set =
-      set (usedIn (shutRows b ++ rows)) area₀ (e ∙ used-work slots (shutRows b ++ rows) area₀)
-      ∙ work-ext slots area₀ _ (usedIn rows) (λ t l. go t (isOpen (b .calendar) t) refl) ∙ sym (used-work slots rows area₀)
+      set (usedIn (shutRows b ++ rows)) area₀ (e ∙ used-holding slots (shutRows b ++ rows) area₀)
+      ∙ holding-ext slots area₀ _ (usedIn rows) (λ t l. go t (isOpen (b .calendar) t) refl) ∙ sym (used-holding slots rows area₀)
     where
       go : (t : ℕ) (o : Bool) → isOpen (b .calendar) t ≡ o → (if o then usedIn (shutRows b ++ rows) t else 0) ≡ usedIn rows t
       go t true q = omega (arith, used-append (shutRows b) rows t, open-used b range t q)
@@ -186,4 +186,4 @@ module _ (b : Book) (range : CalendarInRange (b .calendar)) where
   -- whatever it held, it is cleared as before
   pub opened-cleared : (others : List Row) (area₀ area area′ : List ℕ) → area ≡ workUsed slots others area₀ → ShutTo (b .calendar) 0 area area′ →
       workZero slots area′ ≡ workZero slots area₀
-  opened-cleared others area₀ area area′ e set = ap (workZero slots) (set (usedIn others) area₀ (e ∙ used-work slots others area₀)) ∙ work-cleared slots _ area₀
+  opened-cleared others area₀ area area′ e set = ap (workZero slots) (set (usedIn others) area₀ (e ∙ used-holding slots others area₀)) ∙ holding-cleared slots _ area₀

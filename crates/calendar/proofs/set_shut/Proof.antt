@@ -9,7 +9,7 @@ use lib.ListN.{length}
 use Rattle.rules.specs.Walks.{if_then_else_}
 use Rattle.rules.specs.Limits.{mostWindows, slots}
 use Rattle.rules.specs.Calendar.{Window, isOpen}
-use Rattle.calendar.specs.Area.{workOf}
+use Rattle.calendar.specs.Area.{areaHolding}
 use Rattle.calendar.proofs.Windows.{first-all, count-most, shut-first, reopening-most}
 use Rattle.calendar.proofs.Area.{ShutTo, shut-none, shut-next}
 use Rattle.calendar.proofs.set_shut.Statement.{statement}
@@ -71,7 +71,7 @@ returns c =
     let l = c .before .loop in
     let a = c .before .before .before .args in
     let all = first-all (a .t2) {k = l .k} (omega arith) in
-    λ used bytes e. l .inv .3 used bytes e ∙ ap (λ (w : List Window). workOf slots (λ t. if isOpen w t then used t else a .value) bytes) all
+    λ used bytes e. l .inv .3 used bytes e ∙ ap (λ (w : List Window). areaHolding slots (λ t. if isOpen w t then used t else a .value) bytes) all
 
 pub set-shut-spec : {M : Type 1} → statement M
 set-shut-spec =

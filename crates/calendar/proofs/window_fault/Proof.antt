@@ -1,6 +1,6 @@
 -- `window_fault` meets its contract. Each arm has the tests before it passed. Assumes nothing.
 use borrow.Author.Needs.{needs}
-use Rattle.calendar.proofs.Verdicts.{empty-window, late-window, first-window, next-window}
+use Rattle.calendar.proofs.Verdicts.{empty-window, far-window, first-window, next-window}
 use Rattle.calendar.proofs.window_fault.Statement.{statement}
 use Rattle.calendar.proofs.window_fault.Tie as tie
 
@@ -29,7 +29,7 @@ returns-2 : tie.Need-returns-2
 returns-2 c =
     let second = c .before .before in
     let a = second .before .before .before .args in
-    late-window (a .calendar .now) (a .k) (second .before .read16 .ensures) (second .read162 .ensures) (c .if2 .taken)
+    far-window (a .calendar .now) (a .k) (second .before .read16 .ensures) (second .read162 .ensures) (c .if2 .taken)
 
 returns-3 : tie.Need-returns-3
 returns-3 c =

@@ -1,5 +1,5 @@
--- `chain::least_from` meets its contract. The loop's invariant: the places from k on have their leasts, and `least_so_far` is
--- that of place k, where there is one. The measure is k. Assumes nothing.
+-- `chain::least_from` meets its contract. The loop's invariant: the indices from k on have their leasts, and `least_so_far` is
+-- that at index k, where there is one. The measure is k. Assumes nothing.
 use borrow.Author.Needs.{needs}
 use Prim.Native.Nat.{_-_}
 use native.Mathlib.Omega.{arith}
