@@ -33,7 +33,7 @@ use Rattle.place.specs.declared.Current.{Current}
 use Rattle.place.specs.declared.Placed.{Placed}
 use Rattle.place.specs.declared.Placed.the-variants.{To, Infeasible}
 use Rattle.place.specs.Service.{PartsHeld, pseudoJob}
-use Rattle.place.specs.Flows.{standing, Beside, rowsUpTo, Underway, UnderwayBy, WorkLeft, RunPlaced, PlaceIf, RunGoes, newRows, FlowDone, FlowInfeasible, FlowPlaced, FlowHeld}
+use Rattle.place.specs.Flows.{standing, Beside, rowsUpTo, Underway, UnderwayBy, WorkLeft, RunPlaced, OffsetIf, RunGoes, newRows, FlowDone, FlowInfeasible, FlowPlaced, FlowHeld}
 use Rattle.place.proofs.Output.{put-none, put-same-length}
 use Rattle.place.proofs.Steps.{stays-finished, no-more-rows, own-rows-within-free}
 
@@ -44,7 +44,7 @@ pub record FlowSoFar (b : Book) (f : ℕ) (x : Beside) (t slot : ℕ) (out area 
 
 -- what flow f is placed beside by a call that is lent this output
 abbrev pub beside : List Row → List ℕ → List ℕ → ℕ → Beside
-beside rows bytes out at = record { rows = rows; area = bytes; output = out; place = at }
+beside rows bytes out at = record { rows = rows; area = bytes; output = out; offset = at }
 
 module _ (b : Book) (f : ℕ) where
   abbrev w : Flow
@@ -126,15 +126,15 @@ module _ (b : Book) (f : ℕ) where
 
 -- ---- the loop over cuts: what is kept from its begin on
 pub record FlowKept (listed : Bool) (b : Book) (f at limit : ℕ) (out₀ area₀ out area : List ℕ) (t slot next : ℕ) : Type 0 where
-  pub place : ℕ
-  pub place-if : PlaceIf listed place next
-  pub place-to : place ≤ at + 384 * slot
+  pub offset : ℕ
+  pub offset-if : OffsetIf listed offset next
+  pub offset-to : offset ≤ at + 384 * slot
   pub cut-to : t ≤ path (flowOf b f)
   pub slot-to : slot ≤ limit
   pub out-length : length out ≡ length out₀
   pub area-length : length area ≡ length area₀
   pub so-far : (rows : List Row) (bytes : List ℕ) → area₀ ≡ workUsed slots rows bytes → ((u : ℕ) → usedIn rows u ≤ b .processors) →
-      FlowSoFar b f (beside rows bytes out₀ at) t slot out area place
+      FlowSoFar b f (beside rows bytes out₀ at) t slot out area offset
 
 -- ---- a flow that is read out of its book, on endless processors
 flow-in-range : (s : List ℕ) (f : ℕ) → bookFault s ≡ Pass → f < flowCount (bookOf s) → FlowInRange (bookOf s .processors) (flowOf (bookOf s) f)
@@ -228,9 +228,9 @@ module _ {s : List ℕ} {f : ℕ} {caps starts ends lasts firsts : List ℕ} {co
   pub flow-kept-first : {limit slot : ℕ} (listed : Bool) (at : ℕ) (out area : List ℕ) → flowOf (bookOf s) f .release ≤ limit →
       slot ≡ flowOf (bookOf s) f .release → FlowKept listed (bookOf s) f at limit out area out area 0 slot at
   flow-kept-first listed at out area l q = record {
-    place = at;
-    place-if = λ _. refl;
-    place-to = omega arith;
+    offset = at;
+    offset-if = λ _. refl;
+    offset-to = omega arith;
     cut-to = omega arith;
     slot-to = omega arith;
     out-length = refl;
@@ -301,17 +301,17 @@ module _ {s : List ℕ} {f : ℕ} {caps starts ends lasts firsts : List ℕ} {co
     flow-kept-next {listed} {at} {limit} {out₀} {area₀} {out} {area} {out′} {area′} {slot} {next} {slot′} {next′} P k answer told same-out same-area =
         let went : RunGoes listed s (currentAt t P r) slot next limit out area out′ area′ (To slot′ next′) =
         subst (λ (z : Placed). RunGoes listed s (currentAt t P r) slot next limit out area out′ area′ z) told answer in
-        let goes = went (k .place) (k .place-if) in
+        let goes = went (k .offset) (k .offset-if) in
         let placed = goes .2 in
         record {
-          place = goes .0;
-          place-if = goes .1;
-          place-to = omega (arith, placed .next-within, placed .slot-after, k .place-to);
+          offset = goes .0;
+          offset-if = goes .1;
+          offset-to = omega (arith, placed .next-within, placed .slot-after, k .offset-to);
           cut-to = run-here .run .within;
           slot-to = placed .slot-within;
           out-length = same-out ∙ k .out-length;
           area-length = same-area ∙ k .area-length;
-          so-far = λ rows bytes e within. flow-goes-on P (beside rows bytes out₀ at) slot (k .place) limit out area out′ area′ slot′ (goes .0)
+          so-far = λ rows bytes e within. flow-goes-on P (beside rows bytes out₀ at) slot (k .offset) limit out area out′ area′ slot′ (goes .0)
               (k .so-far rows bytes e within) placed;
         }
 
@@ -324,8 +324,8 @@ module _ {s : List ℕ} {f : ℕ} {caps starts ends lasts firsts : List ℕ} {co
         let left : RunGoes listed s (currentAt t P r) slot next limit out area out′ area′ Infeasible =
         subst (λ (z : Placed). RunGoes listed s (currentAt t P r) slot next limit out area out′ area′ z) told answer in
         flow-stops (bookOf s) f rows bytes out₀ out′ area′ at limit
-        (left (k .place) (k .place-if) (beside rows bytes out₀ at) _
-        (at-cut-under P (beside rows bytes out₀ at) slot out area (k .place) (k .so-far rows bytes used within)))
+        (left (k .offset) (k .offset-if) (beside rows bytes out₀ at) _
+        (at-cut-under P (beside rows bytes out₀ at) slot out area (k .offset) (k .so-far rows bytes used within)))
 
   pub flow-kept-done : {listed : Bool} {at limit : ℕ} {out₀ area₀ out area : List ℕ} {t slot next : ℕ} → limit ≤ 8192 →
       path (flowOf (bookOf s) f) ≤ t →
@@ -333,8 +333,8 @@ module _ {s : List ℕ} {f : ℕ} {caps starts ends lasts firsts : List ℕ} {co
       (rows : List Row) (bytes : List ℕ) → area₀ ≡ workUsed slots rows bytes → ((u : ℕ) → usedIn rows u ≤ bookOf s .processors) →
       FlowPlaced listed (bookOf s) f limit rows bytes out₀ at out area (To slot next)
   flow-kept-done {listed} {at} {limit} {out₀} {area₀} {out} {area} {t} {slot} {next} most over k rows bytes q within = (
-    k .place,
-    k .place-if,
-    flow-done (bookOf s) f rows bytes out₀ out area at limit t slot (k .place) flow-sized jobs-few
-        (path-positive s f (h .passes) (h .flow-in)) over (omega (arith, k .slot-to)) most (k .place-to) (k .so-far rows bytes q within),
+    k .offset,
+    k .offset-if,
+    flow-done (bookOf s) f rows bytes out₀ out area at limit t slot (k .offset) flow-sized jobs-few
+        (path-positive s f (h .passes) (h .flow-in)) over (omega (arith, k .slot-to)) most (k .offset-to) (k .so-far rows bytes q within),
   )

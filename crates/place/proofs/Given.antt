@@ -73,7 +73,7 @@ module _ {s : List ℕ} {c : Current} (v : InService s c) where
         let within : done + n ≤ work (currentFlow s c) (pseudoJob c) = omega (arith, work-held) in
         record {
           give-within = within;
-          next-within = omega (arith, put .place, slot-rows-within slot done n);
+          next-within = omega (arith, put .offset, slot-rows-within slot done n);
           gives = λ x ps u. e ∙ give-is x ps u;
           serves = λ x ps u.
               slot-served (bookOf s) (c .flow) x slot (pseudoJob c) ps done out area at few inside u n out′ area′ next (e ∙ give-is x ps u)

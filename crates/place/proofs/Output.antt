@@ -32,7 +32,7 @@ row-for-none t f i n e = rw e refl
 -- a row that fits
 pub put-one : (out : List ℕ) (at : ℕ) (r : Row) → at + 6 ≤ length out → Put out at (r ∷ []) (sets out at (rowBytes r)) (at + 6)
 unfolding putRows putRow
-put-one out at r l = record { output = rw (le-leb (at + 6) (length out) l) refl; place = refl }
+put-one out at r l = record { output = rw (le-leb (at + 6) (length out) l) refl; offset = refl }
 
 pub put-fits : (out : List ℕ) (at t f i n : ℕ) → (n ≡ 0 → ⊥) → at + 6 ≤ length out →
     Put out at (rowFor t f i n) (sets out at (rowBytes (row t f i n))) (at + 6)
@@ -49,7 +49,7 @@ rows-too-far out at [] l = refl
 rows-too-far out at (r ∷ rs) l = rw (row-too-far out at r l) (rows-too-far out (at + 6) rs (omega arith))
 
 pub put-rows-too-far : (out : List ℕ) (at : ℕ) (rows : List Row) → length out < at + 6 → Put out at rows out (at + 6 * length rows)
-put-rows-too-far out at rows l = record { output = sym (rows-too-far out at rows l); place = refl }
+put-rows-too-far out at rows l = record { output = sym (rows-too-far out at rows l); offset = refl }
 
 pub put-too-far : (out : List ℕ) (at t f i n : ℕ) → (n ≡ 0 → ⊥) → length out < at + 6 → Put out at (rowFor t f i n) out (at + 6)
 put-too-far out at t f i n ne l = rw (row-for-some t f i n ne) (put-rows-too-far out at (row t f i n ∷ []) l)
@@ -57,7 +57,7 @@ put-too-far out at t f i n ne l = rw (row-for-some t f i n ne) (put-rows-too-far
 -- no row
 pub put-none : (out : List ℕ) (at : ℕ) → Put out at [] out at
 unfolding putRows
-put-none out at = record { output = refl; place = sym (add-zero at) }
+put-none out at = record { output = refl; offset = sym (add-zero at) }
 
 pub put-nothing : (out : List ℕ) (at t f i n : ℕ) → n ≡ 0 → Put out at (rowFor t f i n) out at
 put-nothing out at t f i n e = rw (row-for-none t f i n e) (put-none out at)
@@ -88,8 +88,8 @@ pub put-more : (out out′ out″ : List ℕ) (at next next′ : ℕ) (xs ys : L
     Put out at (xs ++ ys) out″ next′
 put-more out out′ out″ at next next′ xs ys p q =
     record {
-      output = q .output ∙ rw (p .output, p .place) (sym (put-append out at xs ys));
-      place = rw length-append (omega (arith, p .place, q .place));
+      output = q .output ∙ rw (p .output, p .offset) (sym (put-append out at xs ys));
+      offset = rw length-append (omega (arith, p .offset, q .offset));
     }
 
 pub put-same-length : (out out′ : List ℕ) (at next : ℕ) (rows : List Row) → Put out at rows out′ next → length out′ ≡ length out

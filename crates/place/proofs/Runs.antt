@@ -127,7 +127,7 @@ module _ {s : List ℕ} {c : Current} (v : InService s c) where
         go (inl m) = m
         go (inr m) = absurd (omega (arith, k .nothing-yet (omega (arith, k .slot-from)), some-work))
 
--- ---- the same without rows, whose place may be any
+-- ---- the same without rows, whose offset may be any
 abbrev pub UsedKept : List ℕ → Current → ℕ → ℕ → List ℕ → List ℕ → ℕ → ℕ → Type 0
 UsedKept s c from limit area₀ area done slot = (at : ℕ) → (next : ℕ) × RunKept s c from limit at [] area₀ [] area done slot next
 

@@ -52,17 +52,17 @@ overlaps-within o n s a r =
     omega (arith, overlap-within (o + n) s a (max o s) (omega arith), overlap-within (o + n) (s + r) a (max o (s + r)) (omega arith))
 
 -- ---- the loop over parts
--- the rows of the jobs below j are put, and `off` units stand before those of job j
-pub record JobsPut (w : Flow) (f t : ℕ) (p : PseudoJob) (done n : ℕ) (out : List ℕ) (at : ℕ) (out′ : List ℕ) (next off j : ℕ) : Type 0 where
-  pub units : off ≡ offset w p j
+-- the rows of the jobs below j are put; before the units of job j stand `before` others
+pub record JobsPut (w : Flow) (f t : ℕ) (p : PseudoJob) (done n : ℕ) (out : List ℕ) (at : ℕ) (out′ : List ℕ) (next before j : ℕ) : Type 0 where
+  pub units : before ≡ offset w p j
   pub put : Put out at (rowsBelow w f t p done n j) out′ next
 
 -- the rows of the first q parts are put: those of the jobs below one that stands behind q parts
-pub record SlotKept (w : Flow) (f t : ℕ) (p : PseudoJob) (done n : ℕ) (out : List ℕ) (at : ℕ) (out′ : List ℕ) (next off q : ℕ) : Type 0 where
+pub record SlotKept (w : Flow) (f t : ℕ) (p : PseudoJob) (done n : ℕ) (out : List ℕ) (at : ℕ) (out′ : List ℕ) (next before q : ℕ) : Type 0 where
   pub job : ℕ
   pub job-to : job ≤ jobCount w
   pub behind : partsBelow (λ i. takeOf w i (p .first)) job ≡ q
-  pub so-far : JobsPut w f t p done n out at out′ next off job
+  pub so-far : JobsPut w f t p done n out at out′ next before job
 
 pub slot-kept-first : {w : Flow} {f t : ℕ} {p : PseudoJob} {done n : ℕ} {out : List ℕ} {at : ℕ} → SlotKept w f t p done n out at out at 0 0
 slot-kept-first {w} {f} {t} {p} {done} {n} {out} {at} = record {
@@ -73,9 +73,9 @@ slot-kept-first {w} {f} {t} {p} {done} {n} {out} {at} = record {
 }
 
 -- one turn, in a slot that uses `give` units of the pseudo-job in service after the first `done`
-module _ {s : List ℕ} {c : Current} {names takes rows : List ℕ} (v : Serving s c names takes rows) {done give t at next off q : ℕ}
+module _ {s : List ℕ} {c : Current} {names takes rows : List ℕ} (v : Serving s c names takes rows) {done give t at next before q : ℕ}
     {out out′ : List ℕ} (fits : done + give ≤ work (currentFlow s c) (pseudoJob c)) (most : give ≤ c .rate)
-    (k : SlotKept (currentFlow s c) (c .flow) t (pseudoJob c) done give out at out′ next off q) where
+    (k : SlotKept (currentFlow s c) (c .flow) t (pseudoJob c) done give out at out′ next before q) where
   abbrev w : Flow
   w = currentFlow s c
 
@@ -86,7 +86,7 @@ module _ {s : List ℕ} {c : Current} {names takes rows : List ℕ} (v : Serving
   take i = takeOf w i (c .first)
 
   abbrev PutBelow : ℕ → Type 0
-  PutBelow j = JobsPut w (c .flow) t p done give out at out′ next off j
+  PutBelow j = JobsPut w (c .flow) t p done give out at out′ next before j
 
   positive : 0 < rate w p
   positive = omega (arith, v .held .in-service .rate, v .held .in-service .rate-positive)
@@ -102,18 +102,18 @@ module _ {s : List ℕ} {c : Current} {names takes rows : List ℕ} (v : Serving
   part l = part-at take (jobCount w) names takes (c .parts) (v .held .parts) PutBelow pass (k .job) q (k .job-to) (k .behind) l (k .so-far)
 
   -- the units of part q in a slot of the run stand within the slot
-  pub units-within : q < c .parts → off + getD takes q 0 ≤ c .rate
+  pub units-within : q < c .parts → before + getD takes q 0 ≤ c .rate
   units-within l =
       let j = part l in
       omega (arith, j .holds .units, j .amount-is, v .held .in-service .rate, offset-within-rate w p (j .job) (j .job-in))
 
   -- what its row asks
   pub row-asked : q < c .parts → at + 384 < 4294967296 →
-      (next < 4294967296) × (done % c .rate < c .rate) × (give ≤ c .rate) × (off + getD takes q 0 ≤ c .rate) × (c .rate ≤ 262144) ×
+      (next < 4294967296) × (done % c .rate < c .rate) × (give ≤ c .rate) × (before + getD takes q 0 ≤ c .rate) × (c .rate ≤ 262144) ×
       (getD takes q 0 ≤ 4096)
   row-asked l room =
       let j = part l in (
-        omega (arith, j .holds .put .place, slot-rows-few t (c .flow) (λ i. share w p i done give) (j .job), j .job-in, jobs-within (v .held .in-service)),
+        omega (arith, j .holds .put .offset, slot-rows-few t (c .flow) (λ i. share w p i done give) (j .job), j .job-in, jobs-within (v .held .in-service)),
         mod-lt done (v .held .in-service .rate-positive),
         most,
         units-within l,
@@ -127,8 +127,8 @@ module _ {s : List ℕ} {c : Current} {names takes rows : List ℕ} (v : Serving
 
   -- its row after those of the parts before it
   pub slot-kept-next : {out″ : List ℕ} {next′ : ℕ} → q < c .parts →
-      Put out′ next (rowFor t (c .flow) (getD names q 0) (overlaps (done % c .rate) give off (getD takes q 0) (c .rate))) out″ next′ →
-      SlotKept w (c .flow) t p done give out at out″ next′ (off + getD takes q 0) (q + 1)
+      Put out′ next (rowFor t (c .flow) (getD names q 0) (overlaps (done % c .rate) give before (getD takes q 0) (c .rate))) out″ next′ →
+      SlotKept w (c .flow) t p done give out at out″ next′ (before + getD takes q 0) (q + 1)
   slot-kept-next {out″} {next′} l row =
       let j = part l in
       let its : Put out′ next (rowFor t (c .flow) (j .job) (share w p (j .job) done give)) out″ next′ =

@@ -81,7 +81,7 @@ module _ (b : Book) (f : ℕ) (x : Beside) (t : ℕ) (p : PseudoJob) (ps : List 
             ∙ rw (u .area-used, ← used-so-far) refl
             ∙ sym (used-more slots t n rows new (x .area) inside (job-rows-used w f t p done n pos h) (job-rows-elsewhere w f t p done n))
             ∙ ap (λ more. workUsed slots more (x .area)) (append-assoc (x .rows) (rowsUpTo b f x t) new ∙ ap (x .rows ++_) (sym all));
-        put = rw all (put-more (x .output) out out′ (x .place) at next (rowsUpTo b f x t) new (u .put) put);
+        put = rw all (put-more (x .output) out out′ (x .offset) at next (rowsUpTo b f x t) new (u .put) put);
       }
 
   -- a slot that gives nothing

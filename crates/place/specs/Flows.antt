@@ -25,13 +25,13 @@ use Rattle.place.specs.Service.{currentFlow, pseudoJob}
 abbrev pub standing : List PseudoJob → ℕ → Progress
 standing left done = record { left = left; done = done }
 
--- what a flow is placed beside: the rows of the flows before it, the bytes of the area past the slots, and the output and the place in it at
+-- what a flow is placed beside: the rows of the flows before it, the bytes of the area past the slots, and the output and the offset in it at
 -- which its own rows begin
 pub record Beside : Type 0 where
   pub rows : List Row
   pub area : List ℕ
   pub output : List ℕ
-  pub place : ℕ
+  pub offset : ℕ
 
 -- its rows in the first t slots
 abbrev pub rowsUpTo : Book → ℕ → Beside → ℕ → List Row
@@ -43,7 +43,7 @@ pub record Underway (b : Book) (f : ℕ) (x : Beside) (t : ℕ) (g : Progress) (
   pub released : flowOf b f .release ≤ t
   pub stands : progress (flowOf b f) (freeProcessors b f (x .rows)) t ≡ g
   pub area-used : area ≡ workUsed slots (x .rows ++ rowsUpTo b f x t) (x .area)
-  pub put : Put (x .output) (x .place) (rowsUpTo b f x t) out next
+  pub put : Put (x .output) (x .offset) (rowsUpTo b f x t) out next
 
 -- ---- one slot
 -- the flow of the pseudo-job in service, on its way
@@ -87,7 +87,7 @@ RunAnswer s c from at limit out area out′ area′ Infeasible =
     WorkLeft (bookOf s) (c .flow) x limit out′ area′
 
 -- ---- without rows
--- Rows that are not put have a place all the same: any place at which those before them end. In no bytes at all, nothing is put.
+-- Rows that are not put have an offset all the same: any offset at which those before them end. In no bytes at all, nothing is put.
 
 -- the slot of a pseudo-job that makes no rows
 abbrev pub SlotUsed : List ℕ → Current → ℕ → ℕ → List ℕ → List ℕ → ℕ → Type 0
@@ -98,21 +98,21 @@ abbrev pub RunUsed : List ℕ → Current → ℕ → ℕ → List ℕ → List 
 RunUsed s c from limit area area′ (To slot next) = (at : ℕ) → (next : ℕ) × RunPlaced s c from at limit [] area [] area′ slot next
 RunUsed s c from limit area area′ Infeasible = (at : ℕ) → RunAnswer s c from at limit [] area [] area′ Infeasible
 
--- the place in the table that the code holds is the rows' place where they are put
-abbrev pub PlaceIf : Bool → ℕ → ℕ → Type 0
-PlaceIf listed place held = listed ≡ true → place ≡ held
+-- the offset in the table that the code holds is the rows' offset where they are put
+abbrev pub OffsetIf : Bool → ℕ → ℕ → Type 0
+OffsetIf listed offset held = listed ≡ true → offset ≡ held
 
--- the places of rows that are put fit a number; where none are put, no output is lent
+-- the offsets of rows that are put fit a number; where none are put, no output is lent
 pub record Room (listed : Bool) (lent last : ℕ) : Type 0 where
-  pub places : listed ≡ true → last < 4294967296
+  pub offsets : listed ≡ true → last < 4294967296
   pub nothing-lent : listed ≡ false → lent ≡ 0
 
 -- what the placing of a pseudo-job answers, whether its rows are put or not
 abbrev pub RunGoes : Bool → List ℕ → Current → ℕ → ℕ → ℕ → List ℕ → List ℕ → List ℕ → List ℕ → Placed → Type 0
 RunGoes listed s c from held limit out area out′ area′ (To slot next) =
-    (at : ℕ) → PlaceIf listed at held → (place : ℕ) × PlaceIf listed place next × RunPlaced s c from at limit out area out′ area′ slot place
+    (at : ℕ) → OffsetIf listed at held → (offset : ℕ) × OffsetIf listed offset next × RunPlaced s c from at limit out area out′ area′ slot offset
 RunGoes listed s c from held limit out area out′ area′ Infeasible =
-    (at : ℕ) → PlaceIf listed at held → RunAnswer s c from at limit out area out′ area′ Infeasible
+    (at : ℕ) → OffsetIf listed at held → RunAnswer s c from at limit out area out′ area′ Infeasible
 
 -- ---- one flow
 -- the lists hold flow f of the book in these bytes, which passes: its caps, and its starts, ends, last takes and least starts on endless
@@ -158,5 +158,5 @@ pub record FlowInfeasible (b : Book) (f limit : ℕ) (rows : List Row) (area out
 -- what the placing of flow f in the slots below a limit answers
 abbrev pub FlowPlaced : Bool → Book → ℕ → ℕ → List Row → List ℕ → List ℕ → ℕ → List ℕ → List ℕ → Placed → Type 0
 FlowPlaced listed b f limit rows area out at out′ area′ (To finish next) =
-    (place : ℕ) × PlaceIf listed place next × FlowDone b f limit rows area out at out′ area′ finish place
+    (offset : ℕ) × OffsetIf listed offset next × FlowDone b f limit rows area out at out′ area′ finish offset
 FlowPlaced listed b f limit rows area out at out′ area′ Infeasible = FlowInfeasible b f limit rows area out out′ area′

@@ -9,7 +9,7 @@ use Rattle.rules.specs.Walks.{if_then_else_}
 use Rattle.rules.specs.Rows.{Row}
 use Rattle.rules.specs.Table.{rowLength, rowBytes}
 
--- a row put at a place of the output, if it fits whole
+-- a row put at an offset of the output, if it fits whole
 unfoldable pub putRow : List ℕ → ℕ → Row → List ℕ
 putRow out at r = if leb (at + rowLength) (length out) then sets out at (rowBytes r) else out
 
@@ -18,7 +18,7 @@ unfoldable pub putRows : List ℕ → ℕ → List Row → List ℕ
 putRows out at [] = out
 putRows out at (r ∷ rs) = putRows (putRow out at r) (at + rowLength) rs
 
--- rows are put from a place of an output on: the output after that, and the place after them
+-- rows are put from an offset of an output on: the output after that, and the offset after them
 pub record Put (out : List ℕ) (at : ℕ) (rows : List Row) (out′ : List ℕ) (next : ℕ) : Type 0 where
   pub output : out′ ≡ putRows out at rows
-  pub place : next ≡ at + rowLength * length rows
+  pub offset : next ≡ at + rowLength * length rows

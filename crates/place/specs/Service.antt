@@ -51,9 +51,9 @@ pub record Serving (s : List ℕ) (c : Current) (names takes rows : List ℕ) : 
   pub rows-whole : c .parts ≤ length rows
   pub rows-are : (q : ℕ) → q < c .parts → Packs (getD rows q 0) (c .flow) (getD names q 0) (getD takes q 0)
 
--- the units of one job among n units from the o-th of a slot on, where its own begin at `offset` in each slot
+-- the units of one job among n units from the o-th of a slot on, where its own stand after the first `before` of each slot
 abbrev pub overlaps : ℕ → ℕ → ℕ → ℕ → ℕ → ℕ
-overlaps o n offset a r = (min (o + n) (offset + a) - max o offset) + (min (o + n) (offset + r + a) - max o (offset + r))
+overlaps o n before a r = (min (o + n) (before + a) - max o before) + (min (o + n) (before + r + a) - max o (before + r))
 
 -- the rows of flow f in slot t, in which the pseudo-job p gets n units after the first `done`
 unfoldable pub jobRows : Flow → ℕ → ℕ → PseudoJob → ℕ → ℕ → List Row

@@ -36,16 +36,16 @@ pub fn overlap(a: u32, b: u32, c: u32, d: u32) -> u32
     0
 }
 
-// What a job has of the units from the o-th of a slot on: its own begin at `offset` in each slot.
-pub fn share_of(o: u32, give: u32, offset: u32, take: u32, rate: u32) -> u32
-    requires { ⌜ (o < rate) × (give ≤ rate) × (offset + take ≤ rate) × (rate ≤ 262144) ⌝ }
-    ensures { λ r. ⌜ r ≡ overlaps o give offset take rate ⌝ }
+// What a job has of the units from the o-th of a slot on: its own stand after the first `before` of each slot.
+pub fn share_of(o: u32, give: u32, before: u32, take: u32, rate: u32) -> u32
+    requires { ⌜ (o < rate) × (give ≤ rate) × (before + take ≤ rate) × (rate ≤ 262144) ⌝ }
+    ensures { λ r. ⌜ r ≡ overlaps o give before take rate ⌝ }
 {
-    overlap(o, o + give, offset, offset + take)
-        + overlap(o, o + give, offset + rate, offset + rate + take)
+    overlap(o, o + give, before, before + take)
+        + overlap(o, o + give, before + rate, before + rate + take)
 }
 
-// The row of a job that has processors, where the output has room for it; the place after it.
+// The row of a job that has processors, where the output has room for it; the offset after it.
 pub fn put_row(out: &mut [u8], at: usize, slot: u16, flow: u8, job: u8, processors: u16) -> usize
     requires { ⌜ at < 4294967296 ⌝ }
     ensures { λ r. ⌜ Put (now (out .entry)) at (rowFor slot flow job processors) (now (out .exit)) r ⌝ }
@@ -70,14 +70,14 @@ pub fn put_share(
     job: u8,
     o: u32,
     give: u32,
-    offset: u32,
+    before: u32,
     take: u32,
     rate: u32,
 ) -> usize
-    requires { ⌜ (at < 4294967296) × (o < rate) × (give ≤ rate) × (offset + take ≤ rate) × (rate ≤ 262144) × (take ≤ 4096) ⌝ }
-    ensures { λ r. ⌜ Put (now (out .entry)) at (rowFor slot flow job (overlaps o give offset take rate)) (now (out .exit)) r ⌝ }
+    requires { ⌜ (at < 4294967296) × (o < rate) × (give ≤ rate) × (before + take ≤ rate) × (rate ≤ 262144) × (take ≤ 4096) ⌝ }
+    ensures { λ r. ⌜ Put (now (out .entry)) at (rowFor slot flow job (overlaps o give before take rate)) (now (out .exit)) r ⌝ }
 {
-    let share = share_of(o, give, offset, take, rate);
+    let share = share_of(o, give, before, take, rate);
     put_row(out, at, slot, flow, job, share as u16)
 }
 
@@ -101,7 +101,7 @@ pub fn pack_parts(flow: u8, names: &[u8], takes: &[u32], parts: usize, rows: &mu
     }
 }
 
-// A packed row of a slot, where the output has room for it; the place after it.
+// A packed row of a slot, where the output has room for it; the offset after it.
 pub fn put_packed(out: &mut [u8], at: usize, slot: u16, row: u32) -> usize
     requires { ⌜ at < 4294967296 ⌝ }
     ensures { λ r. ⌜ Put (now (out .entry)) at (packedRow slot row ∷ []) (now (out .exit)) r ⌝ }
@@ -118,7 +118,7 @@ pub fn put_packed(out: &mut [u8], at: usize, slot: u16, row: u32) -> usize
     end
 }
 
-// The rows of a slot in which each part has its take: it is one whole slot of the run; the place after them.
+// The rows of a slot in which each part has its take: it is one whole slot of the run; the offset after them.
 pub fn put_full(rows: &[u32], out: &mut [u8], at: usize, slot: u16, parts: usize) -> usize
     requires { ⌜ (parts ≤ length (now rows)) × (parts ≤ 64) × (at + 384 < 4294967296) ⌝ }
     ensures { λ r. ⌜ Put (now (out .entry)) at (packedRows slot (now (rows .entry)) parts) (now (out .exit)) r ⌝ }
@@ -135,7 +135,7 @@ pub fn put_full(rows: &[u32], out: &mut [u8], at: usize, slot: u16, parts: usize
     next
 }
 
-// The rows of one slot, which uses `give` units after the first `done`; the place after them.
+// The rows of one slot, which uses `give` units after the first `done`; the offset after them.
 pub fn put_slot(
     book: &[u8],
     names: &[u8],
@@ -158,7 +158,7 @@ pub fn put_slot(
     let flow = c.flow as u8;
     let o = (done % (c.rate as u64)) as u32;
     let mut next = at;
-    let mut offset: u32 = 0;
+    let mut before: u32 = 0;
     let mut q: usize = 0;
     while q < parts {
         let take = takes[q];
@@ -170,11 +170,11 @@ pub fn put_slot(
             names[q],
             o,
             give,
-            offset,
+            before,
             take,
             c.rate,
         );
-        offset = offset + take;
+        before = before + take;
         q = q + 1;
     }
     next
@@ -194,13 +194,13 @@ pub fn give_of(rate: u32, left: u64, processors: u16, used: u16) -> u32
     most
 }
 
-// What a slot gave, and the place after its rows.
+// What a slot gave, and the offset after its rows.
 pub struct Served {
     pub next: usize,
     pub give: u32,
 }
 
-// Where placing came to: a slot and the place in the table, or the work that is left makes the book infeasible.
+// Where placing came to: a slot and the offset in the table, or the work that is left makes the book infeasible.
 pub enum Placed {
     To(usize, usize),
     Infeasible,

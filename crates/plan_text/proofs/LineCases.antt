@@ -88,7 +88,7 @@ line-most table a n =
 -- ---- lines put one after the other
 pub text-none : (table : List ℕ) (a : PlanAnswer) {l : List ℕ} → Put l 0 (firstLines table a 0) l 0
 unfolding joinFrom
-text-none table a = record { stored = refl; place-after = refl }
+text-none table a = record { stored = refl; offset-after = refl }
 
 pub text-more : (table : List ℕ) (a : PlanAnswer) (n : ℕ) {l m r : List ℕ} {at next : ℕ} →
     Put l 0 (firstLines table a n) m at → Put m at (lineAt table a n) r next → Put l 0 (firstLines table a (n + 1)) r next

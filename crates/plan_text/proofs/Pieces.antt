@@ -39,8 +39,8 @@ use Rattle.plan_text.specs.Put.{Put, pairLine, longestLine}
 pub put-after : {l m r a b : List ℕ} {at k next : ℕ} → Put l at a m k → Put m k b r next → Put l at (a ++ b) r next
 put-after {l} {m} {r} {a} {b} {at} {k} {next} p q = record {
   stored =
-      q .stored ∙ ap (λ (x : List ℕ). sets x k b) (p .stored) ∙ ap (λ (n : ℕ). sets (sets l at a) n b) (p .place-after) ∙ sets-append l at a b;
-  place-after = q .place-after ∙ omega (arith, length-append a b, p .place-after);
+      q .stored ∙ ap (λ (x : List ℕ). sets x k b) (p .stored) ∙ ap (λ (n : ℕ). sets (sets l at a) n b) (p .offset-after) ∙ sets-append l at a b;
+  offset-after = q .offset-after ∙ omega (arith, length-append a b, p .offset-after);
 }
 
 -- a piece is its bytes, however they are written
@@ -92,7 +92,7 @@ digits-more (suc n) x h g = let e : suc n - 1 ≡ n = omega arith in rw (e, le-l
 -- a number below 2 ^ 32 has at most ten digits: where a word and its number end, and the buffer's length, kept
 pub number-room : (word : List ℕ) (x : ℕ) {l m : List ℕ} {at k : ℕ} → Put l at (word ++ decimal x) m k →
     (k ≤ at + (length word + 10)) × (length m ≡ length l)
-number-room word x p = (omega (arith, p .place-after, length-append word (decimal x), digits-most 9 x), put-length p)
+number-room word x p = (omega (arith, p .offset-after, length-append word (decimal x), digits-most 9 x), put-length p)
 
 -- ---- the lines, from their pieces
 pub put-pair-line : (first : List ℕ) (x : ℕ) (second : List ℕ) (y : ℕ) {l m n r : List ℕ} {at j k next : ℕ} →

@@ -48,17 +48,17 @@ module _ (t : List ℕ) (bytes late : ℕ) where
   finish-part =
       join-moved lines (λ f. finishLine f (field 2 t (8 + 2 * f))) (flowsIn t) (0 + 1) 0
       (λ k l.
-      let place : 8 + 2 * (0 + k) ≡ 6 + 2 * (0 + 1 + k) = omega arith in
+      let offset : 8 + 2 * (0 + k) ≡ 6 + 2 * (0 + 1 + k) = omega arith in
       let flow : 0 + 1 + k - 1 ≡ 0 + k = omega arith in
-      sym (line-finish t bytes late (0 + 1 + k) (field 2 t (8 + 2 * (0 + k))) (omega arith) (omega arith) (ap (field 2 t) place))
+      sym (line-finish t bytes late (0 + 1 + k) (field 2 t (8 + 2 * (0 + k))) (omega arith) (omega arith) (ap (field 2 t) offset))
       ∙ ap (λ (f : ℕ). finishLine f (field 2 t (8 + 2 * (0 + k)))) flow)
 
   row-part : joinFrom lines rowCount (0 + (1 + flowsIn t)) ≡ rowLines (listFrom (λ k. rowAt t (rowsFrom t + rowLength * k)) rowCount 0)
   row-part =
       join-moved lines (λ k. rowLine (rowAt t (rowsFrom t + rowLength * k))) rowCount (0 + (1 + flowsIn t)) 0
       (λ k l.
-      let place : 8 + 2 * flowsIn t + 6 * (0 + (1 + flowsIn t) + k - (1 + flowsIn t)) ≡ rowsFrom t + rowLength * (0 + k) = omega arith in
-      sym (line-row t bytes late (0 + (1 + flowsIn t) + k) (flowsIn t) refl (omega arith)) ∙ ap (λ (p : ℕ). rowLine (rowAt t p)) place)
+      let offset : 8 + 2 * flowsIn t + 6 * (0 + (1 + flowsIn t) + k - (1 + flowsIn t)) ≡ rowsFrom t + rowLength * (0 + k) = omega arith in
+      sym (line-row t bytes late (0 + (1 + flowsIn t) + k) (flowsIn t) refl (omega arith)) ∙ ap (λ (p : ℕ). rowLine (rowAt t p)) offset)
       ∙ lines-of-rows (λ k. rowAt t (rowsFrom t + rowLength * k)) rowCount 0
 
   -- the lines of a table, in their three parts

@@ -6,10 +6,10 @@ use lib.ListN.{length}
 use lib.Seq.{sets}
 use Rattle.rules.specs.Text.{decimal, wordEnd}
 
--- the buffer holds the piece from `at` on, and `next` is the place after it
+-- the buffer holds the piece from `at` on, and `next` is the offset after it
 pub record Put (before : List ℕ) (at : ℕ) (piece after : List ℕ) (next : ℕ) : Type 0 where
   pub stored : after ≡ sets before at piece
-  pub place-after : next ≡ at + length piece
+  pub offset-after : next ≡ at + length piece
 
 -- two words, each with the number after it, and the end of the line
 abbrev pub pairLine : List ℕ → ℕ → List ℕ → ℕ → List ℕ

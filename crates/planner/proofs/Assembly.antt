@@ -1,4 +1,4 @@
--- A table put together in an output that has room for it: the rows behind the place of head and finishes, then the finishes, then the head.
+-- A table put together in an output that has room for it: the rows behind the bytes of head and finishes, then the finishes, then the head.
 -- Each store replaces a part of the output by one as long, so that in the end the parts stand one after the other. Assumes nothing.
 use mathlib.Core.Path.{_≡_, refl, sym, ap, _∙_}
 use Prim.Native.Nat.{ℕ, suc, _+_, _*_, _≤_, _<_}

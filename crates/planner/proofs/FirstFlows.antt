@@ -28,7 +28,7 @@ use Rattle.planner.specs.declared.Ended.the-variants.{Planned, Infeasibl
 use Rattle.planner.specs.declared.Whole.{Whole}
 use Rattle.planner.specs.Whole.{RowsPut, endedOf, FlowsPlaced, FirstPlaced}
 
--- a flow whose rows are put is done at the place that the code holds
+-- a flow whose rows are put is done at the offset that the code holds
 pub listed-done : {b : Book} {f limit : ℕ} {rows : List Row} {area out out′ area′ : List ℕ} {at finish next : ℕ} →
     FlowPlaced true b f limit rows area out at out′ area′ (To finish next) → FlowDone b f limit rows area out at out′ area′ finish next
 listed-done {b} {f} {limit} {rows} {area} {out} {out′} {area′} {at} {finish} p =
@@ -41,9 +41,9 @@ pub record PutSoFar (b : Book) (k : ℕ) (rows : List Row) (out area out′ area
   pub size : length finishes ≡ 64
 
 -- a table is at most 201,326,728 bytes
-pub place-most : {b : Book} {k : ℕ} {rows : List Row} {out out′ finishes : List ℕ} {next : ℕ} → k ≤ flowCount b → flowCount b ≤ 64 →
+pub offset-most : {b : Book} {k : ℕ} {rows : List Row} {out out′ finishes : List ℕ} {next : ℕ} → k ≤ flowCount b → flowCount b ≤ 64 →
     RowsPut b k rows out out′ finishes next → next ≤ 136 + 3145728 * k
-place-most l h p = omega (arith, p .put .place, p .few)
+offset-most l h p = omega (arith, p .put .offset, p .few)
 
 -- ---- no flow
 zero-at : (n i : ℕ) → _≡_ {A = ℕ} (getD (replicate n 0) i 0) 0
@@ -56,7 +56,7 @@ pub put-none-yet : (b : Book) (out area : List ℕ) (next n : ℕ) → CalendarI
 unfolding putRows finishOf
 put-none-yet b out area next n range holds e whole = record {
   stands = stands-none b area range holds;
-  rows-put = record { put = record { output = refl; place = omega arith }; finish = λ f l. zero-at n f; few = omega arith };
+  rows-put = record { put = record { output = refl; offset = omega arith }; finish = λ f l. zero-at n f; few = omega arith };
   size = length-replicate n 0 ∙ whole;
 }
 
@@ -70,7 +70,7 @@ goes-on {b} {k} {f} {rows} {out} {area} {out′} {area′} {finishes} {next} s l
   rows-put = record {
     put = put-more out out′ out″ (tableHead b) next next″ rows new (s .rows-put .put) (d .put);
     finish = each;
-    few = omega (arith, length-append rows new, d .next-within, d .put .place, s .rows-put .few);
+    few = omega (arith, length-append rows new, d .next-within, d .put .offset, s .rows-put .few);
   };
   size = length-set finishes f finish ∙ s .size;
 }
@@ -102,8 +102,8 @@ module _ (b : Book) (k : ℕ) (out area out′ area′ : List ℕ) (r : Whole) w
       FlowsPlaced b k out area out′ area′ r
   unfolding tableLength
   ends-planned j rows next stood q e = let s : PutSoFar b k rows out area out′ area′ (r .finish) next = rw q at stood in record {
-    ends = e ∙ ap Planned (s .rows-put .put .place) ∙ ap (endedOf b) (sym (s .stands .placed));
-    rows-put = λ others d. let p = s .stands .placed in let e : others ≡ rows = cc in rw (e, ← s .rows-put .put .place) (s .rows-put);
+    ends = e ∙ ap Planned (s .rows-put .put .offset) ∙ ap (endedOf b) (sym (s .stands .placed));
+    rows-put = λ others d. let p = s .stands .placed in let e : others ≡ rows = cc in rw (e, ← s .rows-put .put .offset) (s .rows-put);
     stands = λ others d. let p = s .stands .placed in let e : others ≡ rows = cc in rw e (s .stands);
     others = shutRows b ++ rows;
     area-used = s .stands .area-used;

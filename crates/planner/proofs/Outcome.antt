@@ -37,7 +37,7 @@ use Rattle.planner.specs.Whole.{RowsPut, endedOf, FirstPlaced}
 use Rattle.planner.proofs.Assembly.{table-stored}
 use Rattle.place.proofs.Output.{no-bytes}
 use Rattle.book.proofs.LateFlows.{late-counted}
-use Rattle.planner.proofs.FirstFlows.{place-most}
+use Rattle.planner.proofs.FirstFlows.{offset-most}
 
 -- ---- the area
 -- the use of rows asks nothing of an area but what is past its slots
@@ -157,7 +157,7 @@ counted s c x order out area part part′ area₁ area₂ area₃ r a e l f d = 
       omega (
         arith,
         few-flows a,
-        place-most (omega arith) (omega (arith, few-flows a)) (f .rows-put rows (ap (placeFirst b) q ∙ p)),
+        offset-most (omega arith) (omega (arith, few-flows a)) (f .rows-put rows (ap (placeFirst b) q ∙ p)),
       );
   output-kept = ap (_++ out) (no-bytes part′ l);
   area-zero = d ∙ f .cleared ∙ ap (workZero slots) e ∙ cleared-twice slots area;

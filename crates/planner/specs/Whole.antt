@@ -14,7 +14,7 @@ use Rattle.planner.specs.declared.Ended.{Ended}
 use Rattle.planner.specs.declared.Ended.the-variants.{Planned, Infeasible}
 use Rattle.planner.specs.declared.Whole.{Whole}
 
--- the rows of the first k flows are put behind the place of head and finishes, and the finishes are theirs
+-- the rows of the first k flows are put behind the bytes of head and finishes, and the finishes are theirs
 pub record RowsPut (b : Book) (k : ℕ) (rows : List Row) (out out′ finishes : List ℕ) (next : ℕ) : Type 0 where
   pub put : Put out (tableHead b) rows out′ next
   pub finish : (f : ℕ) → f < flowCount b → getD finishes f 0 ≡ finishOf rows f

@@ -24,7 +24,7 @@ use rules::Verdict;
 
 pub mod table;
 
-// How the placing of flows ends: with the place after the last row, or with a flow that makes the book infeasible.
+// How the placing of flows ends: with the offset after the last row, or with a flow that makes the book infeasible.
 pub enum Ended {
     Planned(usize),
     Infeasible(u8),

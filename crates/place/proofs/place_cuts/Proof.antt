@@ -84,7 +84,7 @@ run-as-requires c κs =
       k .slot-to,
       v .7,
       record {
-        places = λ t. omega (arith, v .9 .places t, k .place-if t, k .place-to, k .slot-to, v .7);
+        offsets = λ t. omega (arith, v .9 .offsets t, k .offset-if t, k .offset-to, k .slot-to, v .7);
         nothing-lent = λ t. omega (arith, v .9 .nothing-lent t, k .out-length);
       },
     )

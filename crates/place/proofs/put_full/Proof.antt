@@ -46,7 +46,7 @@ put-packed-requires c κs =
     let a = c .before .before .before .before .before .before .before .args in
     let v = c .before .before .before .before .before .before .before .pre in
     let l = c .before .before .before .loop in
-    omega (arith, l .inv .1 .place, packed-rows-length (a .slot) (a .rows .now) (l .q), l .inv .0, v .1, v .2)
+    omega (arith, l .inv .1 .offset, packed-rows-length (a .slot) (a .rows .now) (l .q), l .inv .0, v .1, v .2)
 
 add-q : tie.Need-add-q Inv-loop μ-loop
 add-q c = search needs

@@ -11,7 +11,7 @@ share-of-requires c κs = search needs
 cast-put-row : tie.Need-cast-put-row
 cast-put-row c =
     let a = c .before .before .before .args in
-    omega (arith, c .before .share-of .ensures, overlaps-within (a .o) (a .give) (a .offset) (a .take) (a .rate))
+    omega (arith, c .before .share-of .ensures, overlaps-within (a .o) (a .give) (a .before) (a .take) (a .rate))
 
 put-row-requires : tie.Need-put-row-requires
 put-row-requires c κs = search needs

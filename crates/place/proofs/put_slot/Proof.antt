@@ -13,11 +13,11 @@ use Rattle.place.proofs.put_slot.Statement.{statement}
 use Rattle.place.proofs.put_slot.Tie as tie
 
 abbrev Inv-loop : tie.InvT-loop
-Inv-loop book names takes rows out₀ at c done give slot parts flow o next₀ offset₀ q₀ out next offset q =
-    SlotKept (currentFlow book c) (c .flow) slot (pseudoJob c) done give out₀ at out next offset q
+Inv-loop book names takes rows out₀ at c done give slot parts flow o next₀ before₀ q₀ out next before q =
+    SlotKept (currentFlow book c) (c .flow) slot (pseudoJob c) done give out₀ at out next before q
 
 abbrev μ-loop : tie.MeasureT-loop
-μ-loop book names takes rows out₀ at c done give slot parts flow o next₀ offset₀ q₀ out next offset q = parts - q
+μ-loop book names takes rows out₀ at c done give slot parts flow o next₀ before₀ q₀ out next before q = parts - q
 
 cast-put-full : tie.Need-cast-put-full Inv-loop μ-loop
 cast-put-full c = search needs
@@ -72,8 +72,8 @@ put-share-requires c κs =
     let l = c .before .before .before .before .loop in
     row-asked (v .0) (v .1) (v .2) (l .inv) (c .before .before .before .loop-test .taken) (v .4)
 
-add-offset : tie.Need-add-offset Inv-loop μ-loop
-add-offset c =
+add-before : tie.Need-add-before Inv-loop μ-loop
+add-before c =
     let v = c .before .before .before .before .before .before .before .before .before .before .before .before .before .before .before .before .before .pre in
     let l = c .before .before .before .before .before .before .before .loop in
     omega (arith, units-within (v .0) (v .1) (v .2) (l .inv) (c .before .before .before .before .before .before .loop-test .taken), rate-within (v .0 .held .in-service))
@@ -122,7 +122,7 @@ put-slot-spec =
     cast-put-share
     shared-slice-read-put-share
     put-share-requires
-    add-offset
+    add-before
     add-q
     loop-less
     loop-again

@@ -24,7 +24,7 @@ place-run-requires c κs =
     let p = c .before .before .before .before .before in
     let chosen = p .before .before .before in
     let v = start (chosen .before) .pre in
-    (record { held = v .0; rows-whole = omega (arith, v .1); rows-are = p .pack-parts .ensures }, v .2, v .3, v .4, v .5 .places (chosen .if1 .taken))
+    (record { held = v .0; rows-whole = omega (arith, v .1); rows-are = p .pack-parts .ensures }, v .2, v .3, v .4, v .5 .offsets (chosen .if1 .taken))
 
 same-length : tie.Need-same-length
 same-length c = search needs

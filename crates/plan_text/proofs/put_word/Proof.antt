@@ -60,7 +60,7 @@ returns c =
     record {
       stored =
           l .inv .2 ∙ ap (λ (w : List ℕ). sets (a .out .now) (a .at) w) (take-all (l .i) (a .word .now) (c .loop-test .left));
-      place-after = omega arith;
+      offset-after = omega arith;
     }
 
 pub put-word-spec : {M : Type 1} → statement M

@@ -16,7 +16,7 @@ use Rattle.planner.specs.declared.Ended.the-variants.{Infeasible}
 use Rattle.place.specs.Flows.{FlowPlaced}
 use Rattle.place.specs.Order.{shutRows}
 use Rattle.place.proofs.FlowByFlow.{NextFlow, few-flows, next-flow, infeasible-next, infeasible-stays}
-use Rattle.planner.proofs.FirstFlows.{PutSoFar, listed-done, place-most, put-none-yet, goes-on, ends-planned, ends-infeasible}
+use Rattle.planner.proofs.FirstFlows.{PutSoFar, listed-done, offset-most, put-none-yet, goes-on, ends-planned, ends-infeasible}
 use Rattle.place.proofs.Maintenance.{addedRows, limit-is, flow-added, flow-refused}
 use borrow.Author.Needs.{needs}
 use native.Mathlib.Omega.{arith}
@@ -126,12 +126,12 @@ place-flow-requires c κs =
     let m = c .before .before in
     let w = served m in
     let n = next w in
-    let most = place-most (omega arith) (n .few-flows) (turn w .loop .inv .3 .1 .rows-put) in (
+    let most = offset-most (omega arith) (n .few-flows) (turn w .loop .inv .3 .1 .rows-put) in (
       n .stands,
       start (turn w) .pre .indexed .processors,
       m .limit-of .ensures .1,
       omega arith,
-      record { places = λ _. omega (arith, most); nothing-lent = λ t. absurd (false≢true (sym t)) },
+      record { offsets = λ _. omega (arith, most); nothing-lent = λ t. absurd (false≢true (sym t)) },
     )
 
 enum-known-end : tie.Need-enum-known-end Inv-loop μ-loop

@@ -1,4 +1,4 @@
--- The finishes of the flows passed stand in their places. Assumes nothing.
+-- The finishes of the flows passed stand where they belong. Assumes nothing.
 use mathlib.Core.Path.{_≡_, ap, _∙_}
 use Prim.Native.Nat.{ℕ, _+_, _*_, _-_, _≤_}
 use mathlib.Core.List.{List}
