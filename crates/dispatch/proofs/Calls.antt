@@ -31,7 +31,7 @@ use Rattle.rules.proofs.Tables.TableBytes.{rows-bytes-length}
 use Rattle.rules.proofs.Rows.ListOrder.{list-length}
 use Rattle.rules.proofs.Demands.AcceptsExactly.{call-accepts}
 use Rattle.rules.proofs.Demands.Dispatches.{check-reads, dispatches}
-use Rattle.dispatch.specs.Merge.{Accepted, rowsOf, InUse}
+use Rattle.dispatch.specs.Merge.{Accepted, acceptedRows, InUse}
 use Rattle.dispatch.specs.Call.{headBytes}
 use Rattle.dispatch.proofs.Tables.{rows-fill}
 
@@ -51,7 +51,7 @@ module _ (book calendar table area : List ℕ) (zero : checkCall book calendar t
     table-passes = accepted-without (calendarOf calendar) (bookOf book) table (accepts .0) (calendar-of-book book);
   }
 
-  pub area-used : checkCall book calendar table area .area ≡ workUsed slots (rowsOf book table) area
+  pub area-used : checkCall book calendar table area .area ≡ workUsed slots (acceptedRows book table) area
   unfolding checkOutcome
   area-used =
       ap (λ (o : CheckOutcome). o .area) (accepts .1)
@@ -61,19 +61,19 @@ module _ (book calendar table area : List ℕ) (zero : checkCall book calendar t
   pub left-in-use : {work : List ℕ} → work ≡ checkCall book calendar table area .area → InUse book table work
   unfolding workUsed
   left-in-use {work} e =
-      let is : work ≡ workUsed slots (rowsOf book table) area = e ∙ area-used in
+      let is : work ≡ workUsed slots (acceptedRows book table) area = e ∙ area-used in
       record {
-        room = omega (arith, accepts .2, ap length is ∙ used-length slots (rowsOf book table) area (accepts .2));
+        room = omega (arith, accepts .2, ap length is ∙ used-length slots (acceptedRows book table) area (accepts .2));
         used =
             is
-            ∙ ap (joinFrom (λ t. bytesOf 2 (usedIn (rowsOf book table) t)) slots 0 ++_)
-            (sym (ap (drop (2 * slots)) is ∙ used-rest slots (rowsOf book table) area));
+            ∙ ap (joinFrom (λ t. bytesOf 2 (usedIn (acceptedRows book table) t)) slots 0 ++_)
+            (sym (ap (drop (2 * slots)) is ∙ used-rest slots (acceptedRows book table) area));
       }
 
 -- ---- the length, and the bytes
 module _ (book table : List ℕ) (accepted : Accepted book table) where
   abbrev rows : List Row
-  rows = rowsOf book table
+  rows = acceptedRows book table
 
   pub size-of-list : (flows : ℕ) → flows ≡ flowCount (bookOf book) → length table - 2 * flows - 1 ≡ listLength rows
   unfolding listLength
@@ -130,8 +130,8 @@ call-refused = dispatches .check-first
 
 pub call-listed : (book calendar table out area : List ℕ) → checkCall book calendar table area .answer .number ≡ 0 →
     dispatchCall book calendar table out area
-    ≡ listOutcome (bookOf book) (rowsOf book table) out (checkCall book calendar table area .area) (checkCall book calendar table area .area)
+    ≡ listOutcome (bookOf book) (acceptedRows book table) out (checkCall book calendar table area .area) (checkCall book calendar table area .area)
 unfolding dispatchCall dispatchChecked
 call-listed book calendar table out area z =
     rw (eq-eqb (checkCall book calendar table area .answer .number) 0 z)
-    (outcome-same (bookOf book) (rowsOf book table) out area (checkCall book calendar table area .area) (area-used book calendar table area z))
+    (outcome-same (bookOf book) (acceptedRows book table) out area (checkCall book calendar table area .area) (area-used book calendar table area z))

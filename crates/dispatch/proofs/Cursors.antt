@@ -24,7 +24,7 @@ use Rattle.rules.proofs.Reading.ServiceOrder.{earlier-served, served-irreflexiv
 use Rattle.dispatch.specs.Merge.{keepRows, rowsAt, Cursor, FirstRow}
 use Rattle.dispatch.proofs.Keeping.{keep-append, keep-none, keep-all}
 
--- ---- rows in rising order, by their places
+-- ---- rows in rising order, by their indices
 pub rising-at : (B : Row → Row → Type 0) (xs : List Row) → Rising B xs → (j k : ℕ) → j < k → k < length xs → B (getD xs j noRow) (getD xs k noRow)
 unfolding Rising
 rising-at B [] h j k l m = absurd (not-suc-le-zero m)

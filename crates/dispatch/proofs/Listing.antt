@@ -21,7 +21,7 @@ use Rattle.rules.proofs.Laws.Lexical.{Lexical, lexical-rest}
 use Rattle.rules.proofs.Rows.RowOrder.{Before, before-same-flow}
 use Rattle.rules.proofs.Rows.ListOrder as order
 use Rattle.rules.proofs.Rows.ListOrder.{listed-asymmetric, list-in, in-list, list-length, list-rising}
-use Rattle.dispatch.specs.Merge.{Accepted, rowsOf, keepRows, rowsAt, rowsIn, rowsBelow}
+use Rattle.dispatch.specs.Merge.{Accepted, acceptedRows, keepRows, rowsAt, rowsIn, rowsBelow}
 use Rattle.dispatch.proofs.Keeping.{no-rows, keep-in, in-keep, keep-rising}
 use Rattle.dispatch.proofs.Cursors.{isIn, is-in, in-is}
 use Rattle.dispatch.proofs.Tables.{row-passes, rows-rising}
@@ -93,7 +93,7 @@ module _ (book table : List ℕ) (accepted : Accepted book table) where
   b = bookOf book
 
   abbrev rows : List Row
-  rows = rowsOf book table
+  rows = acceptedRows book table
 
   abbrev flows : ℕ
   flows = flowCount b

@@ -197,9 +197,9 @@ module _ (s : List ℕ) (flow slot from to size : ℕ) (p : Room s flow slot fro
     room = λ n each. omega (arith, p .room (r .count + n) (run-of-joined s flow slot from at n r each), r .at-is);
   }
 
-  -- the place behind it in the output
-  pub place-inside : (at : ℕ) → RunTo s flow slot from at → to + (at - from) ≤ size
-  place-inside at r = omega (arith, p .room (r .count) (r .each), r .at-is)
+  -- the offset behind it in the output
+  pub offset-inside : (at : ℕ) → RunTo s flow slot from at → to + (at - from) ≤ size
+  offset-inside at r = omega (arith, p .room (r .count) (r .each), r .at-is)
 
   -- sixteen rows more, where the last of them belongs to the run
   pub run-block : (done : ℕ) → RunTo s flow slot from (from + done) → dueAt s (from + done + 90) flow ≡ slot → RunTo s flow slot from (from + done + 96)

@@ -23,7 +23,7 @@ use Rattle.rules.proofs.Rows.RowSums.{sum-where-least}
 use Rattle.rules.proofs.Tables.TableBytes.{rows-bytes-length}
 use Rattle.rules.proofs.Rows.WorkArea.{used-pair}
 use Rattle.dispatch.specs.Runs.{dueAt, Run, RunCopied}
-use Rattle.dispatch.specs.Merge.{Accepted, rowsOf, InUse, rowsAt, rowsIn, placeAfter, CursorAt, Cursors, RowsListed}
+use Rattle.dispatch.specs.Merge.{Accepted, acceptedRows, InUse, rowsAt, rowsIn, offsetAfter, CursorAt, Cursors, RowsListed}
 use Rattle.dispatch.proofs.Runs.{run-none}
 use Rattle.dispatch.proofs.Keeping.{no-rows, keep-none}
 use Rattle.dispatch.proofs.Cursors.{isIn, not-in}
@@ -126,12 +126,12 @@ rows-bytes-append [] ys = refl
 rows-bytes-append (x ∷ xs) ys = ap (rowBytes x ++_) (rows-bytes-append xs ys) ∙ sym (append-assoc (rowBytes x) (rowsBytes xs) (rowsBytes ys))
 
 pub listed-none : (to : ℕ) (out : List ℕ) → RowsListed [] to out out to
-unfolding placeAfter rowsBytes
+unfolding offsetAfter rowsBytes
 listed-none to out = record { written = refl; next-is = omega arith }
 
 pub listed-append : {xs ys : List Row} {to next end : ℕ} {out mid out′ : List ℕ} → RowsListed xs to out mid next → RowsListed ys next mid out′ end →
     RowsListed (xs ++ ys) to out out′ end
-unfolding placeAfter
+unfolding offsetAfter
 listed-append {xs} {ys} {to} {next} {end} {out} p q = record {
   written =
       q .written
@@ -147,8 +147,8 @@ module _ (book table : List ℕ) (accepted : Accepted book table) (f t at : ℕ)
     (cursor : CursorAt (bookOf book) table f t at) where
   -- a run that is copied lists the flow's rows in the slot
   pub run-listed : (to next : ℕ) (out out′ : List ℕ) → AllBytes table → RunCopied table f t at to out out′ next →
-      RowsListed (rowsAt (rowsOf book table) t f) to out out′ (to + (next - at))
-  unfolding placeAfter
+      RowsListed (rowsAt (acceptedRows book table) t f) to out out′ (to + (next - at))
+  unfolding offsetAfter
   run-listed to next out out′ bytes r = record {
     written = r .copied ∙ ap (sets out to) (run-bytes book table accepted f t at cursor (omega arith) next (r .run) bytes);
     next-is = ap (to +_) (run-size book table accepted f t at cursor (omega arith) next (r .run));
@@ -162,18 +162,18 @@ module _ (book table : List ℕ) (accepted : Accepted book table) (f t at : ℕ)
     pub kept-cursor : CursorAt (bookOf book) table f (suc t) at
     kept-cursor = after-run book table accepted f t at cursor (omega arith) at nothing
 
-    none-there : rowsAt (rowsOf book table) t f ≡ []
+    none-there : rowsAt (acceptedRows book table) t f ≡ []
     none-there =
         let e = run-size book table accepted f t at cursor (omega arith) at nothing in
-        no-rows (rowsAt (rowsOf book table) t f) (omega (arith, e))
+        no-rows (rowsAt (acceptedRows book table) t f) (omega (arith, e))
 
-    pub kept-listed : (to : ℕ) (out : List ℕ) → RowsListed (rowsAt (rowsOf book table) t f) to out out to
+    pub kept-listed : (to : ℕ) (out : List ℕ) → RowsListed (rowsAt (acceptedRows book table) t f) to out out to
     kept-listed to out = rw none-there (listed-none to out)
 
 -- ---- a slot that is not in use
 module _ (book table : List ℕ) (accepted : Accepted book table) (t : ℕ) (a-slot : t < slots) where
   abbrev rows : List Row
-  rows = rowsOf book table
+  rows = acceptedRows book table
 
   -- the pair of a slot in the work area is its use
   pub pair-used : (work : List ℕ) → InUse book table work → field 2 work (2 * t) ≡ usedIn rows t

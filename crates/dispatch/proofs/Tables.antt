@@ -24,7 +24,7 @@ use Rattle.rules.proofs.Tables.TablePasses.{RowPasses, TablePasses, table-passe
 use Rattle.rules.proofs.Tables.AcceptedRows.{passing-rising, passing-use}
 use Rattle.table_check.proofs.TableRows.{row-at, table-length}
 use Rattle.dispatch.specs.Runs.{part, dueAt, WholeRows, RunOf, Run}
-use Rattle.dispatch.specs.Merge.{Accepted, rowsOf, rowsAt, CursorAt}
+use Rattle.dispatch.specs.Merge.{Accepted, acceptedRows, rowsAt, CursorAt}
 use Rattle.dispatch.proofs.Runs.{due-inside, due-flow, due-own}
 use Rattle.dispatch.proofs.Cursors.{gapless-flow, gapless-slot, run-few, run-rows, run-length, run-cursor}
 
@@ -33,7 +33,7 @@ module _ (book table : List ℕ) (accepted : Accepted book table) where
   b = bookOf book
 
   abbrev rows : List Row
-  rows = rowsOf book table
+  rows = acceptedRows book table
 
   pub in-range : InRange b
   in-range = pass-in-range book (accepted .book-passes)

@@ -8,11 +8,11 @@ use Rattle.rules.specs.Fields.{bytesOf}
 use Rattle.rules.specs.Book.{flowCount}
 use Rattle.rules.specs.Reading.{bookOf}
 use Rattle.rules.specs.Dispatch.{DispatchOutcome, listLength}
-use Rattle.dispatch.specs.Merge.{Accepted, rowsOf, InUse}
+use Rattle.dispatch.specs.Merge.{Accepted, acceptedRows, InUse}
 
 -- "length (4), version 1 (1), P (2)" (02, Req 03)
 unfoldable pub headBytes : ℕ → ℕ → List ℕ
-headBytes length processors = bytesOf 4 length ++ bytesOf 1 1 ++ bytesOf 2 processors
+headBytes bytes processors = bytesOf 4 bytes ++ bytesOf 1 1 ++ bytesOf 2 processors
 
 -- what writing the list of an accepted table asks: the area as the check leaves it, the book's flows, and an output in which the list, whose length four
 -- bytes can hold, has room
@@ -20,7 +20,7 @@ pub record ListAsked (book table work : List ℕ) (flows size room : ℕ) : Type
   pub accepted : Accepted book table
   pub in-use : InUse book table work
   pub flows-are : flows ≡ flowCount (bookOf book)
-  pub size-is : size ≡ listLength (rowsOf book table)
+  pub size-is : size ≡ listLength (acceptedRows book table)
   pub size-fits : size < 4294967296
   pub has-room : size ≤ room
 

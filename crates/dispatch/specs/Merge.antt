@@ -24,13 +24,13 @@ pub record Accepted (book table : List ℕ) : Type 0 where
   pub table-passes : tableFault (bookOf book) table ≡ Pass
 
 -- its rows
-abbrev pub rowsOf : List ℕ → List ℕ → List Row
-rowsOf book table = tableRows (bookOf book) table
+abbrev pub acceptedRows : List ℕ → List ℕ → List Row
+acceptedRows book table = tableRows (bookOf book) table
 
 -- the work area is as the check leaves it
 pub record InUse (book table work : List ℕ) : Type 0 where
   pub room : workBytes ≤ length work
-  pub used : work ≡ workUsed slots (rowsOf book table) work
+  pub used : work ≡ workUsed slots (acceptedRows book table) work
 
 -- ---- the rows slot by slot, flow by flow
 -- the rows that pass a test
@@ -50,9 +50,9 @@ rowsIn rows n t = joinFrom (rowsAt rows t) n 0
 unfoldable pub rowsBelow : List Row → ℕ → ℕ → List Row
 rowsBelow rows n t = joinFrom (rowsIn rows n) t 0
 
--- the place behind these rows, written from `to` on
-unfoldable pub placeAfter : ℕ → List Row → ℕ
-placeAfter to rows = to + rowLength * length rows
+-- the offset behind these rows, written from `to` on
+unfoldable pub offsetAfter : ℕ → List Row → ℕ
+offsetAfter to rows = to + rowLength * length rows
 
 -- ---- cursors
 -- the cursor of flow f before slot t: its rows in earlier slots stand before row c, the others from there on, and where there is one, row c is
@@ -63,7 +63,7 @@ pub record Cursor (rows : List Row) (f t c : ℕ) : Type 0 where
   pub after : (k : ℕ) → c ≤ k → k < length rows → getD rows k noRow .flow ≡ f → t ≤ getD rows k noRow .slot
   pub here : (k : ℕ) → c ≤ k → k < length rows → getD rows k noRow .flow ≡ f → getD rows c noRow .flow ≡ f
 
--- as a place in the table's bytes
+-- as an offset in the table's bytes
 pub record CursorAt (b : Book) (s : List ℕ) (f t at : ℕ) : Type 0 where
   pub index : ℕ
   pub at-is : at ≡ tableHead b + rowLength * index
@@ -95,17 +95,17 @@ pub record Ahead (book table : List ℕ) (slot n : ℕ) (ats dues : List ℕ) : 
   pub a-slot : slot < slots
   pub cursors : Cursors (bookOf book) table slot n ats dues
 
--- these rows are written from `to` on, and `next` is the place behind them
+-- these rows are written from `to` on, and `next` is the offset behind them
 pub record RowsListed (rows : List Row) (to : ℕ) (out out′ : List ℕ) (next : ℕ) : Type 0 where
   pub written : out′ ≡ sets out to (rowsBytes rows)
-  pub next-is : next ≡ placeAfter to rows
+  pub next-is : next ≡ offsetAfter to rows
 
 -- the rows of flow f in a slot are listed
 pub record FlowListed (book table : List ℕ) (slot f to : ℕ) (out out′ ats dues : List ℕ) (next : ℕ) : Type 0 where
   pub cursors : Cursors (bookOf book) table slot (suc f) ats dues
-  pub listed : RowsListed (rowsAt (rowsOf book table) slot f) to out out′ next
+  pub listed : RowsListed (rowsAt (acceptedRows book table) slot f) to out out′ next
 
 -- the rows of all flows in a slot are listed
 pub record SlotListed (book table : List ℕ) (slot to : ℕ) (out out′ ats dues : List ℕ) (next : ℕ) : Type 0 where
   pub cursors : Cursors (bookOf book) table (suc slot) 0 ats dues
-  pub listed : RowsListed (rowsIn (rowsOf book table) (flowCount (bookOf book)) slot) to out out′ next
+  pub listed : RowsListed (rowsIn (acceptedRows book table) (flowCount (bookOf book)) slot) to out out′ next

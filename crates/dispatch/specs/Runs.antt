@@ -1,4 +1,4 @@
--- Runs of rows in the bytes of a table: the rows of one flow in one slot, from a place on, and what copying them leaves. Assumes nothing.
+-- Runs of rows in the bytes of a table: the rows of one flow in one slot, from an offset on, and what copying them leaves. Assumes nothing.
 use mathlib.Core.Path.{_≡_}
 use Prim.Native.Nat.{ℕ, suc, _+_, _*_, _-_, _≤_, _<_}
 use mathlib.Core.List.{List}

@@ -7,7 +7,7 @@ ghost use lib.Seq.{sets};
 ghost use Rattle.rules.specs.Answers.{listRefused};
 ghost use Rattle.rules.specs.Reading.{bookOf};
 ghost use Rattle.rules.specs.Dispatch.{listBytes, listOutcome, dispatchCall};
-ghost use Rattle.dispatch.specs.Merge.{Accepted, rowsOf, InUse};
+ghost use Rattle.dispatch.specs.Merge.{Accepted, acceptedRows, InUse};
 ghost use Rattle.dispatch.specs.Call.{headBytes, ListAsked, Leaves};
 use book::bytes;
 use rules::ListAnswer;
@@ -40,7 +40,7 @@ pub fn put_head(out: &mut [u8], size: u32, processors: u16)
 // The list of an accepted table, whose work area is as the check leaves it.
 pub fn write_list(book: &[u8], table: &[u8], work: &[u8], out: &mut [u8], flows: usize, size: usize)
     requires { ⌜ ListAsked (now book) (now table) (now work) flows size (length (now out)) ⌝ }
-    ensures { λ _. ⌜ now (out .exit) ≡ listBytes (bookOf (now (book .entry))) (rowsOf (now (book .entry)) (now (table .entry))) ++ drop size (now (out .entry)) ⌝ }
+    ensures { λ _. ⌜ now (out .exit) ≡ listBytes (bookOf (now (book .entry))) (acceptedRows (now (book .entry)) (now (table .entry))) ++ drop size (now (out .entry)) ⌝ }
 {
     let x = book::index_of(book);
     let deadlines = x.deadlines;
@@ -73,7 +73,7 @@ pub fn write_list(book: &[u8], table: &[u8], work: &[u8], out: &mut [u8], flows:
 // 13 where the list of an accepted table is longer than the output; otherwise the list.
 pub fn list_accepted(book: &[u8], table: &[u8], output: &mut [u8], work: &mut [u8]) -> ListAnswer
     requires { ⌜ Accepted (now book) (now table) × InUse (now book) (now table) (now work) ⌝ }
-    ensures { λ a. ⌜ Leaves (listOutcome (bookOf (now (book .entry))) (rowsOf (now (book .entry)) (now (table .entry))) (now (output .entry)) (now (work .entry)) (now (work .entry))) a (now (output .exit)) (now (work .exit)) ⌝ }
+    ensures { λ a. ⌜ Leaves (listOutcome (bookOf (now (book .entry))) (acceptedRows (now (book .entry)) (now (table .entry))) (now (output .entry)) (now (work .entry)) (now (work .entry))) a (now (output .exit)) (now (work .exit)) ⌝ }
 {
     let flows = bytes::wide(book[7]);
     let size = table.len() - 2 * flows - 1;

@@ -8,7 +8,7 @@ ghost use Rattle.rules.specs.Reading.{bookOf};
 ghost use Rattle.rules.specs.Table.{tableHead, rowsBytes};
 ghost use Rattle.rules.specs.Dispatch.{listRows, listLength};
 ghost use Rattle.book.specs.Promise.{DeadlinesOf};
-ghost use Rattle.dispatch.specs.Merge.{Accepted, rowsOf, InUse, rowsAt, rowsIn, placeAfter, Cursors, FirstRow, halved, Ahead, FlowListed, SlotListed};
+ghost use Rattle.dispatch.specs.Merge.{Accepted, acceptedRows, InUse, rowsAt, rowsIn, offsetAfter, Cursors, FirstRow, halved, Ahead, FlowListed, SlotListed};
 use super::run;
 use book::bytes;
 
@@ -41,8 +41,8 @@ pub fn first_row(
     rows: usize,
     f: usize,
 ) -> usize
-    requires { ⌜ Accepted (now book) (now table) × DeadlinesOf (now book) (now deadlines) × (head ≡ tableHead (bookOf (now book))) × (rows ≡ length (rowsOf (now book) (now table))) × (f < flowCount (bookOf (now book))) ⌝ }
-    ensures { λ c. ⌜ FirstRow (bookOf (now (book .entry))) (rowsOf (now (book .entry)) (now (table .entry))) f c ⌝ }
+    requires { ⌜ Accepted (now book) (now table) × DeadlinesOf (now book) (now deadlines) × (head ≡ tableHead (bookOf (now book))) × (rows ≡ length (acceptedRows (now book) (now table))) × (f < flowCount (bookOf (now book))) ⌝ }
+    ensures { λ c. ⌜ FirstRow (bookOf (now (book .entry))) (acceptedRows (now (book .entry)) (now (table .entry))) f c ⌝ }
 {
     let mut low: usize = 0;
     let mut high = rows;
@@ -67,7 +67,7 @@ pub fn start_cursors(
     flows: usize,
     rows: usize,
 )
-    requires { ⌜ Accepted (now book) (now table) × DeadlinesOf (now book) (now deadlines) × (flows ≡ flowCount (bookOf (now book))) × (rows ≡ length (rowsOf (now book) (now table))) × (length (now ats) ≡ 64) × (length (now dues) ≡ 64) ⌝ }
+    requires { ⌜ Accepted (now book) (now table) × DeadlinesOf (now book) (now deadlines) × (flows ≡ flowCount (bookOf (now book))) × (rows ≡ length (acceptedRows (now book) (now table))) × (length (now ats) ≡ 64) × (length (now dues) ≡ 64) ⌝ }
     ensures { λ _. ⌜ Cursors (bookOf (now (book .entry))) (now (table .entry)) 0 0 (now (ats .exit)) (now (dues .exit)) ⌝ }
 {
     let head = 8 + 2 * flows;
@@ -80,7 +80,7 @@ pub fn start_cursors(
     }
 }
 
-// The rows of flow f in a slot, where its cursor stands at one; the place behind them. `jobs` has the number of jobs of each flow.
+// The rows of flow f in a slot, where its cursor stands at one; the offset behind them. `jobs` has the number of jobs of each flow.
 pub fn list_flow(
     book: &[u8],
     table: &[u8],
@@ -92,7 +92,7 @@ pub fn list_flow(
     f: usize,
     slot: u16,
 ) -> usize
-    requires { ⌜ Ahead (now book) (now table) slot f (now ats) (now dues) × (length (now jobs) ≡ 64) × (f < flowCount (bookOf (now book))) × (placeAfter to (rowsAt (rowsOf (now book) (now table)) slot f) ≤ length (now out)) ⌝ }
+    requires { ⌜ Ahead (now book) (now table) slot f (now ats) (now dues) × (length (now jobs) ≡ 64) × (f < flowCount (bookOf (now book))) × (offsetAfter to (rowsAt (acceptedRows (now book) (now table)) slot f) ≤ length (now out)) ⌝ }
     ensures { λ next. ⌜ FlowListed (now (book .entry)) (now (table .entry)) slot f to (now (out .entry)) (now (out .exit)) (now (ats .exit)) (now (dues .exit)) next ⌝ }
 {
     if dues[f] != slot {
@@ -106,7 +106,7 @@ pub fn list_flow(
     to + (next - from)
 }
 
-// The rows of a slot, flow by flow; the place behind them.
+// The rows of a slot, flow by flow; the offset behind them.
 pub fn list_slot(
     book: &[u8],
     table: &[u8],
@@ -118,7 +118,7 @@ pub fn list_slot(
     flows: usize,
     slot: u16,
 ) -> usize
-    requires { ⌜ Ahead (now book) (now table) slot 0 (now ats) (now dues) × (length (now jobs) ≡ 64) × (flows ≡ flowCount (bookOf (now book))) × (placeAfter to (rowsIn (rowsOf (now book) (now table)) flows slot) ≤ length (now out)) ⌝ }
+    requires { ⌜ Ahead (now book) (now table) slot 0 (now ats) (now dues) × (length (now jobs) ≡ 64) × (flows ≡ flowCount (bookOf (now book))) × (offsetAfter to (rowsIn (acceptedRows (now book) (now table)) flows slot) ≤ length (now out)) ⌝ }
     ensures { λ next. ⌜ SlotListed (now (book .entry)) (now (table .entry)) slot to (now (out .entry)) (now (out .exit)) (now (ats .exit)) (now (dues .exit)) next ⌝ }
 {
     let mut next = to;
@@ -143,7 +143,7 @@ pub fn list_used(
     flows: usize,
     slot: u16,
 ) -> usize
-    requires { ⌜ Ahead (now book) (now table) slot 0 (now ats) (now dues) × (length (now jobs) ≡ 64) × InUse (now book) (now table) (now work) × (flows ≡ flowCount (bookOf (now book))) × (placeAfter to (rowsIn (rowsOf (now book) (now table)) flows slot) ≤ length (now out)) ⌝ }
+    requires { ⌜ Ahead (now book) (now table) slot 0 (now ats) (now dues) × (length (now jobs) ≡ 64) × InUse (now book) (now table) (now work) × (flows ≡ flowCount (bookOf (now book))) × (offsetAfter to (rowsIn (acceptedRows (now book) (now table)) flows slot) ≤ length (now out)) ⌝ }
     ensures { λ next. ⌜ SlotListed (now (book .entry)) (now (table .entry)) slot to (now (out .entry)) (now (out .exit)) (now (ats .exit)) (now (dues .exit)) next ⌝ }
 {
     if bytes::read16(work, 2 * bytes::wide16(slot)) == 0 {
@@ -164,8 +164,8 @@ pub fn merge(
     flows: usize,
     size: usize,
 )
-    requires { ⌜ Ahead (now book) (now table) 0 0 (now ats) (now dues) × (length (now jobs) ≡ 64) × InUse (now book) (now table) (now work) × (flows ≡ flowCount (bookOf (now book))) × (size ≡ listLength (rowsOf (now book) (now table))) × (size ≤ length (now out)) ⌝ }
-    ensures { λ _. ⌜ now (out .exit) ≡ sets (now (out .entry)) 7 (rowsBytes (listRows (rowsOf (now (book .entry)) (now (table .entry))))) ⌝ }
+    requires { ⌜ Ahead (now book) (now table) 0 0 (now ats) (now dues) × (length (now jobs) ≡ 64) × InUse (now book) (now table) (now work) × (flows ≡ flowCount (bookOf (now book))) × (size ≡ listLength (acceptedRows (now book) (now table))) × (size ≤ length (now out)) ⌝ }
+    ensures { λ _. ⌜ now (out .exit) ≡ sets (now (out .entry)) 7 (rowsBytes (listRows (acceptedRows (now (book .entry)) (now (table .entry))))) ⌝ }
 {
     let mut to: usize = 7;
     let mut slot: u16 = 0;

@@ -51,7 +51,7 @@ pub fn copy_bytes(table: &[u8], out: &mut [u8], from: usize, to: usize, count: u
     }
 }
 
-// The most of a run, sixteen rows at once: while the last of sixteen rows belongs to it, all of them do. The place behind them in the table.
+// The most of a run, sixteen rows at once: while the last of sixteen rows belongs to it, all of them do. The offset behind them in the table.
 pub fn copy_blocks(
     table: &[u8],
     out: &mut [u8],
@@ -71,7 +71,7 @@ pub fn copy_blocks(
     from + done
 }
 
-// Rows of a run, at most `most` bytes of them, each copied when it is seen to belong to it; the place behind them in the table.
+// Rows of a run, at most `most` bytes of them, each copied when it is seen to belong to it; the offset behind them in the table.
 pub fn copy_some(
     table: &[u8],
     out: &mut [u8],
@@ -95,7 +95,7 @@ pub fn copy_some(
     from + most
 }
 
-// A run that may be long: its blocks, then the fewer than sixteen rows that are left; the place behind it in the table.
+// A run that may be long: its blocks, then the fewer than sixteen rows that are left; the offset behind it in the table.
 pub fn copy_long(table: &[u8], out: &mut [u8], from: usize, to: usize, flow: u8, slot: u16) -> usize
     requires { ⌜ Room (now table) flow slot from to (length (now out)) ⌝ }
     ensures { λ next. ⌜ RunCopied (now (table .entry)) flow slot from to (now (out .entry)) (now (out .exit)) next ⌝ }
@@ -104,7 +104,7 @@ pub fn copy_long(table: &[u8], out: &mut [u8], from: usize, to: usize, flow: u8,
     copy_some(table, out, at, to + (at - from), flow, slot, 96)
 }
 
-// A whole run; the place behind it in the table. A flow of fewer than sixteen jobs has no block of sixteen rows, so none is looked for at once.
+// A whole run; the offset behind it in the table. A flow of fewer than sixteen jobs has no block of sixteen rows, so none is looked for at once.
 pub fn copy_run(
     table: &[u8],
     out: &mut [u8],

@@ -24,7 +24,7 @@ use Rattle.place.proofs.FlowByFlow.{infeasible-stays, flows-left, nothing-left}
 use Rattle.place.proofs.Maintenance.{ShutTo}
 use Rattle.finish.specs.declared.Placement.{Placement}
 use Rattle.finish.specs.Flows.{PlacedUpTo}
-use Rattle.finish.specs.Call.{finishIn, Leaves}
+use Rattle.finish.specs.Call.{outcomeUpTo, Leaves}
 
 -- ---- what is left of a book and a calendar that pass: the area was cleared before placing, and then held the maintenance until the flows were placed
 pub maintenance-over : (b : Book) (area area₀ area₁ : List ℕ) → area₀ ≡ workZero slots area → area₁ ≡ workUsed slots (shutRows b) area₀ →
@@ -34,11 +34,11 @@ maintenance-over b area area₀ area₁ zeros e = e ∙ ap (workUsed slots (shut
 module _ (b : Book) (f k : ℕ) (area area₁ area₂ area₃ : List ℕ) (p : Placement) (range : CalendarInRange (b .calendar)) (named : f < flowCount b)
     (count : k ≡ upToNamed b f) (held : area₁ ≡ workUsed slots (shutRows b) area) (placed : PlacedUpTo b k area₁ area₂ p)
     (set : ShutTo (b .calendar) 0 area₂ area₃) where
-  pub leaves-finish : k ≤ p .position → Leaves (finishIn b f area) (finishAccepted (p .finish)) area₃
+  pub leaves-finish : k ≤ p .position → Leaves (outcomeUpTo b f area) (finishAccepted (p .finish)) area₃
   unfolding finishOutcome
   leaves-finish l = go placed
     where
-      go : PlacedUpTo b k area₁ area₂ p → Leaves (finishIn b f area) (finishAccepted (p .finish)) area₃
+      go : PlacedUpTo b k area₁ area₂ p → Leaves (outcomeUpTo b f area) (finishAccepted (p .finish)) area₃
       go (inr s) = absurd (omega (arith, s .some))
       go (inl a) =
           let all : p .position ≡ upToNamed b f = a .all ∙ count in
@@ -48,11 +48,11 @@ module _ (b : Book) (f k : ℕ) (area area₁ area₂ area₃ : List ℕ) (p : P
           (record { answers = ap finishAccepted last; area-left = flows-left b area area₁ area₂ area₃ range held set (so-far .stands) })
 
   pub leaves-infeasible : p .position < k → (answer : FinishAnswer) (g : ℕ) (area₄ : List ℕ) → answer ≡ finishRefused 12 g none → g ≡ servedAt b (p .position) →
-      area₄ ≡ workZero slots area₃ → Leaves (finishIn b f area) answer area₄
+      area₄ ≡ workZero slots area₃ → Leaves (outcomeUpTo b f area) answer area₄
   unfolding finishOutcome
   leaves-infeasible l answer g area₄ said e zeros = go placed
     where
-      go : PlacedUpTo b k area₁ area₂ p → Leaves (finishIn b f area) answer area₄
+      go : PlacedUpTo b k area₁ area₂ p → Leaves (outcomeUpTo b f area) answer area₄
       go (inl a) = absurd (omega (arith, a .all))
       go (inr s) =
           let rest : suc (p .position) + (k - suc (p .position)) ≡ upToNamed b f = omega (arith, count) in
@@ -84,13 +84,13 @@ module _ (s calendar area : List ℕ) (f : ℕ) where
       unfolding finishCall inputFault unknownFlow finishReading
       call-short l = rw (e, lt-leb (flowCount (bookOf s)) f named, d, lt-ltb (length area) workBytes l) refl
 
-      call-passing : workBytes ≤ length area → finishCall s calendar f area ≡ finishIn (bookWith s calendar) f area
+      call-passing : workBytes ≤ length area → finishCall s calendar f area ≡ outcomeUpTo (bookWith s calendar) f area
       unfolding finishCall inputFault unknownFlow finishReading
       call-passing l = rw (e, lt-leb (flowCount (bookOf s)) f named, d, le-ltb (length area) workBytes l) refl
 
       pub call-placed : (c : Calendar) → c ≡ calendarOf calendar → workBytes ≤ length area →
-          finishCall s calendar f area ≡ finishIn (withCalendar c (bookOf s)) f area
-      call-placed c q l = call-passing l ∙ ap (λ (k : Calendar). finishIn (withCalendar k (bookOf s)) f area) (sym q)
+          finishCall s calendar f area ≡ outcomeUpTo (withCalendar c (bookOf s)) f area
+      call-placed c q l = call-passing l ∙ ap (λ (k : Calendar). outcomeUpTo (withCalendar k (bookOf s)) f area) (sym q)
 
 -- ---- what a refused call leaves
 pub leaves : (o : FinishOutcome) (answer : FinishAnswer) (area : List ℕ) → o ≡ record { answer = answer; area = area } →

@@ -8,8 +8,8 @@ use Rattle.rules.specs.Placing.{placeFirst}
 use Rattle.rules.specs.Finish.{upToNamed, FinishOutcome, finishOutcome}
 
 -- the outcome for flow f of a book that passes with its calendar, where the work area is long enough
-abbrev pub finishIn : Book → ℕ → List ℕ → FinishOutcome
-finishIn b f area = finishOutcome f area (placeFirst b (upToNamed b f))
+abbrev pub outcomeUpTo : Book → ℕ → List ℕ → FinishOutcome
+outcomeUpTo b f area = finishOutcome f area (placeFirst b (upToNamed b f))
 
 -- answer and work area are those of the outcome
 pub record Leaves (o : FinishOutcome) (answer : FinishAnswer) (area : List ℕ) : Type 0 where

@@ -12,7 +12,7 @@ ghost use Rattle.rules.specs.Finish.{finishCall};
 ghost use Rattle.calendar.specs.Held.{heldWindows};
 ghost use Rattle.place.specs.Order.{shutRows, Asked};
 ghost use Rattle.finish.specs.Flows.{NextAsked, NextPlaced, PlacedUpTo};
-ghost use Rattle.finish.specs.Call.{finishIn, Leaves};
+ghost use Rattle.finish.specs.Call.{outcomeUpTo, Leaves};
 use book::Index;
 use book::bytes;
 use calendar::Calendar;
@@ -142,7 +142,7 @@ pub fn refusal(number: u8, flow: u8, job: u8) -> FinishAnswer
 // are placed, and the state says whether all flows up to the one named were.
 pub fn finish_passing(book: &[u8], calendar: Calendar, flow: usize, work: &mut [u8]) -> FinishAnswer
     requires { ⌜ (bookFault (now book) ≡ Pass) × CalendarInRange (heldWindows calendar) × (flow < flowCount (bookOf (now book))) × (workBytes ≤ length (now work)) ⌝ }
-    ensures { λ r. ⌜ Leaves (finishIn (withCalendar (heldWindows calendar) (bookOf (now (book .entry)))) flow (now (work .entry))) r (now (work .exit)) ⌝ }
+    ensures { λ r. ⌜ Leaves (outcomeUpTo (withCalendar (heldWindows calendar) (bookOf (now (book .entry)))) flow (now (work .entry))) r (now (work .exit)) ⌝ }
 {
     let x = book::index_of(book);
     let order = book::service_order(book, x);

@@ -6,7 +6,7 @@ use Rattle.rules.specs.declared.CheckAnswer.{CheckAnswer}
 use Rattle.rules.specs.Answers.{listRefused}
 use Rattle.rules.specs.Reading.{bookOf}
 use Rattle.rules.specs.Dispatch.{DispatchOutcome, listOutcome}
-use Rattle.dispatch.specs.Merge.{rowsOf}
+use Rattle.dispatch.specs.Merge.{acceptedRows}
 use Rattle.dispatch.proofs.Calls.{positive, number-accepts, left-in-use, call-refused, call-listed}
 use borrow.Author.Needs.{needs}
 use native.Mathlib.Omega.{arith}
@@ -57,7 +57,7 @@ returns-2 c =
     let accepts = sym (ap (λ (x : CheckAnswer). x .number) (check .ensures .0)) ∙ c .before .before .before .before .before .before .before .if1 .left in
     let listed = c .before .before .before .before .list-accepted .ensures in
     let q =
-    ap (λ (w : List ℕ). listOutcome (bookOf (a .book .now)) (rowsOf (a .book .now) (a .table .now)) (a .output .now) w w) (check .ensures .1)
+    ap (λ (w : List ℕ). listOutcome (bookOf (a .book .now)) (acceptedRows (a .book .now) (a .table .now)) (a .output .now) w w) (check .ensures .1)
     ∙ sym (call-listed (a .book .now) (a .calendar .now) (a .table .now) (a .output .now) (a .work .now) accepts) in
     record {
       answers = listed .answers ∙ ap (λ (o : DispatchOutcome). o .answer) q;

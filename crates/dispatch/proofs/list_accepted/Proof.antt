@@ -10,7 +10,7 @@ use Rattle.rules.specs.Reading.{bookOf}
 use Rattle.rules.specs.Dispatch.{listLength, listBytes, DispatchOutcome}
 use Rattle.rules.proofs.Reading.Passing.{flow-count, book-passes}
 use Rattle.rules.proofs.Demands.Dispatches.{rows-listed, rows-too-long}
-use Rattle.dispatch.specs.Merge.{rowsOf}
+use Rattle.dispatch.specs.Merge.{acceptedRows}
 use Rattle.dispatch.proofs.Tables.{rows-fill, size-of-table}
 use Rattle.dispatch.proofs.Calls.{size-of-list}
 use borrow.Author.Needs.{needs}
@@ -33,7 +33,7 @@ short : (c : tie.After-wide) → length (start c .args .table .now) < 4294967296
 unfolding AllBytes
 short c = size-of-table _ _ (start c .pre .0) (λ i. omega (arith, c .before .before .before .before .shared-slice-known2 .given i))
 
-size : (c : tie.After-wide) → length (start c .args .table .now) - 2 * c .wide .result - 1 ≡ listLength (rowsOf (start c .args .book .now) (start c .args .table .now))
+size : (c : tie.After-wide) → length (start c .args .table .now) - 2 * c .wide .result - 1 ≡ listLength (acceptedRows (start c .args .book .now) (start c .args .table .now))
 size c = size-of-list _ _ (start c .pre .0) _ (flows c)
 
 shared-slice-read-wide : tie.Need-shared-slice-read-wide
@@ -66,7 +66,7 @@ returns : tie.Need-returns
 returns c =
     let w = c .before .before .before .before .before .before in
     let a = start w .args in
-    let q = rows-too-long (bookOf (a .book .now)) (rowsOf (a .book .now) (a .table .now)) (a .output .now) (a .work .now) (a .work .now) (omega (arith, size w, c .before .before .before .before .before .if1 .taken)) in
+    let q = rows-too-long (bookOf (a .book .now)) (acceptedRows (a .book .now) (a .table .now)) (a .output .now) (a .work .now) (a .work .now) (omega (arith, size w, c .before .before .before .before .before .if1 .taken)) in
     record {
       answers = c .refusal .ensures ∙ sym (ap (λ (o : DispatchOutcome). o .answer) q);
       output-left = sym (ap (λ (o : DispatchOutcome). o .output) q);
@@ -98,7 +98,7 @@ returns-2 : tie.Need-returns-2
 returns-2 c =
     let w = c .before .before .before .before .before .before in
     let a = start w .args in
-    let rows = rowsOf (a .book .now) (a .table .now) in
+    let rows = acceptedRows (a .book .now) (a .table .now) in
     let q = rows-listed (bookOf (a .book .now)) rows (a .output .now) (a .work .now) (a .work .now) (omega (arith, size w, c .before .before .before .before .before .if1 .left)) in
     record {
       answers = ap listAccepted (size w) ∙ sym (ap (λ (o : DispatchOutcome). o .answer) q);

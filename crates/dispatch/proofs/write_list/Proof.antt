@@ -8,7 +8,7 @@ use Rattle.rules.specs.Reading.{bookOf}
 use Rattle.rules.specs.Table.{rowsBytes}
 use Rattle.rules.specs.Dispatch.{listRows}
 use Rattle.book.proofs.Served.{index-deadlines}
-use Rattle.dispatch.specs.Merge.{rowsOf}
+use Rattle.dispatch.specs.Merge.{acceptedRows}
 use Rattle.dispatch.specs.Call.{headBytes}
 use Rattle.dispatch.proofs.Calls.{list-length-is, list-stores}
 use borrow.Author.Needs.{needs}
@@ -32,14 +32,14 @@ sub-start-cursors : tie.Need-sub-start-cursors
 sub-start-cursors c =
     let s = c .before .before .before .before .before .before .before .before .before .before in
     let a = s .args in
-    let whole = s .pre .size-is ∙ list-length-is (rowsOf (a .book .now) (a .table .now)) in
+    let whole = s .pre .size-is ∙ list-length-is (acceptedRows (a .book .now) (a .table .now)) in
     omega (arith, whole)
 
 start-cursors-requires : tie.Need-start-cursors-requires
 start-cursors-requires c κs =
     let s = c .before .before .before .before .before .before .before .before .before .before in
     let a = s .args in
-    let whole = s .pre .size-is ∙ list-length-is (rowsOf (a .book .now) (a .table .now)) in
+    let whole = s .pre .size-is ∙ list-length-is (acceptedRows (a .book .now) (a .table .now)) in
     let x = c .before .before .before .before .before .index-of .result in
     let long : length (x .deadlines) ≡ 64 = search needs in
     (s .pre .accepted, index-deadlines (a .book .now) x (c .before .before .before .before .before .index-of .ensures) long, s .pre .flows-are, omega (arith, whole), refl, refl)
@@ -54,7 +54,7 @@ put-head-requires : tie.Need-put-head-requires
 put-head-requires c κs =
     let s = c .before .before .before .before .before .before .before .before .before .before .before .before .before .before in
     let a = s .args in
-    let whole = s .pre .size-is ∙ list-length-is (rowsOf (a .book .now) (a .table .now)) in
+    let whole = s .pre .size-is ∙ list-length-is (acceptedRows (a .book .now) (a .table .now)) in
     omega (arith, whole, s .pre .has-room)
 
 slice-aggregate-merge : tie.Need-slice-aggregate-merge
@@ -88,7 +88,7 @@ returns : tie.Need-returns
 returns c =
     let s = c .before .before .before .before .before .before .before .before .before .before .before .before .before .before .before .before .before .before .before .before .before .before .before .before .before .before in
     let a = s .args in
-    let rows = rowsOf (a .book .now) (a .table .now) in
+    let rows = acceptedRows (a .book .now) (a .table .now) in
     c .before .before .before .before .merge .ensures
     ∙ ap (λ (o : List ℕ). sets o 7 (rowsBytes (listRows rows))) (c .before .before .before .before .before .before .before .before .before .before .before .put-head .ensures)
     ∙ ap (λ (p : ℕ). sets (sets (a .out .now) 0 (headBytes (a .size) p)) 7 (rowsBytes (listRows rows))) (c .before .before .before .before .before .before .before .before .before .before .before .before .before .before .before .before .before .before .before .before .before .index-of .ensures .processors)

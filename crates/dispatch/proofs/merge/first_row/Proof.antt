@@ -9,7 +9,7 @@ use Rattle.rules.specs.Rows.{Row}
 use Rattle.rules.specs.Service.{servedBefore}
 use Rattle.rules.specs.Check.{noRow}
 use Rattle.dispatch.specs.declared.merge.Span.{Span}
-use Rattle.dispatch.specs.Merge.{rowsOf}
+use Rattle.dispatch.specs.Merge.{acceptedRows}
 use Rattle.dispatch.proofs.Tables.{row-passes, rows-rising, rows-fill, row-flow}
 use Rattle.dispatch.proofs.Search.{Between, between-all, between-one, halved-less, between-half}
 use borrow.Author.Needs.{needs}
@@ -18,7 +18,7 @@ use Rattle.dispatch.proofs.merge.first_row.Statement.{statement}
 use Rattle.dispatch.proofs.merge.first_row.Tie as tie
 
 abbrev Inv-loop : tie.InvT-loop
-Inv-loop book table deadlines head rows f low₀ high₀ low high = Between (bookOf book) (rowsOf book table) f low high
+Inv-loop book table deadlines head rows f low₀ high₀ low high = Between (bookOf book) (acceptedRows book table) f low high
 
 abbrev μ-loop : tie.MeasureT-loop
 μ-loop book table deadlines head rows f low₀ high₀ low high = high - low
@@ -40,7 +40,7 @@ abbrev turn : tie.After-wide Inv-loop μ-loop → tie.At-loop Inv-loop μ-loop
 turn c = c .before .before .before
 
 abbrev rows : tie.At-loop Inv-loop μ-loop → List Row
-rows c = rowsOf (start c .args .book .now) (start c .args .table .now)
+rows c = acceptedRows (start c .args .book .now) (start c .args .table .now)
 
 among : (c : tie.After-wide Inv-loop μ-loop) → middle (turn c) < length (rows (turn c))
 among c = omega (arith, turn c .loop .inv .within)

@@ -7,7 +7,7 @@ use Rattle.rules.specs.Fields.{AllBytes}
 use Rattle.rules.specs.Book.{flowCount}
 use Rattle.rules.specs.Reading.{bookOf}
 use Rattle.dispatch.specs.Runs.{dueAt}
-use Rattle.dispatch.specs.Merge.{placeAfter, CursorAt}
+use Rattle.dispatch.specs.Merge.{offsetAfter, CursorAt}
 use Rattle.dispatch.proofs.Tables.{in-range, size-of-table, cursor-whole, cursor-inside, run-gapless, run-room, run-size, after-run}
 use Rattle.dispatch.proofs.Steps.{cursors-moved, cursors-kept, run-listed, kept-cursor, kept-listed}
 use borrow.Author.Needs.{needs}
@@ -65,7 +65,7 @@ shared-slice-read-copy-run : tie.Need-shared-slice-read-copy-run
 shared-slice-read-copy-run c = omega (arith, room (c .before .before .before .before .before .before .before .before .before .before .before))
 
 copy-run-requires : tie.Need-copy-run-requires
-unfolding placeAfter AllBytes
+unfolding offsetAfter AllBytes
 copy-run-requires c κs =
     let s = c .before .before .before .before .before .before .before .before .before .before .before in
     let accepted = s .pre .0 .accepted in
@@ -99,7 +99,7 @@ sub-result : tie.Need-sub-result
 sub-result c = omega (arith, c .before .before .before .copy-run .ensures .run .reaches .at-is)
 
 add-result : tie.Need-add-result
-unfolding placeAfter
+unfolding offsetAfter
 add-result c =
     let r = c .before .before .before in
     let s = start r in

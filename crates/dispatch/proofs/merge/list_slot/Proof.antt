@@ -5,7 +5,7 @@ use lib.ListN.{length}
 use Rattle.rules.specs.Walks.{joinFrom}
 use Rattle.rules.specs.Book.{flowCount}
 use Rattle.rules.specs.Reading.{bookOf}
-use Rattle.dispatch.specs.Merge.{rowsOf, rowsIn, placeAfter, Cursors, RowsListed}
+use Rattle.dispatch.specs.Merge.{acceptedRows, rowsIn, offsetAfter, Cursors, RowsListed}
 use Rattle.dispatch.proofs.Listing.{slot-next, flow-room}
 use Rattle.dispatch.proofs.Steps.{cursors-next, listed-none, listed-append}
 use borrow.Author.Needs.{needs}
@@ -14,7 +14,7 @@ use Rattle.dispatch.proofs.merge.list_slot.Statement.{statement}
 use Rattle.dispatch.proofs.merge.list_slot.Tie as tie
 
 abbrev Inv-loop : tie.InvT-loop
-Inv-loop book table jobs out₀ ats₀ dues₀ to flows slot next₀ f₀ out ats dues next f = (f ≤ flows) × (length out ≡ length out₀) × Cursors (bookOf book) table slot f ats dues × RowsListed (rowsIn (rowsOf book table) f slot) to out₀ out next
+Inv-loop book table jobs out₀ ats₀ dues₀ to flows slot next₀ f₀ out ats dues next f = (f ≤ flows) × (length out ≡ length out₀) × Cursors (bookOf book) table slot f ats dues × RowsListed (rowsIn (acceptedRows book table) f slot) to out₀ out next
 
 abbrev μ-loop : tie.MeasureT-loop
 μ-loop book table jobs out₀ ats₀ dues₀ to flows slot next₀ f₀ out ats dues next f = flows - f
@@ -28,7 +28,7 @@ unfolding rowsIn joinFrom
 loop-holds c = (search needs, refl, c .before .before .before .before .before .before .pre .0 .cursors, listed-none _ _)
 
 list-flow-requires : tie.Need-list-flow-requires Inv-loop μ-loop
-unfolding placeAfter
+unfolding offsetAfter
 list-flow-requires c κs =
     let s = start (c .before .before .before .before) in
     let a = s .args in
@@ -36,7 +36,7 @@ list-flow-requires c κs =
       record { accepted = s .pre .0 .accepted; a-slot = s .pre .0 .a-slot; cursors = l .inv .2 },
       s .pre .1,
       omega (arith, s .pre .2),
-      omega (arith, l .inv .1, l .inv .3 .next-is, flow-room (rowsOf (a .book .now) (a .table .now)) (a .slot) (l .f) (a .flows) (omega arith), s .pre .3),
+      omega (arith, l .inv .1, l .inv .3 .next-is, flow-room (acceptedRows (a .book .now) (a .table .now)) (a .slot) (l .f) (a .flows) (omega arith), s .pre .3),
     )
 
 add-f : tie.Need-add-f Inv-loop μ-loop

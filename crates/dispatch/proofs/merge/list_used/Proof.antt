@@ -5,7 +5,7 @@ use Rattle.rules.specs.Fields.{field}
 use Rattle.rules.specs.Book.{flowCount}
 use Rattle.rules.specs.Reading.{bookOf}
 use Rattle.rules.specs.Rows.{usedIn}
-use Rattle.dispatch.specs.Merge.{rowsOf}
+use Rattle.dispatch.specs.Merge.{acceptedRows}
 use Rattle.dispatch.proofs.Steps.{listed-none, pair-used, no-rows-in, cursors-pass}
 use borrow.Author.Needs.{needs}
 use native.Mathlib.Omega.{arith}
@@ -29,7 +29,7 @@ returns c =
     let a = s .args in
     let p = s .pre .0 in
     let e : 2 * c .before .before .wide16 .result ≡ 2 * a .slot = ap (2 *_) (c .before .before .wide16 .ensures .0) in
-    let unused : usedIn (rowsOf (a .book .now) (a .table .now)) (a .slot) ≡ 0 =
+    let unused : usedIn (acceptedRows (a .book .now) (a .table .now)) (a .slot) ≡ 0 =
     sym (pair-used _ _ (p .accepted) _ (p .a-slot) (a .work .now) (s .pre .2)) ∙ ap (field 2 (a .work .now)) (sym e) ∙ sym (c .before .read16 .ensures) ∙ c .if1 .taken in
     record {
       cursors = cursors-pass _ _ (p .accepted) _ (p .a-slot) unused _ _ (p .cursors);

@@ -11,7 +11,7 @@ use Rattle.rules.specs.Reading.{bookOf}
 use Rattle.rules.specs.Rows.{Row}
 use Rattle.rules.specs.Table.{rowsBytes}
 use Rattle.rules.specs.Dispatch.{listLength}
-use Rattle.dispatch.specs.Merge.{rowsOf, rowsBelow, placeAfter, Cursors, RowsListed}
+use Rattle.dispatch.specs.Merge.{acceptedRows, rowsBelow, offsetAfter, Cursors, RowsListed}
 use Rattle.dispatch.proofs.Listing.{whole-front, slot-left, below-next, slot-room}
 use Rattle.dispatch.proofs.Steps.{listed-none, listed-append}
 use borrow.Author.Needs.{needs}
@@ -20,7 +20,7 @@ use Rattle.dispatch.proofs.merge.merge.Statement.{statement}
 use Rattle.dispatch.proofs.merge.merge.Tie as tie
 
 abbrev Inv-loop : tie.InvT-loop
-Inv-loop book table jobs work out₀ ats₀ dues₀ flows size to₀ slot₀ out ats dues to slot = (slot ≤ slots) × (length out ≡ length out₀) × Cursors (bookOf book) table slot 0 ats dues × RowsListed (rowsBelow (rowsOf book table) (flowCount (bookOf book)) slot) 7 out₀ out to
+Inv-loop book table jobs work out₀ ats₀ dues₀ flows size to₀ slot₀ out ats dues to slot = (slot ≤ slots) × (length out ≡ length out₀) × Cursors (bookOf book) table slot 0 ats dues × RowsListed (rowsBelow (acceptedRows book table) (flowCount (bookOf book)) slot) 7 out₀ out to
 
 abbrev μ-loop : tie.MeasureT-loop
 μ-loop book table jobs work out₀ ats₀ dues₀ flows size to₀ slot₀ out ats dues to slot = slots - slot
@@ -30,7 +30,7 @@ abbrev start : tie.At-loop Inv-loop μ-loop → tie.Start Inv-loop μ-loop
 start c = c .before .before .before .before .before .before .before .before
 
 left : (c : tie.In-loop Inv-loop μ-loop) → c .before .loop .slot < slots
-unfolding placeAfter listLength
+unfolding offsetAfter listLength
 left c =
     let l = c .before .loop in
     slot-left _ _ (start (c .before) .pre .0 .accepted) (l .slot) (l .inv .0) (omega (arith, l .inv .3 .next-is, start (c .before) .pre .4))
@@ -42,7 +42,7 @@ loop-holds c =
     (search needs, refl, s .pre .0 .cursors, listed-none 7 (s .args .out .now))
 
 list-used-requires : tie.Need-list-used-requires Inv-loop μ-loop
-unfolding placeAfter listLength
+unfolding offsetAfter listLength
 list-used-requires c κs =
     let l = c .before .before .before .before .loop in
     let p = start (c .before .before .before .before) .pre in
@@ -82,7 +82,7 @@ same-length-3 : tie.Need-same-length-3 Inv-loop μ-loop
 same-length-3 c = search needs
 
 returns : tie.Need-returns Inv-loop μ-loop
-unfolding placeAfter listLength
+unfolding offsetAfter listLength
 returns c =
     let s = start (c .before) in
     let l = c .before .loop in

@@ -28,22 +28,22 @@ sized s =
 abbrev start : tie.At-loop Inv-loop μ-loop → tie.Start Inv-loop μ-loop
 start c = c .before .before .before .before .before .before
 
--- a turn, where the first row of flow f is known: there is room for f, and the place of the row is within the table or at its end
+-- a turn, where the first row of flow f is known: there is room for f, and the offset of the row is within the table or at its end
 abbrev turn : tie.After-first-row Inv-loop μ-loop → tie.At-loop Inv-loop μ-loop
 turn c = c .before .before
 
-abbrev place : tie.After-first-row Inv-loop μ-loop → ℕ
-place c = 8 + 2 * start (turn c) .args .flows + 6 * c .first-row .result
+abbrev offset : tie.After-first-row Inv-loop μ-loop → ℕ
+offset c = 8 + 2 * start (turn c) .args .flows + 6 * c .first-row .result
 
 room : (c : tie.After-first-row Inv-loop μ-loop) →
-    (turn c .loop .f < 64) × (length (turn c .loop .ats) ≡ 64) × (length (turn c .loop .dues) ≡ 64) × (place c ≤ length (start (turn c) .args .table .now))
+    (turn c .loop .f < 64) × (length (turn c .loop .ats) ≡ 64) × (length (turn c .loop .dues) ≡ 64) × (offset c ≤ length (start (turn c) .args .table .now))
 room c =
     let s = start (turn c) in
     let i = turn c .loop .inv .1 in
     omega (arith, sized s, s .pre .3, i .ats-long, i .dues-long, c .first-row .ensures .within)
 
 -- and f's cursor stands there
-cursor : (c : tie.After-first-row Inv-loop μ-loop) → CursorAt (bookOf (start (turn c) .args .book .now)) (start (turn c) .args .table .now) (turn c .loop .f) 0 (place c)
+cursor : (c : tie.After-first-row Inv-loop μ-loop) → CursorAt (bookOf (start (turn c) .args .book .now)) (start (turn c) .args .table .now) (turn c .loop .f) 0 (offset c)
 cursor c =
     let p = start (turn c) .pre in
     record { index = c .first-row .result; at-is = omega (arith, p .2); stands = first-cursor _ _ (rows-rising _ _ (p .0)) _ _ (c .first-row .ensures) }

@@ -1,6 +1,6 @@
 -- Behind the blocks of a run fewer than sixteen rows are left, which are copied one by one; together they are the run. Assumes nothing.
 use mathlib.Core.Path.{refl}
-use Rattle.dispatch.proofs.Runs.{fewer, copied-append, copied-length, run-copied, room-after, place-inside}
+use Rattle.dispatch.proofs.Runs.{fewer, copied-append, copied-length, run-copied, room-after, offset-inside}
 use borrow.Author.Needs.{needs}
 use native.Mathlib.Omega.{arith}
 use Rattle.dispatch.proofs.run.copy_long.Statement.{statement}
@@ -19,7 +19,7 @@ sub-copy-some c = omega (arith, c .before .before .before .copy-blocks .ensures 
 add-copy-some : tie.Need-add-copy-some
 add-copy-some c =
     let b = c .before .before .before in
-    omega (arith, place-inside _ _ _ _ _ _ (start b .pre) _ (b .copy-blocks .ensures .some .reaches))
+    omega (arith, offset-inside _ _ _ _ _ _ (start b .pre) _ (b .copy-blocks .ensures .some .reaches))
 
 copy-some-requires : tie.Need-copy-some-requires
 copy-some-requires c κs =

@@ -1,13 +1,13 @@
 -- A flow of many jobs goes by blocks at once; of another one the first eight rows are copied one by one, which mostly are all. Assumes nothing.
 use mathlib.Core.Path.{_≡_}
 use Prim.Native.Nat.{_+_, _-_}
-use Rattle.dispatch.proofs.Runs.{copied-length, run-copied, run-copied-behind, room-after, place-inside}
+use Rattle.dispatch.proofs.Runs.{copied-length, run-copied, run-copied-behind, room-after, offset-inside}
 use borrow.Author.Needs.{needs}
 use native.Mathlib.Omega.{arith}
 use Rattle.dispatch.proofs.run.copy_run.Statement.{statement}
 use Rattle.dispatch.proofs.run.copy_run.Tie as tie
 
--- where the first rows are copied, and where more may follow: the place behind them
+-- where the first rows are copied, and where more may follow: the offset behind them
 abbrev copied : tie.Else2 → tie.After-copy-some
 copied c = c .before .before .before
 
@@ -41,7 +41,7 @@ returns-2 c = let q = c .before .before .before .copy-some .ensures in run-copie
 add-copy-long : tie.Need-add-copy-long
 add-copy-long c =
     let b = copied (c .before) in
-    omega (arith, behind (c .before), place-inside _ _ _ _ _ _ (start b .pre) _ (b .copy-some .ensures .some .reaches))
+    omega (arith, behind (c .before), offset-inside _ _ _ _ _ _ (start b .pre) _ (b .copy-some .ensures .some .reaches))
 
 copy-long-requires-2 : tie.Need-copy-long-requires-2
 copy-long-requires-2 c κs =
