@@ -31,10 +31,10 @@ use Rattle.rules.proofs.Rows.WorkArea.{used-row, used-rest, used-cleared}
 use Rattle.table_check.specs.declared.row.Row.{Row}
 use Rattle.table_check.specs.declared.row.Current.{Current}
 use Rattle.table_check.specs.declared.row.Tested.{Tested}
-use Rattle.table_check.specs.Tests.{rowFrom, serviceKey, placeOf, places, rowKey, leastKey, lacksAt, askedRelease, asked}
+use Rattle.table_check.specs.Tests.{rowFrom, serviceKey, rankOf, ranks, rowKey, leastKey, lacksAt, askedRelease, asked}
 use Rattle.table_check.specs.Tally.{Countable, RowCounted, rowsTo, Reached, FlowTally}
 use Rattle.table_check.proofs.TableRows.{rows-to}
-use Rattle.table_check.proofs.Keys.{place-below}
+use Rattle.table_check.proofs.Keys.{rank-below}
 use Rattle.table_check.proofs.SoFar.{finish-here, finish-there}
 use Rattle.table_check.proofs.Tallies.{tally-next, total-others}
 use Rattle.table_check.proofs.Started.{started}
@@ -73,16 +73,16 @@ module _ {book : List ℕ} {opened : ℕ → Bool} {table sizes caps : List ℕ}
 
   module _ {r : Row} {t : Tested} (turn : Turn (bookOf book) opened table (c .flow) k (rowFrom r) t) where
     pub job-in : r .job < jobCount (flowOf (bookOf book) (c .flow))
-    job-in = rw (turn .own) at (in-book-of b (rowFrom r) (turn .early .inside) .2)
+    job-in = rw (turn .own) at (in-book-of b (rowFrom r) (turn .standing .inside) .2)
 
     pub job-few : r .job < 64
-    job-few = turn .early .fits .job-fits
+    job-few = turn .standing .fits .job-fits
 
     pub slot-in : r .slot < slots
-    slot-in = turn .early .fits .slot-fits
+    slot-in = turn .standing .fits .slot-fits
 
     latest : finishOf (take k (tableRows (bookOf book) table)) (c .flow) ≤ r .slot + 1
-    latest = rw (turn .own) at (known going .rising (rowFrom r) (turn .early .fits) (turn .early .after-least))
+    latest = rw (turn .own) at (known going .rising (rowFrom r) (turn .standing .fits) (turn .standing .after-least))
 
     abbrev predecessors : ℕ
     predecessors = jobOf (flowOf (bookOf book) (c .flow)) (r .job) .predecessors
@@ -109,7 +109,7 @@ module _ {book : List ℕ} {opened : ℕ → Bool} {table sizes caps : List ℕ}
         where
           go : (u : Bool) → ltb 0 (getD totals (r .job) 0) ≡ u → rowFault (bookOf book) opened (tableRows (bookOf book) table) k ≡ Refused 19 (r .flow) (r .job)
           go true d = absurd (false≢true (sym (asked-is ∙ rw d refl) ∙ e))
-          go false d = release-fault b opened rows k (rowFrom r) (turn .row-is) (turn .early) (turn .late) (rw (turn .own) (sym (asked-is ∙ rw d refl) ∙ e))
+          go false d = release-fault b opened rows k (rowFrom r) (turn .row-is) (turn .standing) (turn .amount) (rw (turn .own) (sym (asked-is ∙ rw d refl) ∙ e))
 
       pub is-released : unreleased ≡ false → beforeRelease (bookOf book) (rowFrom r) ≡ false
       unfolding askedRelease beforeRelease
@@ -146,7 +146,7 @@ module _ {book : List ℕ} {opened : ℕ → Bool} {table sizes caps : List ℕ}
               rowFault (bookOf book) opened (tableRows (bookOf book) table) k ≡ Refused 19 (r .flow) (r .job)
           go (inl none) = absurd (false≢true (sym (unset-lacks bits m (r .slot) (getD ready m 0) (no-bit bits (none .0) m)) ∙ e))
           go (inr all) =
-              lacks-fault b opened rows k (rowFrom r) (turn .row-is) (turn .early) (turn .late) released
+              lacks-fault b opened rows k (rowFrom r) (turn .row-is) (turn .standing) (turn .amount) released
               (tests ∙ any-true (λ m. lacksAt predecessors m (r .slot) (getD ready m 0)) (r .job) m h (ap (λ (p : ℕ). lacksAt p m (r .slot) (getD ready m 0)) (sym all) ∙ e))
 
       -- none is lacking: at the job's first row all were asked, and later none lacks since its first row was asked
@@ -167,14 +167,14 @@ module _ {book : List ℕ} {opened : ℕ → Bool} {table sizes caps : List ℕ}
       totals-long = going .tally .totals-long;
       ready-long = going .tally .ready-long;
       room = going .room;
-      use-fits = omega (arith, turn .used-is, ltb-false (b .processors) (usedIn (take k rows) (r .slot) + r .processors) (turn .late .room-kept), range going .processors-most);
+      use-fits = omega (arith, turn .used-is, ltb-false (b .processors) (usedIn (take k rows) (r .slot) + r .processors) (turn .amount .room-kept), range going .processors-most);
       total-fits = omega (
         arith,
         going .tally .total (r .job) job-few,
-        rw (turn .own) at (known going .earlier (rowFrom r) (turn .early .fits) (turn .early .after-least)),
+        rw (turn .own) at (known going .earlier (rowFrom r) (turn .standing .fits) (turn .standing .after-least)),
         known going .few (c .flow) (r .job) (r .slot),
         slot-in,
-        ltb-false (b .processors) (usedIn (take k rows) (r .slot) + r .processors) (turn .late .room-kept),
+        ltb-false (b .processors) (usedIn (take k rows) (r .slot) + r .processors) (turn .amount .room-kept),
         range going .processors-most,
       );
     }
@@ -207,7 +207,7 @@ module _ {book : List ℕ} {opened : ℕ → Bool} {table sizes caps : List ℕ}
       reached-next = record {
         at-is = omega (arith, going .reached .at-is);
         within = turn .more;
-        passed = fault-next (rowFault b opened rows) k (going .reached .passed) (row-passes b opened rows k (rowFrom r) (turn .row-is) (turn .early) (turn .late) released none);
+        passed = fault-next (rowFault b opened rows) k (going .reached .passed) (row-passes b opened rows k (rowFrom r) (turn .row-is) (turn .standing) (turn .amount) released none);
         use-of = rw one (used-self slots (soFar ++ rowFrom r ∷ []) work work′ work-right);
       }
 
@@ -216,12 +216,12 @@ module _ {book : List ℕ} {opened : ℕ → Bool} {table sizes caps : List ℕ}
           rw (one, counted .total, counted .complete)
           (tally-next b (c .flow) soFar (rowFrom r) (turn .own) latest totals ready (going .tally) job-few job-in (t .size) (turn .size-is))
 
-      least-right : leastKey (bookOf book) (tableRows (bookOf book) table) (suc k) ≡ suc (serviceKey (bookOf book) (c .flow) * places + placeOf (rowFrom r))
+      least-right : leastKey (bookOf book) (tableRows (bookOf book) table) (suc k) ≡ suc (serviceKey (bookOf book) (c .flow) * ranks + rankOf (rowFrom r))
       unfolding leastKey rowKey
       least-right = rw (turn .row-is, turn .own) refl
 
       going-at : (v : Verdict) → v ≡ Pass →
-          Going book opened table sizes caps c from totals′ ready′ work′ v (placeOf (rowFrom r) + 1) (r .slot + 1) (at + 6) (suc k)
+          Going book opened table sizes caps c from totals′ ready′ work′ v (rankOf (rowFrom r) + 1) (r .slot + 1) (at + 6) (suc k)
       going-at v v-is = record {
         current = going .current;
         held = going .held;
@@ -234,15 +234,15 @@ module _ {book : List ℕ} {opened : ℕ → Bool} {table sizes caps : List ℕ}
         since = omega (arith, going .since);
         reached = reached-next;
         tally = tally-right;
-        order = λ p. rw least-right (shifted (serviceKey b (c .flow) * places) (placeOf (rowFrom r)) p);
+        order = λ p. rw least-right (shifted (serviceKey b (c .flow) * ranks) (rankOf (rowFrom r)) p);
         others-total = λ g i n. rw one (total-others soFar (rowFrom r) g i (λ e. n (sym e ∙ turn .own))) ∙ going .others-total g i n;
         others-finish = λ g n. rw one (finish-there soFar (rowFrom r) g (λ e. n (sym e ∙ turn .own))) ∙ going .others-finish g n;
         finish-of = rw one (sym (finish-here soFar (rowFrom r) (c .flow) (turn .own) latest));
         last-low = λ l. omega (arith, least-right);
-        last-high = omega (arith, least-right, place-below (rowFrom r) (turn .early .fits));
+        last-high = omega (arith, least-right, rank-below (rowFrom r) (turn .standing .fits));
       }
 
       -- the next turn
-      pub going-next : {v : Verdict} {place : ℕ} → v ≡ Pass → place ≡ placeOf (rowFrom r) →
-          Going book opened table sizes caps c from totals′ ready′ work′ v (place + 1) (r .slot + 1) (at + 6) (rowsTo (bookOf book) (at + 6))
+      pub going-next : {v : Verdict} {rank : ℕ} → v ≡ Pass → rank ≡ rankOf (rowFrom r) →
+          Going book opened table sizes caps c from totals′ ready′ work′ v (rank + 1) (r .slot + 1) (at + 6) (rowsTo (bookOf book) (at + 6))
       going-next {v} v-is e = rw (e, rows-to b (at + 6) (suc k) (reached-next .at-is)) (going-at v v-is)

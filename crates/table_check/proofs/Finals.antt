@@ -21,9 +21,9 @@ use Rattle.rules.proofs.Reading.Passing.{pass-in-range}
 use Rattle.book.specs.declared.Index.{Index}
 use Rattle.book.specs.Promise.{Indexed}
 use Rattle.table_check.specs.declared.row.Current.{Current}
-use Rattle.table_check.specs.Tests.{offFault}
+use Rattle.table_check.specs.Tests.{mismatchFault}
 use Rattle.table_check.specs.Tally.{CurrentFlow}
-use Rattle.table_check.specs.Walk.{flowTotals, Closed, totalFaultBy, offsFault, finishFaultBy}
+use Rattle.table_check.specs.Walk.{flowTotals, Closed, totalFaultBy, mismatchesFault, finishFaultBy}
 use Rattle.book.specs.Late.{lateCount}
 use Rattle.book.proofs.LateFlows.{late-counted}
 
@@ -63,25 +63,25 @@ module _ (b : Book) (f : ℕ) (totals : List ℕ) (i job v : ℕ) (job-is : i �
   total-wrong n =
       rw (ne-eqb (getD totals job 0) (jobOf (flowOf b f) job .size) (λ e. n (ap (λ (k : ℕ). getD totals k 0) job-is ∙ e ∙ sym size-is))) refl
 
-pub off-found : (f i : ℕ) → i < 64 → offFault f i ≡ Refused 20 f i
-unfolding offFault
-off-found f i h = rw (lt-ltb i 64 h) refl
+pub mismatch-found : (f i : ℕ) → i < 64 → mismatchFault f i ≡ Refused 20 f i
+unfolding mismatchFault
+mismatch-found f i h = rw (lt-ltb i 64 h) refl
 
-pub off-none : (f i : ℕ) → 64 ≤ i → offFault f i ≡ Pass
-unfolding offFault
-off-none f i h = rw (le-ltb i 64 h) refl
+pub mismatch-none : (f i : ℕ) → 64 ≤ i → mismatchFault f i ≡ Pass
+unfolding mismatchFault
+mismatch-none f i h = rw (le-ltb i 64 h) refl
 
--- a flow is closed: by the first job that is off, or by none
+-- a flow is closed: by the first job whose total differs from its size, or by none
 module _ (b : Book) (f : ℕ) (totals : List ℕ) (jobs : ℕ) (jobs-are : jobs ≡ jobCount (flowOf b f)) (few : jobs ≤ 64) where
-  pub closes-off : (job : ℕ) → job < jobs → firstFault (totalFaultBy b f totals) job ≡ Pass → totalFaultBy b f totals job ≡ Refused 20 f job →
-      offFault f job ≡ firstFault (totalFaultBy b f totals) (jobCount (flowOf b f))
-  closes-off job h e d =
-      off-found f job (omega arith) ∙ sym (stopped (totalFaultBy b f totals) job (jobCount (flowOf b f)) 20 f job (omega arith) e d)
+  pub closes-mismatch : (job : ℕ) → job < jobs → firstFault (totalFaultBy b f totals) job ≡ Pass → totalFaultBy b f totals job ≡ Refused 20 f job →
+      mismatchFault f job ≡ firstFault (totalFaultBy b f totals) (jobCount (flowOf b f))
+  closes-mismatch job h e d =
+      mismatch-found f job (omega arith) ∙ sym (stopped (totalFaultBy b f totals) job (jobCount (flowOf b f)) 20 f job (omega arith) e d)
 
   pub closes-right : (job : ℕ) → job ≤ jobs → jobs ≤ job → firstFault (totalFaultBy b f totals) job ≡ Pass →
-      offFault f 64 ≡ firstFault (totalFaultBy b f totals) (jobCount (flowOf b f))
+      mismatchFault f 64 ≡ firstFault (totalFaultBy b f totals) (jobCount (flowOf b f))
   closes-right job h l e =
-      off-none f 64 (omega arith) ∙ sym (all-walked (totalFaultBy b f totals) job (jobCount (flowOf b f)) (omega arith) (omega arith) e)
+      mismatch-none f 64 (omega arith) ∙ sym (all-walked (totalFaultBy b f totals) job (jobCount (flowOf b f)) (omega arith) (omega arith) e)
 
 module _ (table finish : List ℕ) (f v : ℕ) (v-is : v ≡ finishIn table f) where
   pub finish-right : v ≡ getD finish f 0 → finishFaultBy table finish f ≡ Pass
@@ -102,11 +102,11 @@ flow-totals b f soFar totals few total =
     (λ i l. ap (λ (n : ℕ). if eqb n (jobOf (flowOf b f) i .size) then Pass else Refused 20 f i) (total i (omega arith)))
 
 -- ---- the table's own
-module _ (b : Book) (range : InRange b) (rows : List Row) (off finish : List ℕ) (closed : Closed b rows off finish) where
-  pub offs-same : offsFault off (flowCount b) ≡ firstFault (λ f. firstFault (totalFault b rows f) (jobCount (flowOf b f))) (flowCount b)
-  unfolding offsFault flowTotals
-  offs-same =
-      fault-ext (λ f. offFault f (getD off f 0)) (λ f. firstFault (totalFault b rows f) (jobCount (flowOf b f))) (flowCount b) (λ f h. closed .off-of f h)
+module _ (b : Book) (range : InRange b) (rows : List Row) (mismatch finish : List ℕ) (closed : Closed b rows mismatch finish) where
+  pub mismatches-same : mismatchesFault mismatch (flowCount b) ≡ firstFault (λ f. firstFault (totalFault b rows f) (jobCount (flowOf b f))) (flowCount b)
+  unfolding mismatchesFault flowTotals
+  mismatches-same =
+      fault-ext (λ f. mismatchFault f (getD mismatch f 0)) (λ f. firstFault (totalFault b rows f) (jobCount (flowOf b f))) (flowCount b) (λ f h. closed .mismatch-of f h)
 
   pub finishes-same : (table : List ℕ) → firstFault (finishFaultBy table finish) (flowCount b) ≡ firstFault (finishFault table rows) (flowCount b)
   unfolding finishFaultBy finishFault

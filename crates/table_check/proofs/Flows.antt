@@ -33,32 +33,32 @@ use Rattle.table_check.specs.declared.row.Row.{Row}
 use Rattle.table_check.specs.declared.row.Current.{Current}
 use Rattle.table_check.specs.declared.walk.Stop.{Stop}
 use Rattle.table_check.specs.declared.walk.FlowStop.{FlowStop}
-use Rattle.table_check.specs.Tests.{rowFrom, serviceKey, placeOf, places, rowKey, leastKey, earlyNumber, offFault}
+use Rattle.table_check.specs.Tests.{rowFrom, serviceKey, rankOf, ranks, rowKey, leastKey, standingNumber, mismatchFault}
 use Rattle.table_check.specs.Tally.{CurrentFlow, rowsTo, Reached}
 use Rattle.table_check.specs.Walk.{rowsFault, flowTotals, FlowBegins, WentOn, RowsWalked, totalFaultBy, FlowWalked, Ready, Closed, TableWalked}
 use Rattle.table_check.proofs.TableRows.{rows-to, more-rows, row-read, no-more-rows}
-use Rattle.table_check.proofs.Keys.{KeyFits, service-apart, place-below}
-use Rattle.table_check.proofs.RowFaults.{EarlyPassed, flow-unknown, early-fault, early-passed}
-use Rattle.table_check.proofs.Finals.{none-walked, stopped, flow-totals, off-found}
+use Rattle.table_check.proofs.Keys.{KeyFits, service-apart, rank-below}
+use Rattle.table_check.proofs.RowFaults.{StandingPassed, flow-unknown, standing-fault, standing-passed}
+use Rattle.table_check.proofs.Finals.{none-walked, stopped, flow-totals, mismatch-found}
 
 -- ---- a flow is closed
-pub flow-closed : {book : List ℕ} {opened : ℕ → Bool} {table before after totals : List ℕ} {c : Current} {from off : ℕ} {w : Stop} →
+pub flow-closed : {book : List ℕ} {opened : ℕ → Bool} {table before after totals : List ℕ} {c : Current} {from mismatch : ℕ} {w : Stop} →
     CurrentFlow book c → RowsWalked (bookOf book) opened table (c .flow) from before after totals w →
-    offFault (c .flow) off ≡ firstFault (totalFaultBy (bookOf book) (c .flow) totals) (jobCount (flowOf (bookOf book) (c .flow))) →
-    FlowWalked (bookOf book) opened table (c .flow) from before after (record { verdict = w .verdict; next = w .next; finish = w .finish; off = off })
-flow-closed {book} {table = table} {totals = totals} {c = c} {w = w} current walked off-is = record {
+    mismatchFault (c .flow) mismatch ≡ firstFault (totalFaultBy (bookOf book) (c .flow) totals) (jobCount (flowOf (bookOf book) (c .flow))) →
+    FlowWalked (bookOf book) opened table (c .flow) from before after (record { verdict = w .verdict; next = w .next; finish = w .finish; mismatch = mismatch })
+flow-closed {book} {table = table} {totals = totals} {c = c} {w = w} current walked mismatch-is = record {
   cleared = walked .cleared;
   stopped = walked .stopped;
   went = walked .went;
-  off = λ p.
-      off-is
+  mismatch = λ p.
+      mismatch-is
       ∙ flow-totals (bookOf book) (c .flow) (take (rowsTo (bookOf book) (w .next)) (tableRows (bookOf book) table)) totals
       (used-in-range (pass-in-range book (current .stands .passes)) (c .flow) (current .stands .flow-in) .jobs-most) (walked .total p);
 }
 
 -- ---- between two flows
 -- after k rows, all of which pass: every flow is closed, and the next row is another flow's than the last one, whose service key is below `least`
-pub record Between (book : List ℕ) (opened : ℕ → Bool) (table : List ℕ) (x : Index) (flows : ℕ) (work₀ work off finish : List ℕ)
+pub record Between (book : List ℕ) (opened : ℕ → Bool) (table : List ℕ) (x : Index) (flows : ℕ) (work₀ work mismatch finish : List ℕ)
     (least at k : ℕ) : Type 0 where
   pub indexed : Indexed book x
   pub flows-are : flows ≡ flowCount (bookOf book)
@@ -66,26 +66,26 @@ pub record Between (book : List ℕ) (opened : ℕ → Bool) (table : List ℕ) 
   pub room : workBytes ≤ length work
   pub work-kept : length work ≡ length work₀
   pub cleared : workZero slots work ≡ workZero slots work₀
-  pub off-long : length off ≡ 64
+  pub mismatch-long : length mismatch ≡ 64
   pub finish-long : length finish ≡ 64
   pub reached : Reached (bookOf book) opened table k at work
-  pub closed : Closed (bookOf book) (take k (tableRows (bookOf book) table)) off finish
-  pub least-high : leastKey (bookOf book) (tableRows (bookOf book) table) k ≤ least * places
-  pub least-low : least * places < leastKey (bookOf book) (tableRows (bookOf book) table) k + places
+  pub closed : Closed (bookOf book) (take k (tableRows (bookOf book) table)) mismatch finish
+  pub least-high : leastKey (bookOf book) (tableRows (bookOf book) table) k ≤ least * ranks
+  pub least-low : least * ranks < leastKey (bookOf book) (tableRows (bookOf book) table) k + ranks
   pub another : (g : ℕ) → g < 64 → k < length (tableRows (bookOf book) table) → getD (tableRows (bookOf book) table) k noRow .flow ≡ g →
       suc (serviceKey (bookOf book) g) ≡ least → ⊥
 
--- without rows every flow is off at job 0
+-- without rows every flow has its mismatch at job 0
 closed-none : (b : Book) → InRange b → Closed b [] (replicate 64 0) (replicate 64 0)
 unfolding flowTotals totalFault totalOf finishOf sumWhere
 closed-none b range = record {
-  off-of = λ f h.
+  mismatch-of = λ f h.
       let few : f < 64 = omega (arith, range .flows-most) in
       let first : getD {A = ℕ} (replicate 64 0) f 0 ≡ 0 = getD-replicate {A = ℕ} 64 f 0 0 few in
       let some : 0 < jobCount (flowOf b f) = used-in-range range f h .jobs-least in
       let wrong : totalFault b [] f 0 ≡ Refused 20 f 0 =
       rw (ne-eqb 0 (jobOf (flowOf b f) 0 .size) (λ e. omega (arith, used-in-range range f h .each-job 0 some .size-least))) refl in
-      ap (offFault f) first ∙ off-found f 0 (omega arith) ∙ sym (stopped (totalFault b [] f) 0 (jobCount (flowOf b f)) 20 f 0 some (none-walked _) wrong);
+      ap (mismatchFault f) first ∙ mismatch-found f 0 (omega arith) ∙ sym (stopped (totalFault b [] f) 0 (jobCount (flowOf b f)) 20 f 0 some (none-walked _) wrong);
   finish-of = λ f h. getD-replicate {A = ℕ} 64 f 0 0 h;
 }
 
@@ -115,7 +115,7 @@ module _ {book table entry work : List ℕ} {x : Index} (ready : Ready book tabl
       room = omega (arith, ready .room, ap length from, cleared-length slots entry (ready .room));
       work-kept = refl;
       cleared = refl;
-      off-long = length-replicate {A = ℕ} 64 0;
+      mismatch-long = length-replicate {A = ℕ} 64 0;
       finish-long = length-replicate {A = ℕ} 64 0;
       reached = none-reached;
       closed = closed-none (bookOf book) (pass-in-range book (ready .indexed .passes));
@@ -128,8 +128,8 @@ module _ {book table entry work : List ℕ} {x : Index} (ready : Ready book tabl
         Between book opened table x (x .flows) work work (replicate 64 0) (replicate 64 0) 0 (8 + 2 * x .flows) (rowsTo (bookOf book) (8 + 2 * x .flows))
     between-first = rw (rows-to (bookOf book) (8 + 2 * x .flows) 0 first-at) between-none
 
-module _ {book : List ℕ} {opened : ℕ → Bool} {table : List ℕ} {x : Index} {flows : ℕ} {work₀ work off finish : List ℕ} {least at k : ℕ}
-    (between : Between book opened table x flows work₀ work off finish least at k) where
+module _ {book : List ℕ} {opened : ℕ → Bool} {table : List ℕ} {x : Index} {flows : ℕ} {work₀ work mismatch finish : List ℕ} {least at k : ℕ}
+    (between : Between book opened table x flows work₀ work mismatch finish least at k) where
   abbrev b : Book
   b = bookOf book
 
@@ -161,7 +161,7 @@ module _ {book : List ℕ} {opened : ℕ → Bool} {table : List ℕ} {x : Index
     entry-cleared after e = e ∙ between .cleared ∙ ap (workZero slots) from ∙ cleared-twice slots entry
 
     table-stops : {after : List ℕ} {n fl jb : ℕ} {v : Verdict} → v ≡ Refused n fl jb → v ≡ rowsFault (bookOf book) opened table →
-        workZero slots after ≡ workZero slots work → TableWalked (bookOf book) opened table entry after (record { verdict = v; off = off; finish = finish })
+        workZero slots after ≡ workZero slots work → TableWalked (bookOf book) opened table entry after (record { verdict = v; mismatch = mismatch; finish = finish })
     table-stops {after} {n} {fl} {jb} v-is e c = record {
       verdict = e;
       cleared = entry-cleared after c;
@@ -170,7 +170,7 @@ module _ {book : List ℕ} {opened : ℕ → Bool} {table : List ℕ} {x : Index
     }
 
     -- no row is left
-    pub table-ends : length table ≤ at → TableWalked (bookOf book) opened table entry work (record { verdict = Pass; off = off; finish = finish })
+    pub table-ends : length table ≤ at → TableWalked (bookOf book) opened table entry work (record { verdict = Pass; mismatch = mismatch; finish = finish })
     unfolding rowsFault
     table-ends h =
         let all : k ≡ length rows = no-more-rows (between .headed) (between .reached) h in
@@ -194,18 +194,18 @@ module _ {book : List ℕ} {opened : ℕ → Bool} {table : List ℕ} {x : Index
 
     row-stops : (entry : List ℕ) → work₀ ≡ workZero slots entry → {n fl jb : ℕ} {v : Verdict} → v ≡ Refused n fl jb →
         rowFault (bookOf book) opened (tableRows (bookOf book) table) k ≡ Refused n fl jb →
-        TableWalked (bookOf book) opened table entry work (record { verdict = v; off = off; finish = finish })
+        TableWalked (bookOf book) opened table entry work (record { verdict = v; mismatch = mismatch; finish = finish })
     unfolding rowsFault
     row-stops entry from {n} {fl} {jb} v-is e =
         table-stops entry from v-is
         (v-is ∙ sym (fault-stop (rowFault b opened rows) (length rows) k (Refused n fl jb) more (not-pass n fl jb) (between .reached .passed) e)) refl
 
     pub unknown-stops : (entry : List ℕ) → work₀ ≡ workZero slots entry → {v : Verdict} → v ≡ Refused 15 (r .flow) (r .job) → flows ≤ f →
-        TableWalked (bookOf book) opened table entry work (record { verdict = v; off = off; finish = finish })
+        TableWalked (bookOf book) opened table entry work (record { verdict = v; mismatch = mismatch; finish = finish })
     unknown-stops entry from v-is h = row-stops entry from v-is (flow-unknown b opened rows k (rowFrom r) row-here (omega (arith, between .flows-are, flow-is)))
 
     module _ (in-book : f < flows) {jobs key n : ℕ} (jobs-read : jobs ≡ getD (x .jobs) f 0) (key-read : key ≡ getD (x .deadlines) f 0 * 64 + r .flow)
-        (n-is : n ≡ earlyNumber jobs (opened (r .slot)) least key (rowFrom r)) where
+        (n-is : n ≡ standingNumber jobs (opened (r .slot)) least key (rowFrom r)) where
       flow-in : r .flow < flowCount (bookOf book)
       flow-in = omega (arith, between .flows-are, flow-is)
 
@@ -219,35 +219,35 @@ module _ {book : List ℕ} {opened : ℕ → Bool} {table : List ℕ} {x : Index
       order fit = go (lt-or-ge key least)
         where
           go : (key < least) ⊎ (least ≤ key) →
-              leb (leastKey (bookOf book) (tableRows (bookOf book) table) k) (serviceKey (bookOf book) (r .flow) * places + placeOf (rowFrom r)) ≡ leb least key
+              leb (leastKey (bookOf book) (tableRows (bookOf book) table) k) (serviceKey (bookOf book) (r .flow) * ranks + rankOf (rowFrom r)) ≡ leb least key
           go (inl l) =
               let apart : suc key ≡ least → ⊥ = λ e. between .another (r .flow) (fit .flow-fits) more (ap (λ (q : rules.Row). q .flow) row-here) (ap suc (sym key-is) ∙ e) in
               let far : suc key < least = go′ (lt-or-ge (suc key) least) apart in
-              lt-leb (leastKey b rows k) (serviceKey b (r .flow) * places + placeOf (rowFrom r)) (omega (arith, key-is, between .least-low, place-below (rowFrom r) fit)) ∙ sym (lt-leb least key l)
+              lt-leb (leastKey b rows k) (serviceKey b (r .flow) * ranks + rankOf (rowFrom r)) (omega (arith, key-is, between .least-low, rank-below (rowFrom r) fit)) ∙ sym (lt-leb least key l)
             where
               go′ : (suc key < least) ⊎ (least ≤ suc key) → (suc key ≡ least → ⊥) → suc key < least
               go′ (inl m) n = m
               go′ (inr m) n = absurd (n (omega arith))
-          go (inr l) = le-leb (leastKey b rows k) (serviceKey b (r .flow) * places + placeOf (rowFrom r)) (omega (arith, key-is, between .least-high)) ∙ sym (le-leb least key l)
+          go (inr l) = le-leb (leastKey b rows k) (serviceKey b (r .flow) * ranks + rankOf (rowFrom r)) (omega (arith, key-is, between .least-high)) ∙ sym (le-leb least key l)
 
-      n-right : n ≡ earlyNumber (jobCount (flowOf (bookOf book) (r .flow))) (opened (r .slot)) least key (rowFrom r)
+      n-right : n ≡ standingNumber (jobCount (flowOf (bookOf book) (r .flow))) (opened (r .slot)) least key (rowFrom r)
       n-right =
-          n-is ∙ ap (λ (m : ℕ). earlyNumber m (opened (r .slot)) least key (rowFrom r))
+          n-is ∙ ap (λ (m : ℕ). standingNumber m (opened (r .slot)) least key (rowFrom r))
           (jobs-read ∙ between .indexed .jobs f (omega (arith, between .flows-are)) ∙ ap (λ (g : ℕ). jobCount (flowOf (bookOf book) g)) flow-is)
 
-      pub early-stops : (entry : List ℕ) → work₀ ≡ workZero slots entry → {v : Verdict} → v ≡ Refused n (r .flow) (r .job) → (n ≡ 0 → ⊥) →
-          TableWalked (bookOf book) opened table entry work (record { verdict = v; off = off; finish = finish })
-      early-stops entry from v-is h =
+      pub standing-stops : (entry : List ℕ) → work₀ ≡ workZero slots entry → {v : Verdict} → v ≡ Refused n (r .flow) (r .job) → (n ≡ 0 → ⊥) →
+          TableWalked (bookOf book) opened table entry work (record { verdict = v; mismatch = mismatch; finish = finish })
+      standing-stops entry from v-is h =
           row-stops entry from v-is
-          (early-fault b opened rows k (rowFrom r) row-here range (between .reached .passed) least key n order flow-in n-right h)
+          (standing-fault b opened rows k (rowFrom r) row-here range (between .reached .passed) least key n order flow-in n-right h)
 
       -- the flow's rows come after those so far
       module _ (none : n ≡ 0) where
-        early : EarlyPassed (bookOf book) opened (tableRows (bookOf book) table) k (rowFrom r)
-        early = early-passed b opened rows k (rowFrom r) row-here range (between .reached .passed) least key n order flow-in n-right none
+        standing : StandingPassed (bookOf book) opened (tableRows (bookOf book) table) k (rowFrom r)
+        standing = standing-passed b opened rows k (rowFrom r) row-here range (between .reached .passed) least key n order flow-in n-right none
 
         key-least : least ≤ key
-        key-least = leb-true least key (sym (order (early .fits)) ∙ le-leb (leastKey b rows k) (rowKey b (rowFrom r)) (early .after-least))
+        key-least = leb-true least key (sym (order (standing .fits)) ∙ le-leb (leastKey b rows k) (rowKey b (rowFrom r)) (standing .after-least))
 
         pub flow-begins : k ≡ rowsTo (bookOf book) at → {records release processors : ℕ} → records ≡ getD (x .records) f 0 →
             release ≡ flowOf (bookOf book) f .release → processors ≡ x .processors →
@@ -270,7 +270,7 @@ module _ {book : List ℕ} {opened : ℕ → Bool} {table : List ℕ} {x : Index
   -- ---- the flow's rows were walked
   module _ {f : ℕ} {after : List ℕ} {w : FlowStop} (walked : FlowWalked (bookOf book) opened table f at work after w) where
     pub flow-stops : (entry : List ℕ) → work₀ ≡ workZero slots entry → {n fl jb : ℕ} {v : Verdict} → v ≡ w .verdict → v ≡ Refused n fl jb →
-        TableWalked (bookOf book) opened table entry after (record { verdict = v; off = off; finish = finish })
+        TableWalked (bookOf book) opened table entry after (record { verdict = v; mismatch = mismatch; finish = finish })
     flow-stops entry from {n} {fl} {jb} v-is e =
         table-stops entry from e (v-is ∙ walked .stopped (λ p. not-pass n fl jb (sym e ∙ v-is ∙ p))) (walked .cleared)
 
@@ -285,19 +285,19 @@ module _ {book : List ℕ} {opened : ℕ → Bool} {table : List ℕ} {x : Index
       few : f < 64
       few = omega (arith, range .flows-most)
 
-      off-others : (g : ℕ) → (g ≡ f → ⊥) →
+      mismatch-others : (g : ℕ) → (g ≡ f → ⊥) →
           flowTotals (bookOf book) (take (rowsTo (bookOf book) (w .next)) (tableRows (bookOf book) table)) g
           ≡ flowTotals (bookOf book) (take k (tableRows (bookOf book) table)) g
       unfolding flowTotals totalFault
-      off-others g n =
+      mismatch-others g n =
           fault-ext (totalFault b (take m rows) g) (totalFault b (take k rows) g) (jobCount (flowOf b g))
           (λ i l. ap (λ (t : ℕ). if eqb t (jobOf (flowOf b g) i .size) then Pass else Refused 20 g i) (went .others-total g i n))
 
-      off-next : (g : ℕ) → g < flowCount (bookOf book) →
-          offFault g (getD (set off f (w .off)) g 0) ≡ flowTotals (bookOf book) (take (rowsTo (bookOf book) (w .next)) (tableRows (bookOf book) table)) g
-      off-next =
-          after-set (λ g v. g < flowCount b → offFault g v ≡ flowTotals b (take m rows) g) off f (w .off) (omega (arith, few, between .off-long))
-          (λ h. walked .off pass) (λ g other h. between .closed .off-of g h ∙ sym (off-others g other))
+      mismatch-next : (g : ℕ) → g < flowCount (bookOf book) →
+          mismatchFault g (getD (set mismatch f (w .mismatch)) g 0) ≡ flowTotals (bookOf book) (take (rowsTo (bookOf book) (w .next)) (tableRows (bookOf book) table)) g
+      mismatch-next =
+          after-set (λ g v. g < flowCount b → mismatchFault g v ≡ flowTotals b (take m rows) g) mismatch f (w .mismatch) (omega (arith, few, between .mismatch-long))
+          (λ h. walked .mismatch pass) (λ g other h. between .closed .mismatch-of g h ∙ sym (mismatch-others g other))
 
       finish-next : (g : ℕ) → g < 64 →
           getD (set finish f (w .finish)) g 0 ≡ finishOf (take (rowsTo (bookOf book) (w .next)) (tableRows (bookOf book) table)) g
@@ -310,7 +310,7 @@ module _ {book : List ℕ} {opened : ℕ → Bool} {table : List ℕ} {x : Index
       another-next g h l e d = service-apart b g f h few (λ same. went .another l (e ∙ same)) d
 
       pub between-next : {key : ℕ} → key ≡ serviceKey (bookOf book) f → length after ≡ length work →
-          Between book opened table x flows work₀ after (set off f (w .off)) (set finish f (w .finish)) (key + 1) (w .next) (rowsTo (bookOf book) (w .next))
+          Between book opened table x flows work₀ after (set mismatch f (w .mismatch)) (set finish f (w .finish)) (key + 1) (w .next) (rowsTo (bookOf book) (w .next))
       between-next {key} key-is kept = record {
         indexed = between .indexed;
         flows-are = between .flows-are;
@@ -318,10 +318,10 @@ module _ {book : List ℕ} {opened : ℕ → Bool} {table : List ℕ} {x : Index
         room = omega (arith, between .room);
         work-kept = kept ∙ between .work-kept;
         cleared = walked .cleared ∙ between .cleared;
-        off-long = length-set off f (w .off) ∙ between .off-long;
+        mismatch-long = length-set mismatch f (w .mismatch) ∙ between .mismatch-long;
         finish-long = length-set finish f (w .finish) ∙ between .finish-long;
         reached = went .reached;
-        closed = record { off-of = off-next; finish-of = finish-next };
+        closed = record { mismatch-of = mismatch-next; finish-of = finish-next };
         least-high = omega (arith, went .last-high);
         least-low = omega (arith, went .last-low);
         another = λ g h l e d. another-next g h l e (omega arith);

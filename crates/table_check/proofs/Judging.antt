@@ -25,10 +25,10 @@ use Rattle.book.specs.Promise.{Indexed}
 use Rattle.table_check.specs.declared.walk.Walked.{Walked}
 use Rattle.table_check.specs.declared.Judged.{Judged}
 use Rattle.table_check.specs.Tests.{headFault}
-use Rattle.table_check.specs.Walk.{rowsFault, flowTotals, Ready, Closed, TableWalked, offsFault, finishFaultBy, faultBy, TableJudged}
+use Rattle.table_check.specs.Walk.{rowsFault, flowTotals, Ready, Closed, TableWalked, mismatchesFault, finishFaultBy, faultBy, TableJudged}
 use Rattle.book.specs.Late.{lateCount}
 use Rattle.table_check.proofs.Heads.{head-of-book}
-use Rattle.table_check.proofs.Finals.{offs-same, finishes-same, late-same}
+use Rattle.table_check.proofs.Finals.{mismatches-same, finishes-same, late-same}
 
 -- ---- stages
 stop-here : (v w : Verdict) (n f j : ℕ) → v ≡ Refused n f j → (v andThen w) ≡ v
@@ -106,23 +106,23 @@ module _ {book : List ℕ} {x : Index} (indexed : Indexed book x) (table : List 
 
       -- 20 and 21
       module _ (rows-pass : w .verdict ≡ Pass) where
-        closed : Closed (bookOf book) (tableRows (bookOf book) table) (w .off) (w .finish)
+        closed : Closed (bookOf book) (tableRows (bookOf book) table) (w .mismatch) (w .finish)
         closed = walked .closed rows-pass
 
         range : InRange (bookOf book)
         range = pass-in-range book (indexed .passes)
 
-        totals-right : offsFault (w .off) (x .flows) ≡ totalsFault (bookOf book) table
+        totals-right : mismatchesFault (w .mismatch) (x .flows) ≡ totalsFault (bookOf book) table
         unfolding totalsFault
-        totals-right = ap (offsFault (w .off)) (indexed .flows) ∙ offs-same b range (tableRows b table) (w .off) (w .finish) closed
+        totals-right = ap (mismatchesFault (w .mismatch)) (indexed .flows) ∙ mismatches-same b range (tableRows b table) (w .mismatch) (w .finish) closed
 
         finishes-right : firstFault (finishFaultBy table (w .finish)) (x .flows) ≡ finishesFault (bookOf book) table
         unfolding finishesFault
         finishes-right =
-            ap (firstFault (finishFaultBy table (w .finish))) (indexed .flows) ∙ finishes-same b range (tableRows b table) (w .off) (w .finish) closed table
+            ap (firstFault (finishFaultBy table (w .finish))) (indexed .flows) ∙ finishes-same b range (tableRows b table) (w .mismatch) (w .finish) closed table
 
         pub judgement-ends : {v : Verdict} {late : ℕ} →
-            v ≡ (offsFault (w .off) (x .flows) andThen firstFault (finishFaultBy table (w .finish)) (x .flows)) →
+            v ≡ (mismatchesFault (w .mismatch) (x .flows) andThen firstFault (finishFaultBy table (w .finish)) (x .flows)) →
             late ≡ lateCount (x .deadlines) (w .finish) (x .flows) →
             TableJudged (bookOf book) opened table before after (record { verdict = v; late = late })
         judgement-ends {v} v-is late-is = record {
@@ -130,7 +130,7 @@ module _ {book : List ℕ} {x : Index} (indexed : Indexed book x) (table : List 
           cleared = walked .cleared;
           area = λ p. walked .area rows-pass;
           late = λ p. late-is ∙ ap (lateCount (x .deadlines) (w .finish)) (indexed .flows)
-              ∙ late-same b range (tableRows b table) (w .off) (w .finish) closed (x .deadlines) (indexed .deadlines);
+              ∙ late-same b range (tableRows b table) (w .mismatch) (w .finish) closed (x .deadlines) (indexed .deadlines);
         }
 
 -- tests of the open slots that agree judge alike

@@ -17,7 +17,7 @@ use Rattle.rules.specs.Rows.{Row}
 use Rattle.rules.specs.Check.{noRow, rowBefore, rises}
 use Rattle.rules.proofs.Reading.Caps.{used-in-range}
 use Rattle.rules.proofs.Laws.Division.{lt-or-ge}
-use Rattle.table_check.specs.Tests.{serviceKey, placeOf, places, rowKey, leastKey}
+use Rattle.table_check.specs.Tests.{serviceKey, rankOf, ranks, rowKey, leastKey}
 
 -- ---- pairs
 module _ (m a x c y : ℕ) (h : x < m) (l : y < m) where
@@ -88,14 +88,14 @@ same-flow b g f h l = pair-eq 64 (flowOf b g .deadline) g (flowOf b f .deadline)
 pub service-apart : (b : Book) (g f : ℕ) → g < 64 → f < 64 → (g ≡ f → ⊥) → serviceKey b g ≡ serviceKey b f → ⊥
 service-apart b g f h l n e = n (omega arith)
 
-pub place-below : (r : Row) → KeyFits r → placeOf r < places
-place-below r h = omega (arith, h .slot-fits, h .job-fits)
+pub rank-below : (r : Row) → KeyFits r → rankOf r < ranks
+rank-below r h = omega (arith, h .slot-fits, h .job-fits)
 
 pub before-key : (b : Book) (q r : Row) → KeyFits q → KeyFits r → rowBefore b q r ≡ ltb (rowKey b q) (rowKey b r)
 unfolding rowBefore rowKey
 before-key b q r h l =
     sym (rw (
-      pair-lt places (serviceKey b (q .flow)) (placeOf q) (serviceKey b (r .flow)) (placeOf r) (place-below q h) (place-below r l),
+      pair-lt ranks (serviceKey b (q .flow)) (rankOf q) (serviceKey b (r .flow)) (rankOf r) (rank-below q h) (rank-below r l),
       pair-lt 64 (q .slot) (q .job) (r .slot) (r .job) (h .job-fits) (l .job-fits),
       served b (q .flow) (r .flow) (h .flow-fits) (l .flow-fits),
       same-flow b (q .flow) (r .flow) (h .flow-fits) (l .flow-fits),

@@ -20,19 +20,19 @@ use Rattle.rules.proofs.Laws.Walks.{any-ext}
 use Rattle.rules.proofs.Laws.Faults.{fault-pass}
 use Rattle.rules.proofs.Reading.Passing.{test-passed}
 use Rattle.rules.proofs.Tables.TablePasses.{in-book-of}
-use Rattle.table_check.specs.Tests.{rowKey, leastKey, earlyNumber, lateNumber, lacksAt}
+use Rattle.table_check.specs.Tests.{rowKey, leastKey, standingNumber, amountNumber, lacksAt}
 use Rattle.table_check.specs.Tally.{FlowTally}
 use Rattle.table_check.proofs.Keys.{KeyFits, key-fits, rises-key}
 
 -- ---- the verdict by its tests
-abbrev verdictBy : (out shut falls over crowded early lacks : Bool) → ℕ → ℕ → Verdict
-verdictBy out shut falls over crowded early lacks f j =
+abbrev verdictBy : (out shut falls over crowded unreleased lacks : Bool) → ℕ → ℕ → Verdict
+verdictBy out shut falls over crowded unreleased lacks f j =
     if out then Refused 15 f j
     else if shut then Refused 25 f j
     else if falls then Refused 16 f j
     else if over then Refused 17 f j
     else if crowded then Refused 18 f j
-    else if early || lacks then Refused 19 f j
+    else if unreleased || lacks then Refused 19 f j
     else Pass
 
 -- "row's slot above 8,191, flow or job not in the book, or 0 processors"
@@ -62,7 +62,7 @@ inside-fits : (b : Book) (r : Row) → InRange b → outOfBook b r ≡ false →
 inside-fits b r h e = let i = in-book-of b r e in key-fits b r h (i .0) (i .1) (i .2)
 
 -- what 15, 25 and 16 leave of row k, which is r
-pub record EarlyPassed (b : Book) (opened : ℕ → Bool) (rows : List Row) (k : ℕ) (r : Row) : Type 0 where
+pub record StandingPassed (b : Book) (opened : ℕ → Bool) (rows : List Row) (k : ℕ) (r : Row) : Type 0 where
   pub fits : KeyFits r
   pub inside : outOfBook b r ≡ false
   pub in-open : opened (r .slot) ≡ true
@@ -70,7 +70,7 @@ pub record EarlyPassed (b : Book) (opened : ℕ → Bool) (rows : List Row) (k :
   pub after-least : leastKey b rows k ≤ rowKey b r
 
 -- what 17 and 18 leave of it
-pub record LatePassed (b : Book) (soFar : List Row) (r : Row) : Type 0 where
+pub record AmountPassed (b : Book) (soFar : List Row) (r : Row) : Type 0 where
   pub cap-kept : overCap b r ≡ false
   pub room-kept : overUse b soFar r ≡ false
 
@@ -96,9 +96,9 @@ module _ (b : Book) (opened : ℕ → Bool) (rows : List Row) (k : ℕ) (r : Row
   -- 15, 25 and 16, by a key that tells whether the row rises
   module _ (range : InRange b) (passed : firstFault (rowFault b opened rows) k ≡ Pass) (least key n : ℕ)
       (order : KeyFits r → leb (leastKey b rows k) (rowKey b r) ≡ leb least key) (known : r .flow < flowCount b)
-      (n-is : n ≡ earlyNumber (jobCount (flowOf b (r .flow))) (opened (r .slot)) least key r) where
+      (n-is : n ≡ standingNumber (jobCount (flowOf b (r .flow))) (opened (r .slot)) least key r) where
     n-by-tests : n ≡ (if outOfBook b r then 15 else if not (opened (r .slot)) then 25 else if ltb key least then 16 else 0)
-    unfolding earlyNumber
+    unfolding standingNumber
     n-by-tests = n-is ∙ ap (λ (t : Bool). if t then 15 else if not (opened (r .slot)) then 25 else if ltb key least then 16 else 0) (sym (out-of-known b r known))
 
     rises-by-key : outOfBook b r ≡ false → rises b rows k ≡ leb least key
@@ -111,8 +111,8 @@ module _ (b : Book) (opened : ℕ → Bool) (rows : List Row) (k : ℕ) (r : Row
             earlier : (j : ℕ) → rowFault b opened rows j ≡ Pass → KeyFits (getD rows j noRow)
             earlier j d = passed-fits b opened rows j (getD rows j noRow) refl range d
 
-    pub early-fault : (n ≡ 0 → ⊥) → rowFault b opened rows k ≡ Refused n (r .flow) (r .job)
-    early-fault h = go (outOfBook b r) refl (opened (r .slot)) refl (ltb key least) refl
+    pub standing-fault : (n ≡ 0 → ⊥) → rowFault b opened rows k ≡ Refused n (r .flow) (r .job)
+    standing-fault h = go (outOfBook b r) refl (opened (r .slot)) refl (ltb key least) refl
       where
         go : (t : Bool) → outOfBook b r ≡ t → (o : Bool) → opened (r .slot) ≡ o → (u : Bool) → ltb key least ≡ u →
             rowFault b opened rows k ≡ Refused n (r .flow) (r .job)
@@ -123,10 +123,10 @@ module _ (b : Book) (opened : ℕ → Bool) (rows : List Row) (k : ℕ) (r : Row
             tests ∙ rw (e, s, falls, n-by-tests, e, s, d) refl
         go false e true s false d = absurd (h (n-by-tests ∙ rw (e, s, d) refl))
 
-    pub early-passed : n ≡ 0 → EarlyPassed b opened rows k r
-    early-passed h = go (outOfBook b r) refl (opened (r .slot)) refl (ltb key least) refl
+    pub standing-passed : n ≡ 0 → StandingPassed b opened rows k r
+    standing-passed h = go (outOfBook b r) refl (opened (r .slot)) refl (ltb key least) refl
       where
-        go : (t : Bool) → outOfBook b r ≡ t → (o : Bool) → opened (r .slot) ≡ o → (u : Bool) → ltb key least ≡ u → EarlyPassed b opened rows k r
+        go : (t : Bool) → outOfBook b r ≡ t → (o : Bool) → opened (r .slot) ≡ o → (u : Bool) → ltb key least ≡ u → StandingPassed b opened rows k r
         go true e o s u d = absurd (let z : n ≡ 15 = n-by-tests ∙ rw e refl in omega arith)
         go false e false s u d = absurd (let z : n ≡ 25 = n-by-tests ∙ rw (e, s) refl in omega arith)
         go false e true s true d = absurd (let z : n ≡ 16 = n-by-tests ∙ rw (e, s, d) refl in omega arith)
@@ -141,39 +141,39 @@ module _ (b : Book) (opened : ℕ → Bool) (rows : List Row) (k : ℕ) (r : Row
             }
 
   -- 17 and 18
-  module _ (early : EarlyPassed b opened rows k r) (used cap n : ℕ) (used-is : used ≡ usedIn (take k rows) (r .slot))
-      (cap-is : cap ≡ jobOf (flowOf b (r .flow)) (r .job) .cap) (n-is : n ≡ lateNumber cap used (b .processors) r) where
-    n-by-late : n ≡ (if overCap b r then 17 else if overUse b (take k rows) r then 18 else 0)
-    unfolding lateNumber
-    n-by-late = n-is ∙ rw (used-is, cap-is) refl
+  module _ (standing : StandingPassed b opened rows k r) (used cap n : ℕ) (used-is : used ≡ usedIn (take k rows) (r .slot))
+      (cap-is : cap ≡ jobOf (flowOf b (r .flow)) (r .job) .cap) (n-is : n ≡ amountNumber cap used (b .processors) r) where
+    n-by-amount : n ≡ (if overCap b r then 17 else if overUse b (take k rows) r then 18 else 0)
+    unfolding amountNumber
+    n-by-amount = n-is ∙ rw (used-is, cap-is) refl
 
-    pub late-fault : (n ≡ 0 → ⊥) → rowFault b opened rows k ≡ Refused n (r .flow) (r .job)
-    late-fault h = go (overCap b r) refl (overUse b (take k rows) r) refl
+    pub amount-fault : (n ≡ 0 → ⊥) → rowFault b opened rows k ≡ Refused n (r .flow) (r .job)
+    amount-fault h = go (overCap b r) refl (overUse b (take k rows) r) refl
       where
         go : (t : Bool) → overCap b r ≡ t → (u : Bool) → overUse b (take k rows) r ≡ u → rowFault b opened rows k ≡ Refused n (r .flow) (r .job)
-        go true e u d = tests ∙ rw (early .inside, early .in-open, early .rising, e, n-by-late, e) refl
-        go false e true d = tests ∙ rw (early .inside, early .in-open, early .rising, e, d, n-by-late, e, d) refl
-        go false e false d = absurd (h (n-by-late ∙ rw (e, d) refl))
+        go true e u d = tests ∙ rw (standing .inside, standing .in-open, standing .rising, e, n-by-amount, e) refl
+        go false e true d = tests ∙ rw (standing .inside, standing .in-open, standing .rising, e, d, n-by-amount, e, d) refl
+        go false e false d = absurd (h (n-by-amount ∙ rw (e, d) refl))
 
-    pub late-passed : n ≡ 0 → LatePassed b (take k rows) r
-    late-passed h = go (overCap b r) refl (overUse b (take k rows) r) refl
+    pub amount-passed : n ≡ 0 → AmountPassed b (take k rows) r
+    amount-passed h = go (overCap b r) refl (overUse b (take k rows) r) refl
       where
-        go : (t : Bool) → overCap b r ≡ t → (u : Bool) → overUse b (take k rows) r ≡ u → LatePassed b (take k rows) r
-        go true e u d = absurd (let z : n ≡ 17 = n-by-late ∙ rw e refl in omega arith)
-        go false e true d = absurd (let z : n ≡ 18 = n-by-late ∙ rw (e, d) refl in omega arith)
+        go : (t : Bool) → overCap b r ≡ t → (u : Bool) → overUse b (take k rows) r ≡ u → AmountPassed b (take k rows) r
+        go true e u d = absurd (let z : n ≡ 17 = n-by-amount ∙ rw e refl in omega arith)
+        go false e true d = absurd (let z : n ≡ 18 = n-by-amount ∙ rw (e, d) refl in omega arith)
         go false e false d = record { cap-kept = e; room-kept = d }
 
   -- 19 by the release, then by the predecessors
-  module _ (early : EarlyPassed b opened rows k r) (late : LatePassed b (take k rows) r) where
+  module _ (standing : StandingPassed b opened rows k r) (amount : AmountPassed b (take k rows) r) where
     pub release-fault : beforeRelease b r ≡ true → rowFault b opened rows k ≡ Refused 19 (r .flow) (r .job)
-    release-fault e = tests ∙ rw (early .inside, early .in-open, early .rising, late .cap-kept, late .room-kept, e) refl
+    release-fault e = tests ∙ rw (standing .inside, standing .in-open, standing .rising, amount .cap-kept, amount .room-kept, e) refl
 
     module _ (released : beforeRelease b r ≡ false) where
       pub lacks-fault : lacksPredecessor b (take k rows) r ≡ true → rowFault b opened rows k ≡ Refused 19 (r .flow) (r .job)
-      lacks-fault e = tests ∙ rw (early .inside, early .in-open, early .rising, late .cap-kept, late .room-kept, released, e) refl
+      lacks-fault e = tests ∙ rw (standing .inside, standing .in-open, standing .rising, amount .cap-kept, amount .room-kept, released, e) refl
 
       pub row-passes : lacksPredecessor b (take k rows) r ≡ false → rowFault b opened rows k ≡ Pass
-      row-passes e = tests ∙ rw (early .inside, early .in-open, early .rising, late .cap-kept, late .room-kept, released, e) refl
+      row-passes e = tests ∙ rw (standing .inside, standing .in-open, standing .rising, amount .cap-kept, amount .room-kept, released, e) refl
 
 -- 19 as the walk tests it: by the slots from which jobs are complete
 pub lacks-by-ready : (b : Book) (f : ℕ) (soFar : List Row) (totals ready : List ℕ) (r : Row) → FlowTally b f soFar totals ready → r .flow ≡ f →

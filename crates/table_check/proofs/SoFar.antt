@@ -21,7 +21,7 @@ use Rattle.rules.proofs.Rows.RowsSoFar.{total-last, done-last, finish-last}
 use Rattle.rules.proofs.Rows.RowSums.{done-le-total}
 use Rattle.rules.proofs.Tables.TablePasses.{RowPasses, row-passes}
 use Rattle.rules.proofs.Tables.AcceptedRows.{use-kept}
-use Rattle.table_check.specs.Tests.{serviceKey, places, rowKey, leastKey}
+use Rattle.table_check.specs.Tests.{serviceKey, ranks, rowKey, leastKey}
 use Rattle.table_check.proofs.Keys.{KeyFits, key-fits, rises-key, key-slots, key-slots-less}
 
 -- ---- one row more, of any rows
@@ -42,7 +42,7 @@ pub record SoFar (b : Book) (rows : List Row) (k : ℕ) : Type 0 where
   pub earlier : (r : Row) → KeyFits r → leastKey b rows k ≤ rowKey b r →
       doneBefore (take k rows) (r .flow) (r .job) (r .slot) ≡ totalOf (take k rows) (r .flow) (r .job)
   -- a flow whose rows may all come next has none yet
-  pub fresh : (f : ℕ) → leastKey b rows k ≤ serviceKey b f * places → finishOf (take k rows) f ≡ 0
+  pub fresh : (f : ℕ) → leastKey b rows k ≤ serviceKey b f * ranks → finishOf (take k rows) f ≡ 0
 
 module _ (b : Book) (opened : ℕ → Bool) (range : InRange b) (rows : List Row) where
   fits : (k : ℕ) → RowPasses b opened rows k → KeyFits (getD rows k noRow)
@@ -114,11 +114,11 @@ module _ (b : Book) (opened : ℕ → Bool) (range : InRange b) (rows : List Row
         go false e =
             rw (finish-there (take k rows) r (q .flow) (eqb-false (r .flow) (q .flow) e)) (was .rising q fit (omega arith))
 
-    fresh-next : (f : ℕ) → suc (rowKey b r) ≤ serviceKey b f * places → finishOf (take (suc k) rows) f ≡ 0
+    fresh-next : (f : ℕ) → suc (rowKey b r) ≤ serviceKey b f * ranks → finishOf (take (suc k) rows) f ≡ 0
     unfolding rowKey
     fresh-next f l =
         rw one
-        (finish-there (take k rows) r f (λ e. omega (arith, ap (λ g. serviceKey b g * places) e)) ∙ was .fresh f (omega arith))
+        (finish-there (take k rows) r f (λ e. omega (arith, ap (λ g. serviceKey b g * ranks) e)) ∙ was .fresh f (omega arith))
 
   pub so-far : (k : ℕ) → k ≤ length rows → firstFault (rowFault b opened rows) k ≡ Pass → SoFar b rows k
   unfolding firstFault leastKey usedIn totalOf doneBefore finishOf sumWhere

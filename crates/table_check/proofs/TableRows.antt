@@ -1,4 +1,4 @@
--- The rows of a table that passes 14, by their place in its bytes. Assumes nothing.
+-- The rows of a table that passes 14, by their offset in its bytes. Assumes nothing.
 use mathlib.Core.Path.{_≡_, sym, ap, _∙_}
 use Prim.Native.Nat.{ℕ, _+_, _*_, _-_, _/_, _≤_, _<_}
 use mathlib.Core.Bool.{Bool}

@@ -12,7 +12,7 @@ use Rattle.rules.specs.Limits.{slots}
 use Rattle.rules.specs.Fields.{field}
 use Rattle.rules.specs.Book.{Book, jobCount, flowOf, jobOf}
 use Rattle.rules.specs.Rows.{Row}
-use Rattle.table_check.specs.Tests.{placeOf, places, earlyNumber, lateNumber, firstNumber, testNumber, askedRelease, asked}
+use Rattle.table_check.specs.Tests.{rankOf, ranks, standingNumber, amountNumber, firstNumber, testNumber, askedRelease, asked}
 use Rattle.table_check.specs.Tally.{JobsHeld, RowTested, AskedAt}
 
 pub first-stands : (m n : ℕ) → (m ≡ 0 → ⊥) → firstNumber m n ≡ m
@@ -33,45 +33,45 @@ first-none m n e = go (eqb m 0) refl
     go false d = absurd (eqb-false m 0 d (rw d at e))
 
 -- 15 by the job, and by the slot
-pub early-by-job : (jobs : ℕ) (opened : Bool) (least key : ℕ) (r : Row) → jobs ≤ r .job → 15 ≡ earlyNumber jobs opened least key r
-unfolding earlyNumber
-early-by-job jobs opened least key r h = rw (le-leb jobs (r .job) h, or-true (leb slots (r .slot))) refl
+pub standing-by-job : (jobs : ℕ) (opened : Bool) (least key : ℕ) (r : Row) → jobs ≤ r .job → 15 ≡ standingNumber jobs opened least key r
+unfolding standingNumber
+standing-by-job jobs opened least key r h = rw (le-leb jobs (r .job) h, or-true (leb slots (r .slot))) refl
 
-pub early-by-slot : (jobs : ℕ) (opened : Bool) (least key : ℕ) (r : Row) → slots ≤ r .slot → 15 ≡ earlyNumber jobs opened least key r
-unfolding earlyNumber
-early-by-slot jobs opened least key r h = rw (le-leb slots (r .slot) h) refl
+pub standing-by-slot : (jobs : ℕ) (opened : Bool) (least key : ℕ) (r : Row) → slots ≤ r .slot → 15 ≡ standingNumber jobs opened least key r
+unfolding standingNumber
+standing-by-slot jobs opened least key r h = rw (le-leb slots (r .slot) h) refl
 
--- the place of a row whose job is in range tells whether its slot is
-pub place-outside : (r : Row) {jobs place : ℕ} → jobs ≤ 64 → r .job < jobs → place ≡ placeOf r → places ≤ place → slots ≤ r .slot
-place-outside r few job-in place-is past = omega arith
+-- the rank of a row whose job is in range tells whether its slot is
+pub rank-outside : (r : Row) {jobs rank : ℕ} → jobs ≤ 64 → r .job < jobs → rank ≡ rankOf r → ranks ≤ rank → slots ≤ r .slot
+rank-outside r few job-in rank-is past = omega arith
 
-pub place-inside : (r : Row) {place : ℕ} → place ≡ placeOf r → place < places → r .slot < slots
-place-inside r place-is below = omega arith
+pub rank-inside : (r : Row) {rank : ℕ} → rank ≡ rankOf r → rank < ranks → r .slot < slots
+rank-inside r rank-is below = omega arith
 
 -- past these, 15 by the processors, then 25, then 16
 module _ (jobs : ℕ) (opened : Bool) (least key : ℕ) (r : Row) (slot-in : r .slot < slots) (job-in : r .job < jobs) where
-  pub early-by-processors : r .processors ≡ 0 → 15 ≡ earlyNumber jobs opened least key r
-  unfolding earlyNumber
-  early-by-processors e = rw (lt-leb slots (r .slot) slot-in, lt-leb jobs (r .job) job-in, eq-eqb (r .processors) 0 e) refl
+  pub standing-by-processors : r .processors ≡ 0 → 15 ≡ standingNumber jobs opened least key r
+  unfolding standingNumber
+  standing-by-processors e = rw (lt-leb slots (r .slot) slot-in, lt-leb jobs (r .job) job-in, eq-eqb (r .processors) 0 e) refl
 
   module _ (takes : r .processors ≡ 0 → ⊥) where
-    past-place : earlyNumber jobs opened least key r ≡ (if not opened then 25 else if ltb key least then 16 else 0)
-    unfolding earlyNumber
-    past-place = rw (lt-leb slots (r .slot) slot-in, lt-leb jobs (r .job) job-in, ne-eqb (r .processors) 0 takes) refl
+    past-range : standingNumber jobs opened least key r ≡ (if not opened then 25 else if ltb key least then 16 else 0)
+    unfolding standingNumber
+    past-range = rw (lt-leb slots (r .slot) slot-in, lt-leb jobs (r .job) job-in, ne-eqb (r .processors) 0 takes) refl
 
-    pub early-by-shut : opened ≡ false → 25 ≡ earlyNumber jobs opened least key r
-    early-by-shut e = sym (past-place ∙ rw e refl)
+    pub standing-by-shut : opened ≡ false → 25 ≡ standingNumber jobs opened least key r
+    standing-by-shut e = sym (past-range ∙ rw e refl)
 
-    pub early-by-order : opened ≡ true → key < least → 16 ≡ earlyNumber jobs opened least key r
-    early-by-order e h = sym (past-place ∙ rw (e, lt-ltb key least h) refl)
+    pub standing-by-order : opened ≡ true → key < least → 16 ≡ standingNumber jobs opened least key r
+    standing-by-order e h = sym (past-range ∙ rw (e, lt-ltb key least h) refl)
 
-    pub early-by-none : opened ≡ true → least ≤ key → 0 ≡ earlyNumber jobs opened least key r
-    early-by-none e h = sym (past-place ∙ rw (e, le-ltb key least h) refl)
+    pub standing-by-none : opened ≡ true → least ≤ key → 0 ≡ standingNumber jobs opened least key r
+    standing-by-none e h = sym (past-range ∙ rw (e, le-ltb key least h) refl)
 
 -- a row that passes these stands in a slot and is one of the flow's jobs
-pub early-inside : (jobs : ℕ) (opened : Bool) (least key : ℕ) (r : Row) → earlyNumber jobs opened least key r ≡ 0 → (r .slot < slots) × (r .job < jobs)
-unfolding earlyNumber
-early-inside jobs opened least key r e = go (leb slots (r .slot)) refl (leb jobs (r .job)) refl
+pub standing-inside : (jobs : ℕ) (opened : Bool) (least key : ℕ) (r : Row) → standingNumber jobs opened least key r ≡ 0 → (r .slot < slots) × (r .job < jobs)
+unfolding standingNumber
+standing-inside jobs opened least key r e = go (leb slots (r .slot)) refl (leb jobs (r .job)) refl
   where
     go : (s : Bool) → leb slots (r .slot) ≡ s → (j : Bool) → leb jobs (r .job) ≡ j → (r .slot < slots) × (r .job < jobs)
     go true d j k = absurd (let z : _≡_ {A = ℕ} 15 0 = rw d at e in omega arith)
@@ -79,35 +79,35 @@ early-inside jobs opened least key r e = go (leb slots (r .slot)) refl (leb jobs
     go false d false k = (leb-false slots (r .slot) d, leb-false jobs (r .job) k)
 
 -- ---- what the tests of a row of flow f find
-module _ (b : Book) (opened : ℕ → Bool) (f least jobs key early : ℕ) (r : Row) (jobs-are : jobs ≡ jobCount (flowOf b f)) (key-is : key ≡ placeOf r)
-    (early-is : early ≡ earlyNumber jobs (opened (r .slot)) least key r) where
-  early-right : early ≡ earlyNumber (jobCount (flowOf b f)) (opened (r .slot)) least (placeOf r) r
-  early-right = rw (← jobs-are, ← key-is) early-is
+module _ (b : Book) (opened : ℕ → Bool) (f least jobs key standing : ℕ) (r : Row) (jobs-are : jobs ≡ jobCount (flowOf b f)) (key-is : key ≡ rankOf r)
+    (standing-is : standing ≡ standingNumber jobs (opened (r .slot)) least key r) where
+  standing-right : standing ≡ standingNumber (jobCount (flowOf b f)) (opened (r .slot)) least (rankOf r) r
+  standing-right = rw (← jobs-are, ← key-is) standing-is
 
   -- 15, 25 or 16
-  pub tested-early : (work : List ℕ) → (early ≡ 0 → ⊥) → RowTested b opened f work least r (record { number = early; used = 0; size = 0 })
+  pub tested-standing : (work : List ℕ) → (standing ≡ 0 → ⊥) → RowTested b opened f work least r (record { number = standing; used = 0; size = 0 })
   unfolding testNumber
-  tested-early work n = record {
-    number = early-right ∙ sym (first-stands _ _ (λ e. n (early-right ∙ e)));
+  tested-standing work n = record {
+    number = standing-right ∙ sym (first-stands _ _ (λ e. n (standing-right ∙ e)));
     used = λ e. absurd (n e);
     size = λ e. absurd (n e);
   }
 
-  module _ (none : early ≡ 0) where
+  module _ (none : standing ≡ 0) where
     pub tested-inside : (r .slot < slots) × (r .job < jobCount (flowOf b f))
-    tested-inside = early-inside (jobCount (flowOf b f)) (opened (r .slot)) least (placeOf r) r (sym early-right ∙ none)
+    tested-inside = standing-inside (jobCount (flowOf b f)) (opened (r .slot)) least (rankOf r) r (sym standing-right ∙ none)
 
     -- 17 and 18
-    pub tested-late : (work sizes caps : List ℕ) (used late processors i at : ℕ) → JobsHeld b f jobs sizes caps → processors ≡ b .processors → i ≡ r .job →
-        at ≡ r .slot → used ≡ field 2 work (2 * at) → late ≡ lateNumber (getD caps i 0) used processors r →
-        RowTested b opened f work least r (record { number = late; used = used; size = getD sizes i 0 })
+    pub tested-amount : (work sizes caps : List ℕ) (used amount processors i at : ℕ) → JobsHeld b f jobs sizes caps → processors ≡ b .processors → i ≡ r .job →
+        at ≡ r .slot → used ≡ field 2 work (2 * at) → amount ≡ amountNumber (getD caps i 0) used processors r →
+        RowTested b opened f work least r (record { number = amount; used = used; size = getD sizes i 0 })
     unfolding testNumber
-    tested-late work sizes caps used late processors i at held p-is i-is at-is used-is late-is =
+    tested-amount work sizes caps used amount processors i at held p-is i-is at-is used-is amount-is =
         let used-right : used ≡ field 2 work (2 * r .slot) = rw at-is at used-is in
         let inside : r .job < jobs = rw jobs-are (tested-inside .1) in
         record {
-          number = late-is ∙ rw (i-is, held .cap-of (r .job) inside, p-is, used-right)
-              (sym (first-passes (earlyNumber (jobCount (flowOf b f)) (opened (r .slot)) least (placeOf r) r) _ (sym early-right ∙ none)));
+          number = amount-is ∙ rw (i-is, held .cap-of (r .job) inside, p-is, used-right)
+              (sym (first-passes (standingNumber (jobCount (flowOf b f)) (opened (r .slot)) least (rankOf r) r) _ (sym standing-right ∙ none)));
           used = λ e. used-right;
           size = λ e. rw i-is (held .size-of (r .job) inside);
         }

@@ -23,7 +23,7 @@ use Rattle.rules.proofs.Rows.WorkArea.{used-pair}
 use Rattle.table_check.specs.declared.row.Row.{Row}
 use Rattle.table_check.specs.declared.row.Current.{Current}
 use Rattle.table_check.specs.declared.row.Tested.{Tested}
-use Rattle.table_check.specs.Tests.{rowFrom, serviceKey, placeOf, places, rowKey, leastKey, earlyNumber, lateNumber, testNumber}
+use Rattle.table_check.specs.Tests.{rowFrom, serviceKey, rankOf, ranks, rowKey, leastKey, standingNumber, amountNumber, testNumber}
 use Rattle.table_check.specs.Tally.{CurrentFlow, JobsHeld, RowTested, rowsTo, Reached, FlowTally}
 use Rattle.table_check.specs.Walk.{FlowBegins}
 use Rattle.table_check.proofs.TestNumbers.{first-stands, first-passes, first-none}
@@ -31,7 +31,7 @@ use Rattle.table_check.proofs.TableRows.{more-rows, row-read}
 use Rattle.table_check.proofs.Keys.{KeyFits}
 use Rattle.table_check.proofs.SoFar.{SoFar, so-far}
 use Rattle.table_check.proofs.Tallies.{tally-none}
-use Rattle.table_check.proofs.RowFaults.{EarlyPassed, LatePassed, early-fault, early-passed, late-fault, late-passed}
+use Rattle.table_check.proofs.RowFaults.{StandingPassed, AmountPassed, standing-fault, standing-passed, amount-fault, amount-passed}
 
 -- what holds as a turn begins, after k rows; the walk over the rows of the flow began at `from`
 pub record Going (book : List ℕ) (opened : ℕ → Bool) (table sizes caps : List ℕ) (c : Current) (from : ℕ) (totals ready work : List ℕ) (bad : Verdict)
@@ -47,15 +47,15 @@ pub record Going (book : List ℕ) (opened : ℕ → Bool) (table sizes caps : L
   pub since : rowsTo (bookOf book) from ≤ k
   pub reached : Reached (bookOf book) opened table k at work
   pub tally : FlowTally (bookOf book) (c .flow) (take k (tableRows (bookOf book) table)) totals ready
-  -- places compare as keys do
-  pub order : (p : ℕ) → leb (leastKey (bookOf book) (tableRows (bookOf book) table) k) (serviceKey (bookOf book) (c .flow) * places + p) ≡ leb least p
+  -- ranks compare as keys do
+  pub order : (p : ℕ) → leb (leastKey (bookOf book) (tableRows (bookOf book) table) k) (serviceKey (bookOf book) (c .flow) * ranks + p) ≡ leb least p
   pub others-total : (g i : ℕ) → (g ≡ c .flow → ⊥) →
       totalOf (take k (tableRows (bookOf book) table)) g i ≡ totalOf (take (rowsTo (bookOf book) from) (tableRows (bookOf book) table)) g i
   pub others-finish : (g : ℕ) → (g ≡ c .flow → ⊥) →
       finishOf (take k (tableRows (bookOf book) table)) g ≡ finishOf (take (rowsTo (bookOf book) from) (tableRows (bookOf book) table)) g
   pub finish-of : finish ≡ finishOf (take k (tableRows (bookOf book) table)) (c .flow)
-  pub last-low : rowsTo (bookOf book) from < k → serviceKey (bookOf book) (c .flow) * places < leastKey (bookOf book) (tableRows (bookOf book) table) k
-  pub last-high : leastKey (bookOf book) (tableRows (bookOf book) table) k ≤ serviceKey (bookOf book) (c .flow) * places + places
+  pub last-low : rowsTo (bookOf book) from < k → serviceKey (bookOf book) (c .flow) * ranks < leastKey (bookOf book) (tableRows (bookOf book) table) k
+  pub last-high : leastKey (bookOf book) (tableRows (bookOf book) table) k ≤ serviceKey (bookOf book) (c .flow) * ranks + ranks
 
 -- what the walk has made of what it was lent: lengths are kept, and of the work area what lies past the slots
 pub record Lent (totals₀ ready₀ work₀ totals ready work : List ℕ) : Type 0 where
@@ -72,8 +72,8 @@ pub record Turn (b : Book) (opened : ℕ → Bool) (table : List ℕ) (f k : ℕ
   pub more : k < length (tableRows b table)
   pub row-is : getD (tableRows b table) k noRow ≡ r
   pub own : r .flow ≡ f
-  pub early : EarlyPassed b opened (tableRows b table) k r
-  pub late : LatePassed b (take k (tableRows b table)) r
+  pub standing : StandingPassed b opened (tableRows b table) k r
+  pub amount : AmountPassed b (take k (tableRows b table)) r
   pub used-is : t .used ≡ usedIn (take k (tableRows b table)) (r .slot)
   pub size-is : t .size ≡ jobOf (flowOf b f) (r .job) .size
 
@@ -100,7 +100,7 @@ going-first {book} {opened} {table} {c = c} {from = from} begins held fits t-is 
       reached = begins .reached;
       tally = rw (t-is, r-is) (tally-none (bookOf book) (c .flow) (take k (tableRows (bookOf book) table)) range (begins .current .stands .flow-in) none);
       order = λ p.
-          le-leb (leastKey (bookOf book) (tableRows (bookOf book) table) k) (serviceKey (bookOf book) (c .flow) * places + p) (omega (arith, begins .ahead))
+          le-leb (leastKey (bookOf book) (tableRows (bookOf book) table) k) (serviceKey (bookOf book) (c .flow) * ranks + p) (omega (arith, begins .ahead))
           ∙ sym (le-leb 0 p (omega arith));
       others-total = λ g i n. refl;
       others-finish = λ g n. refl;
@@ -132,33 +132,33 @@ module _ {book : List ℕ} {opened : ℕ → Bool} {table sizes caps : List ℕ}
       flow-in : r .flow < flowCount (bookOf book)
       flow-in = omega (arith, own, going .current .stands .flow-in)
 
-      by-place : KeyFits (rowFrom r) → leb (leastKey (bookOf book) (tableRows (bookOf book) table) k) (rowKey (bookOf book) (rowFrom r)) ≡ leb least (placeOf (rowFrom r))
+      by-rank : KeyFits (rowFrom r) → leb (leastKey (bookOf book) (tableRows (bookOf book) table) k) (rowKey (bookOf book) (rowFrom r)) ≡ leb least (rankOf (rowFrom r))
       unfolding rowKey
-      by-place fit = rw own (going .order (placeOf (rowFrom r)))
+      by-rank fit = rw own (going .order (rankOf (rowFrom r)))
 
       abbrev first : ℕ
-      first = earlyNumber (jobCount (flowOf (bookOf book) (c .flow))) (opened (r .slot)) least (placeOf (rowFrom r)) (rowFrom r)
+      first = standingNumber (jobCount (flowOf (bookOf book) (c .flow))) (opened (r .slot)) least (rankOf (rowFrom r)) (rowFrom r)
 
       abbrev second : ℕ
-      second = lateNumber (jobOf (flowOf (bookOf book) (c .flow)) (r .job) .cap) (field 2 work (2 * r .slot)) (bookOf book .processors) (rowFrom r)
+      second = amountNumber (jobOf (flowOf (bookOf book) (c .flow)) (r .job) .cap) (field 2 work (2 * r .slot)) (bookOf book .processors) (rowFrom r)
 
-      first-right : earlyNumber (jobCount (flowOf (bookOf book) (c .flow))) (opened (r .slot)) least (placeOf (rowFrom r)) (rowFrom r)
-          ≡ earlyNumber (jobCount (flowOf (bookOf book) (r .flow))) (opened (r .slot)) least (placeOf (rowFrom r)) (rowFrom r)
+      first-right : standingNumber (jobCount (flowOf (bookOf book) (c .flow))) (opened (r .slot)) least (rankOf (rowFrom r)) (rowFrom r)
+          ≡ standingNumber (jobCount (flowOf (bookOf book) (r .flow))) (opened (r .slot)) least (rankOf (rowFrom r)) (rowFrom r)
       first-right = rw own refl
 
       number-is : t .number ≡ testNumber (bookOf book) opened (c .flow) (field 2 work (2 * r .slot)) least (rowFrom r)
       number-is = tested .number
 
       -- 15, 25 and 16 have passed
-      module _ (none : earlyNumber (jobCount (flowOf (bookOf book) (c .flow))) (opened (r .slot)) least (placeOf (rowFrom r)) (rowFrom r) ≡ 0) where
-        early-row : EarlyPassed (bookOf book) opened (tableRows (bookOf book) table) k (rowFrom r)
-        early-row =
-            early-passed b opened rows k (rowFrom r) row-here range (going .reached .passed) least (placeOf (rowFrom r)) first by-place flow-in first-right none
+      module _ (none : standingNumber (jobCount (flowOf (bookOf book) (c .flow))) (opened (r .slot)) least (rankOf (rowFrom r)) (rowFrom r) ≡ 0) where
+        standing-row : StandingPassed (bookOf book) opened (tableRows (bookOf book) table) k (rowFrom r)
+        standing-row =
+            standing-passed b opened rows k (rowFrom r) row-here range (going .reached .passed) least (rankOf (rowFrom r)) first by-rank flow-in first-right none
 
         used-right : field 2 work (2 * r .slot) ≡ usedIn (take k (tableRows (bookOf book) table)) (r .slot)
         used-right =
             rw (going .reached .use-of)
-            (used-pair slots (take k rows) work (r .slot) (early-row .fits .slot-fits) (omega (arith, known .used (r .slot), range .processors-most)))
+            (used-pair slots (take k rows) work (r .slot) (standing-row .fits .slot-fits) (omega (arith, known .used (r .slot), range .processors-most)))
 
         cap-right : jobOf (flowOf (bookOf book) (c .flow)) (r .job) .cap ≡ jobOf (flowOf (bookOf book) (r .flow)) (r .job) .cap
         cap-right = rw own refl
@@ -170,10 +170,10 @@ module _ {book : List ℕ} {opened : ℕ → Bool} {table sizes caps : List ℕ}
           go : (u : Bool) → eqb first 0 ≡ u → rowFault (bookOf book) opened (tableRows (bookOf book) table) k ≡ Refused (t .number) (r .flow) (r .job)
           go true e =
               let none : first ≡ 0 = eqb-true first 0 e in
-              late-fault b opened rows k (rowFrom r) row-here (early-row none) (field 2 work (2 * r .slot)) (jobOf (flowOf (bookOf book) (c .flow)) (r .job) .cap)
+              amount-fault b opened rows k (rowFrom r) row-here (standing-row none) (field 2 work (2 * r .slot)) (jobOf (flowOf (bookOf book) (c .flow)) (r .job) .cap)
               (t .number) (used-right none) (cap-right none) (number-is ∙ first-passes first second none) n
           go false e =
-              early-fault b opened rows k (rowFrom r) row-here range (going .reached .passed) least (placeOf (rowFrom r)) (t .number) by-place flow-in
+              standing-fault b opened rows k (rowFrom r) row-here range (going .reached .passed) least (rankOf (rowFrom r)) (t .number) by-rank flow-in
               (number-is ∙ first-stands first second (eqb-false first 0 e) ∙ first-right) n
 
       pub turn-of : t .number ≡ 0 → Turn (bookOf book) opened table (c .flow) k (rowFrom r) t
@@ -184,8 +184,8 @@ module _ {book : List ℕ} {opened : ℕ → Bool} {table sizes caps : List ℕ}
             more = more-rows (going .headed) (going .reached) here;
             row-is = row-here;
             own = own;
-            early = early-row (both .0);
-            late = late-passed b opened rows k (rowFrom r) row-here (early-row (both .0)) (field 2 work (2 * r .slot))
+            standing = standing-row (both .0);
+            amount = amount-passed b opened rows k (rowFrom r) row-here (standing-row (both .0)) (field 2 work (2 * r .slot))
                 (jobOf (flowOf (bookOf book) (c .flow)) (r .job) .cap) second (used-right (both .0)) (cap-right (both .0)) refl (both .1);
             used-is = tested .used e ∙ used-right (both .0);
             size-is = tested .size e;

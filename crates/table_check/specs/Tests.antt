@@ -25,17 +25,17 @@ rowFrom r = record { slot = r .slot; flow = r .flow; job = r .job; processors = 
 abbrev pub serviceKey : Book → ℕ → ℕ
 serviceKey b f = flowOf b f .deadline * 64 + f
 
--- the rows of a flow stand in their order by this number: slot, then job
-abbrev pub placeOf : rules.Row → ℕ
-placeOf r = r .slot * 64 + r .job
+-- the rank of a row, by which the rows of a flow stand in their order: slot, then job
+abbrev pub rankOf : rules.Row → ℕ
+rankOf r = r .slot * 64 + r .job
 
 -- 8,192 slots of 64 jobs each
-abbrev pub places : ℕ
-places = 524288
+abbrev pub ranks : ℕ
+ranks = 524288
 
 -- rows in range stand in their order by this number
 unfoldable pub rowKey : Book → rules.Row → ℕ
-rowKey b r = serviceKey b (r .flow) * places + placeOf r
+rowKey b r = serviceKey b (r .flow) * ranks + rankOf r
 
 -- the least key that row k may have: one more than the key of the row before it
 unfoldable pub leastKey : Book → List rules.Row → ℕ → ℕ
@@ -55,15 +55,15 @@ headFault processors flows s =
 
 -- ---- a row, by numbers; 0 where it passes
 -- 15, 25 and 16 of a row whose flow is in the book, by the flow's count of jobs, whether the row's slot is open, a key of the row and the least one
-unfoldable pub earlyNumber : ℕ → Bool → ℕ → ℕ → rules.Row → ℕ
-earlyNumber jobs opened least key r =
+unfoldable pub standingNumber : ℕ → Bool → ℕ → ℕ → rules.Row → ℕ
+standingNumber jobs opened least key r =
     if leb slots (r .slot) || leb jobs (r .job) || eqb (r .processors) 0 then 15
     else if not opened then 25
     else if ltb key least then 16 else 0
 
 -- 17 and 18, by the job's cap, the processors in use in the slot, and P
-unfoldable pub lateNumber : ℕ → ℕ → ℕ → rules.Row → ℕ
-lateNumber cap used processors r =
+unfoldable pub amountNumber : ℕ → ℕ → ℕ → rules.Row → ℕ
+amountNumber cap used processors r =
     if ltb cap (r .processors) then 17
     else if ltb processors (used + r .processors) then 18 else 0
 
@@ -71,11 +71,11 @@ lateNumber cap used processors r =
 unfoldable pub firstNumber : ℕ → ℕ → ℕ
 firstNumber m n = if eqb m 0 then n else m
 
--- 15 to 18 and 25 of a row of flow f, by a test of the open slots, the processors in use in the row's slot, and the least place that it may have
+-- 15 to 18 and 25 of a row of flow f, by a test of the open slots, the processors in use in the row's slot, and the least rank that it may have
 unfoldable pub testNumber : Book → (ℕ → Bool) → ℕ → ℕ → ℕ → rules.Row → ℕ
 testNumber b opened f used least r =
-    firstNumber (earlyNumber (jobCount (flowOf b f)) (opened (r .slot)) least (placeOf r) r)
-    (lateNumber (jobOf (flowOf b f) (r .job) .cap) used (b .processors) r)
+    firstNumber (standingNumber (jobCount (flowOf b f)) (opened (r .slot)) least (rankOf r) r)
+    (amountNumber (jobOf (flowOf b f) (r .job) .cap) used (b .processors) r)
 
 -- 19 at one job k: it is a predecessor, and it is complete only from a later slot on
 unfoldable pub lacksAt : ℕ → ℕ → ℕ → ℕ → Bool
@@ -94,6 +94,6 @@ asked total predecessors = if ltb 0 total then 0 else predecessors
 unfoldable pub readyAfter : ℕ → ℕ → ℕ → ℕ → ℕ → ℕ
 readyAfter ready before after size slot = if ltb after size then ready else if leb size before then ready else slot + 1
 
--- ---- 20 of a flow by one number: the first job whose total is off, 64 where there is none
-unfoldable pub offFault : ℕ → ℕ → Verdict
-offFault f i = if ltb i 64 then Refused 20 f i else Pass
+-- ---- 20 of a flow by one number: the first job whose total differs from its size, 64 where there is none
+unfoldable pub mismatchFault : ℕ → ℕ → Verdict
+mismatchFault f i = if ltb i 64 then Refused 20 f i else Pass

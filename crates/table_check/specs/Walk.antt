@@ -1,5 +1,5 @@
 -- What the walk over a table's rows asks and hands back, flow by flow: the first fault of the rows, and where there is none of each flow the
--- first job that is off and the finish, and the work area. A test `opened` tells which slots are open. Assumes nothing.
+-- first job whose total differs from its size and the finish, and the work area. A test `opened` tells which slots are open. Assumes nothing.
 use mathlib.Core.Path.{_≡_}
 use Prim.Native.Nat.{ℕ, _+_, _*_, _≤_, _<_}
 use mathlib.Core.Bool.{Bool}
@@ -24,7 +24,7 @@ use Rattle.table_check.specs.declared.walk.Stop.{Stop}
 use Rattle.table_check.specs.declared.walk.FlowStop.{FlowStop}
 use Rattle.table_check.specs.declared.walk.Walked.{Walked}
 use Rattle.table_check.specs.declared.Judged.{Judged}
-use Rattle.table_check.specs.Tests.{serviceKey, places, leastKey, offFault}
+use Rattle.table_check.specs.Tests.{serviceKey, ranks, leastKey, mismatchFault}
 use Rattle.table_check.specs.Tally.{CurrentFlow, rowsTo, Reached}
 
 -- 15 to 19 and 25, the first fault of all rows
@@ -44,7 +44,7 @@ pub record FlowBegins (book : List ℕ) (opened : ℕ → Bool) (table work : Li
   pub reached : Reached (bookOf book) opened table (rowsTo (bookOf book) at) at work
   pub more : rowsTo (bookOf book) at < length (tableRows (bookOf book) table)
   pub own : getD (tableRows (bookOf book) table) (rowsTo (bookOf book) at) noRow .flow ≡ c .flow
-  pub ahead : leastKey (bookOf book) (tableRows (bookOf book) table) (rowsTo (bookOf book) at) ≤ serviceKey (bookOf book) (c .flow) * places
+  pub ahead : leastKey (bookOf book) (tableRows (bookOf book) table) (rowsTo (bookOf book) at) ≤ serviceKey (bookOf book) (c .flow) * ranks
 
 -- the walk went on from row k to row m, over rows of flow f alone, and the next row is another flow's
 pub record WentOn (b : Book) (opened : ℕ → Bool) (table : List ℕ) (f k m at : ℕ) (work : List ℕ) (finish : ℕ) : Type 0 where
@@ -53,8 +53,8 @@ pub record WentOn (b : Book) (opened : ℕ → Bool) (table : List ℕ) (f k m a
   pub others-total : (g i : ℕ) → (g ≡ f → ⊥) → totalOf (take m (tableRows b table)) g i ≡ totalOf (take k (tableRows b table)) g i
   pub others-finish : (g : ℕ) → (g ≡ f → ⊥) → finishOf (take m (tableRows b table)) g ≡ finishOf (take k (tableRows b table)) g
   pub finish-of : finish ≡ finishOf (take m (tableRows b table)) f
-  pub last-low : serviceKey b f * places < leastKey b (tableRows b table) m
-  pub last-high : leastKey b (tableRows b table) m ≤ serviceKey b f * places + places
+  pub last-low : serviceKey b f * ranks < leastKey b (tableRows b table) m
+  pub last-high : leastKey b (tableRows b table) m ≤ serviceKey b f * ranks + ranks
   pub another : m < length (tableRows b table) → getD (tableRows b table) m noRow .flow ≡ f → ⊥
 
 -- the walk over the rows of flow f from `at` on, over a work area that was `before` and is `after`
@@ -74,7 +74,7 @@ pub record FlowWalked (b : Book) (opened : ℕ → Bool) (table : List ℕ) (f a
   pub cleared : workZero slots after ≡ workZero slots before
   pub stopped : (w .verdict ≡ Pass → ⊥) → w .verdict ≡ rowsFault b opened table
   pub went : w .verdict ≡ Pass → WentOn b opened table f (rowsTo b at) (rowsTo b (w .next)) (w .next) after (w .finish)
-  pub off : w .verdict ≡ Pass → offFault f (w .off) ≡ flowTotals b (take (rowsTo b (w .next)) (tableRows b table)) f
+  pub mismatch : w .verdict ≡ Pass → mismatchFault f (w .mismatch) ≡ flowTotals b (take (rowsTo b (w .next)) (tableRows b table)) f
 
 -- ---- all rows
 -- the book passes and is indexed, the table passes 14, and the work area is long enough
@@ -83,22 +83,22 @@ pub record Ready (book table work : List ℕ) (x : Index) : Type 0 where
   pub headed : tableHeadFault (bookOf book) table ≡ Pass
   pub room : workBytes ≤ length work
 
--- every flow closed: of each flow the first job that is off, and the finish
-pub record Closed (b : Book) (soFar : List rules.Row) (off finish : List ℕ) : Type 0 where
-  pub off-of : (f : ℕ) → f < flowCount b → offFault f (getD off f 0) ≡ flowTotals b soFar f
+-- every flow closed: of each flow the first job whose total differs from its size, and the finish
+pub record Closed (b : Book) (soFar : List rules.Row) (mismatch finish : List ℕ) : Type 0 where
+  pub mismatch-of : (f : ℕ) → f < flowCount b → mismatchFault f (getD mismatch f 0) ≡ flowTotals b soFar f
   pub finish-of : (f : ℕ) → f < 64 → getD finish f 0 ≡ finishOf soFar f
 
 -- the walk's result, over a work area that was `before` and is `after`
 pub record TableWalked (b : Book) (opened : ℕ → Bool) (table before after : List ℕ) (w : Walked) : Type 0 where
   pub verdict : w .verdict ≡ rowsFault b opened table
   pub cleared : workZero slots after ≡ workZero slots before
-  pub closed : w .verdict ≡ Pass → Closed b (tableRows b table) (w .off) (w .finish)
+  pub closed : w .verdict ≡ Pass → Closed b (tableRows b table) (w .mismatch) (w .finish)
   pub area : w .verdict ≡ Pass → after ≡ workUsed slots (tableRows b table) before
 
 -- ---- 20 and 21 of what the walk handed back
--- 20, by the first job of each flow that is off
-unfoldable pub offsFault : List ℕ → ℕ → Verdict
-offsFault off flows = firstFault (λ f. offFault f (getD off f 0)) flows
+-- 20, by the first job of each flow whose total differs from its size
+unfoldable pub mismatchesFault : List ℕ → ℕ → Verdict
+mismatchesFault mismatch flows = firstFault (λ f. mismatchFault f (getD mismatch f 0)) flows
 
 -- 21 at flow f, by the finishes
 unfoldable pub finishFaultBy : List ℕ → List ℕ → ℕ → Verdict

@@ -11,7 +11,7 @@ ghost use Rattle.rules.specs.Check.{checkCall};
 ghost use Rattle.book.specs.Promise.{Indexed};
 ghost use Rattle.calendar.specs.Area.{openBy};
 ghost use Rattle.table_check.specs.Tests.{headFault};
-ghost use Rattle.table_check.specs.Walk.{offsFault, finishFaultBy, TableJudged};
+ghost use Rattle.table_check.specs.Walk.{mismatchesFault, finishFaultBy, TableJudged};
 use book::Index;
 use book::bytes;
 use book::late;
@@ -55,14 +55,14 @@ pub fn head_verdict(table: &[u8], processors: u16, flows: usize) -> Verdict
     Verdict::Pass
 }
 
-// 20, by book order: of each flow the first job whose total is off, 64 where there is none.
-pub fn totals_verdict(off: [u8; 64], flows: usize) -> Verdict
+// 20, by book order: of each flow the first job whose total differs from its size, 64 where there is none.
+pub fn totals_verdict(mismatch: [u8; 64], flows: usize) -> Verdict
     requires { ⌜ flows ≤ 64 ⌝ }
-    ensures { λ v. ⌜ v ≡ offsFault off flows ⌝ }
+    ensures { λ v. ⌜ v ≡ mismatchesFault mismatch flows ⌝ }
 {
     let mut f: usize = 0;
     while f < flows {
-        let job = off[f];
+        let job = mismatch[f];
         if job < 64 {
             return Verdict::Refused {
                 number: 20,
@@ -95,11 +95,11 @@ pub fn finishes_verdict(table: &[u8], flows: usize, finish: [u16; 64]) -> Verdic
 }
 
 // 20, then 21, of what the walk handed back.
-pub fn ends_verdict(table: &[u8], off: [u8; 64], finish: [u16; 64], flows: usize) -> Verdict
+pub fn ends_verdict(table: &[u8], mismatch: [u8; 64], finish: [u16; 64], flows: usize) -> Verdict
     requires { ⌜ (flows ≤ 64) × (8 + 2 * flows ≤ length (now table)) ⌝ }
-    ensures { λ v. ⌜ v ≡ (offsFault off flows andThen firstFault (finishFaultBy (now (table .entry)) finish) flows) ⌝ }
+    ensures { λ v. ⌜ v ≡ (mismatchesFault mismatch flows andThen firstFault (finishFaultBy (now (table .entry)) finish) flows) ⌝ }
 {
-    let totals = totals_verdict(off, flows);
+    let totals = totals_verdict(mismatch, flows);
     let Verdict::Pass = totals else {
         return totals;
     };
@@ -133,11 +133,11 @@ pub fn judge_table(book: &[u8], shut: &[u8], table: &[u8], x: Index, work: &mut 
             late: 0,
         };
     };
-    let off = w.off;
+    let mismatch = w.mismatch;
     let finish = w.finish;
     let deadlines = x.deadlines;
     Judged {
-        verdict: ends_verdict(table, off, finish, flows),
+        verdict: ends_verdict(table, mismatch, finish, flows),
         late: late::late_flows(deadlines, finish, flows),
     }
 }

@@ -8,7 +8,7 @@ ghost use Rattle.rules.specs.Book.{jobCount, flowOf};
 ghost use Rattle.rules.specs.Reading.{bookOf};
 ghost use Rattle.rules.specs.Table.{rowAt};
 ghost use Rattle.calendar.specs.Area.{openBy};
-ghost use Rattle.table_check.specs.Tests.{rowFrom, placeOf, earlyNumber, lateNumber, lacksAt, readyAfter};
+ghost use Rattle.table_check.specs.Tests.{rowFrom, rankOf, standingNumber, amountNumber, lacksAt, readyAfter};
 ghost use Rattle.table_check.specs.Tally.{CurrentFlow, JobsHeld, RowTested, AskedAt, Countable, RowCounted};
 use book::bytes;
 use rules::Verdict;
@@ -76,22 +76,22 @@ pub fn refused(number: u8, r: Row) -> Verdict
     }
 }
 
-// The number by which the rows of a flow stand in their order.
-pub fn place_of(r: Row) -> u32
-    ensures { λ p. ⌜ (p ≡ placeOf (rowFrom r)) × (p < 4194560) ⌝ }
+// The rank of a row: the number by which the rows of a flow stand in their order.
+pub fn rank_of(r: Row) -> u32
+    ensures { λ p. ⌜ (p ≡ rankOf (rowFrom r)) × (p < 4194560) ⌝ }
 {
     r.slot as u32 * 64 + r.job as u32
 }
 
-// 15, 25 and 16 of a row whose flow is in the book; 0 where it passes. Once the job is in range, the row's place tells whether the slot is.
-pub fn early_fault(shut: &[u8], jobs: u8, least: u32, key: u32, r: Row) -> u8
+// 15, 25 and 16 of a row whose flow is in the book; 0 where it passes. Once the job is in range, the row's rank tells whether the slot is.
+pub fn standing_fault(shut: &[u8], jobs: u8, least: u32, key: u32, r: Row) -> u8
     requires { ⌜ jobs ≤ 64 ⌝ }
-    ensures { λ n. ⌜ n ≡ earlyNumber jobs (openBy (now (shut .entry)) (r .slot)) least key (rowFrom r) ⌝ }
+    ensures { λ n. ⌜ n ≡ standingNumber jobs (openBy (now (shut .entry)) (r .slot)) least key (rowFrom r) ⌝ }
 {
     if jobs <= r.job {
         return 15;
     }
-    if 524288 <= place_of(r) {
+    if 524288 <= rank_of(r) {
         return 15;
     }
     if r.processors == 0 {
@@ -107,8 +107,8 @@ pub fn early_fault(shut: &[u8], jobs: u8, least: u32, key: u32, r: Row) -> u8
 }
 
 // 17 and 18; 0 where the row passes.
-pub fn late_fault(cap: u16, used: u16, processors: u16, r: Row) -> u8
-    ensures { λ n. ⌜ n ≡ lateNumber cap used processors (rowFrom r) ⌝ }
+pub fn amount_fault(cap: u16, used: u16, processors: u16, r: Row) -> u8
+    ensures { λ n. ⌜ n ≡ amountNumber cap used processors (rowFrom r) ⌝ }
 {
     if cap < r.processors {
         return 17;
@@ -119,7 +119,7 @@ pub fn late_fault(cap: u16, used: u16, processors: u16, r: Row) -> u8
     0
 }
 
-// 15 to 18 and 25 of a row of the current flow, whose place is to be at least `least`.
+// 15 to 18 and 25 of a row of the current flow, whose rank is to be at least `least`.
 pub fn test_row(
     book: &[u8],
     shut: &[u8],
@@ -133,10 +133,10 @@ pub fn test_row(
     requires { ⌜ CurrentFlow (now book) c × JobsHeld (bookOf (now book)) (c .flow) (c .jobs) (now sizes) (now caps) × (workBytes ≤ length (now work)) ⌝ }
     ensures { λ t. ⌜ RowTested (bookOf (now (book .entry))) (openBy (now (shut .entry))) (c .flow) (now (work .entry)) least (rowFrom r) t ⌝ }
 {
-    let early = early_fault(shut, c.jobs, least, place_of(r), r);
-    if early != 0 {
+    let fault = standing_fault(shut, c.jobs, least, rank_of(r), r);
+    if fault != 0 {
         return Tested {
-            number: early,
+            number: fault,
             used: 0,
             size: 0,
         };
@@ -144,7 +144,7 @@ pub fn test_row(
     let i = bytes::wide(r.job);
     let used = bytes::read16(work, 2 * bytes::wide16(r.slot));
     Tested {
-        number: late_fault(caps[i], used, c.processors, r),
+        number: amount_fault(caps[i], used, c.processors, r),
         used,
         size: sizes[i],
     }
@@ -157,7 +157,7 @@ pub struct Asks {
 }
 
 // 19 is asked whole at a job's first row, and not at all once the job has a total, since it was asked then and slots only rise.
-pub fn to_ask(book: &[u8], totals: &[u32], c: Current, r: Row) -> Asks
+pub fn predecessors_due(book: &[u8], totals: &[u32], c: Current, r: Row) -> Asks
     requires { ⌜ CurrentFlow (now book) c × (r .job < jobCount (flowOf (bookOf (now book)) (c .flow))) × (length (now totals) ≡ 64) ⌝ }
     ensures { λ a. ⌜ AskedAt (bookOf (now (book .entry))) (c .flow) (getD (now (totals .entry)) (r .job) 0) (rowFrom r) a ⌝ }
 {

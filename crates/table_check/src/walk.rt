@@ -1,5 +1,5 @@
 // The walk over a table's rows. Rows of a flow stand together, in service order, so that what is kept of single jobs is the current flow's alone;
-// of a flow that the walk has left the first job whose total is off is kept, and its finish.
+// of a flow that the walk has left the first job whose total differs from its size is kept, and its finish.
 ghost use mathlib.Core.Path.{_≡_};
 ghost use Prim.Native.Nat.{ℕ, _+_, _*_, _<_};
 ghost use lib.ListN.{length, getD, replicate};
@@ -7,7 +7,7 @@ ghost use Rattle.rules.specs.Answers.{firstFault};
 ghost use Rattle.rules.specs.Book.{jobCount, flowOf, jobOf};
 ghost use Rattle.rules.specs.Reading.{bookOf};
 ghost use Rattle.calendar.specs.Area.{openBy};
-ghost use Rattle.table_check.specs.Tests.{offFault};
+ghost use Rattle.table_check.specs.Tests.{mismatchFault};
 ghost use Rattle.table_check.specs.Tally.{CurrentFlow, JobsHeld};
 ghost use Rattle.table_check.specs.Walk.{FlowBegins, RowsWalked, totalFaultBy, FlowWalked, Ready, TableWalked};
 use super::row;
@@ -16,25 +16,25 @@ use book::Index;
 use book::bytes;
 use rules::Verdict;
 
-// Where the walk over a flow's rows stopped: the first fault; where there is none, the place after its last row, and its finish.
+// Where the walk over a flow's rows stopped: the first fault; where there is none, the offset after its last row, and its finish.
 pub struct Stop {
     pub verdict: Verdict,
     pub next: usize,
     pub finish: u16,
 }
 
-// The same, with the flow closed: the first job whose total is off, 64 where there is none.
+// The same, with the flow closed: the first job whose total differs from its size, 64 where there is none.
 pub struct FlowStop {
     pub verdict: Verdict,
     pub next: usize,
     pub finish: u16,
-    pub off: u8,
+    pub mismatch: u8,
 }
 
-// What the whole walk hands back: the first fault, and where there is none of each flow the first job whose total is off, and the finish.
+// What the whole walk hands back: the first fault, and where there is none of each flow the first job whose total differs from its size, and the finish.
 pub struct Walked {
     pub verdict: Verdict,
-    pub off: [u8; 64],
+    pub mismatch: [u8; 64],
     pub finish: [u16; 64],
 }
 
@@ -68,7 +68,7 @@ pub fn walk_rows(
             bad = row::refused(t.number, r);
             break 'rows;
         }
-        let asks = row::to_ask(book, totals, c, r);
+        let asks = row::predecessors_due(book, totals, c, r);
         if asks.unreleased {
             bad = row::refused(19, r);
             break 'rows;
@@ -85,7 +85,7 @@ pub fn walk_rows(
         }
         row::count_row(totals, ready, work, t, r);
         finish = r.slot + 1;
-        least = row::place_of(r) + 1;
+        least = row::rank_of(r) + 1;
         at = at + 6;
     }
     Stop {
@@ -96,9 +96,9 @@ pub fn walk_rows(
 }
 
 // A flow is closed: the first job whose total differs from its size, 64 where there is none.
-pub fn first_off(book: &[u8], sizes: &[u32], totals: &[u32], c: Current) -> u8
+pub fn first_mismatch(book: &[u8], sizes: &[u32], totals: &[u32], c: Current) -> u8
     requires { ⌜ CurrentFlow (now book) c × ((i : ℕ) → i < c .jobs → getD (now sizes) i 0 ≡ jobOf (flowOf (bookOf (now book)) (c .flow)) i .size) × (length (now sizes) ≡ 64) × (length (now totals) ≡ 64) ⌝ }
-    ensures { λ i. ⌜ offFault (c .flow) i ≡ firstFault (totalFaultBy (bookOf (now (book .entry))) (c .flow) (now (totals .entry))) (jobCount (flowOf (bookOf (now (book .entry))) (c .flow))) ⌝ }
+    ensures { λ i. ⌜ mismatchFault (c .flow) i ≡ firstFault (totalFaultBy (bookOf (now (book .entry))) (c .flow) (now (totals .entry))) (jobCount (flowOf (bookOf (now (book .entry))) (c .flow))) ⌝ }
 {
     let mut job: u8 = 0;
     while job < c.jobs {
@@ -145,7 +145,7 @@ pub fn walk_flow(
         verdict,
         next: w.next,
         finish: w.finish,
-        off: first_off(book, &sizes, &totals, c),
+        mismatch: first_mismatch(book, &sizes, &totals, c),
     }
 }
 
@@ -156,14 +156,14 @@ pub fn service_key(deadline: u16, flow: u8) -> u32
     deadline as u32 * 64 + flow as u32
 }
 
-// 15 to 19 and 25 of all rows, flow by flow. A flow without rows is off at job 0.
+// 15 to 19 and 25 of all rows, flow by flow. A flow without rows has its mismatch at job 0.
 pub fn walk_flows(book: &[u8], shut: &[u8], table: &[u8], x: Index, work: &mut [u8]) -> Walked
     requires { ⌜ Ready (now book) (now table) (now work) x ⌝ }
     ensures { λ w. ⌜ TableWalked (bookOf (now (book .entry))) (openBy (now (shut .entry))) (now (table .entry)) (now (work .entry)) (now (work .exit)) w ⌝ }
 {
     bytes::clear(work);
     let flows = x.flows;
-    let mut off = [0u8; 64];
+    let mut mismatch = [0u8; 64];
     let mut finish = [0u16; 64];
     let mut least: u32 = 0;
     let mut at = 8 + 2 * flows;
@@ -173,17 +173,17 @@ pub fn walk_flows(book: &[u8], shut: &[u8], table: &[u8], x: Index, work: &mut [
         if flows <= f {
             return Walked {
                 verdict: row::refused(15, r),
-                off,
+                mismatch,
                 finish,
             };
         }
         let jobs = x.jobs[f];
         let key = service_key(x.deadlines[f], r.flow);
-        let early = row::early_fault(shut, jobs, least, key, r);
-        if early != 0 {
+        let fault = row::standing_fault(shut, jobs, least, key, r);
+        if fault != 0 {
             return Walked {
-                verdict: row::refused(early, r),
-                off,
+                verdict: row::refused(fault, r),
+                mismatch,
                 finish,
             };
         }
@@ -201,18 +201,18 @@ pub fn walk_flows(book: &[u8], shut: &[u8], table: &[u8], x: Index, work: &mut [
         let Verdict::Pass = v else {
             return Walked {
                 verdict: v,
-                off,
+                mismatch,
                 finish,
             };
         };
-        off[f] = w.off;
+        mismatch[f] = w.mismatch;
         finish[f] = w.finish;
         at = w.next;
         least = key + 1;
     }
     Walked {
         verdict: Verdict::Pass,
-        off,
+        mismatch,
         finish,
     }
 }

@@ -4,19 +4,19 @@ use Prim.Native.Nat.{_-_, _≤_}
 use lib.ListN.{getD}
 use Rattle.rules.specs.declared.Verdict.the-variants.{Pass}
 use Rattle.rules.specs.Answers.{firstFault}
-use Rattle.table_check.specs.Tests.{offFault}
-use Rattle.table_check.specs.Walk.{offsFault}
-use Rattle.table_check.proofs.Finals.{none-walked, one-walked, all-walked, stopped, off-found, off-none}
+use Rattle.table_check.specs.Tests.{mismatchFault}
+use Rattle.table_check.specs.Walk.{mismatchesFault}
+use Rattle.table_check.proofs.Finals.{none-walked, one-walked, all-walked, stopped, mismatch-found, mismatch-none}
 use borrow.Author.Needs.{needs}
 use native.Mathlib.Omega.{arith}
 use Rattle.table_check.proofs.totals_verdict.Statement.{statement}
 use Rattle.table_check.proofs.totals_verdict.Tie as tie
 
 abbrev Inv-loop : tie.InvT-loop
-Inv-loop flows off f₀ f = (f ≤ flows) × (firstFault (λ g. offFault g (getD off g 0)) f ≡ Pass)
+Inv-loop flows mismatch f₀ f = (f ≤ flows) × (firstFault (λ g. mismatchFault g (getD mismatch g 0)) f ≡ Pass)
 
 abbrev μ-loop : tie.MeasureT-loop
-μ-loop flows off f₀ f = flows - f
+μ-loop flows mismatch f₀ f = flows - f
 
 loop-holds : tie.Need-loop-holds Inv-loop μ-loop
 loop-holds c = (omega arith, none-walked _)
@@ -28,10 +28,10 @@ cast-t10 : tie.Need-cast-t10 Inv-loop μ-loop
 cast-t10 c = search needs
 
 returns : tie.Need-returns Inv-loop μ-loop
-unfolding offsFault
+unfolding mismatchesFault
 returns c =
     let l = c .before .before .loop in
-    sym (stopped _ (l .f) _ 20 (l .f) _ (c .before .loop-test .taken) (l .inv .1) (off-found (l .f) _ (c .if1 .taken)))
+    sym (stopped _ (l .f) _ 20 (l .f) _ (c .before .loop-test .taken) (l .inv .1) (mismatch-found (l .f) _ (c .if1 .taken)))
 
 add-f : tie.Need-add-f Inv-loop μ-loop
 add-f c = search needs
@@ -42,10 +42,10 @@ loop-less c = search needs
 loop-again : tie.Need-loop-again Inv-loop μ-loop
 loop-again c =
     let l = c .before .before .loop in
-    (omega arith, one-walked _ (l .f) (l .inv .1) (off-none (l .f) _ (c .if1 .left)))
+    (omega arith, one-walked _ (l .f) (l .inv .1) (mismatch-none (l .f) _ (c .if1 .left)))
 
 returns-2 : tie.Need-returns-2 Inv-loop μ-loop
-unfolding offsFault
+unfolding mismatchesFault
 returns-2 c = let l = c .before .loop in sym (all-walked _ (l .f) _ (l .inv .0) (c .loop-test .left) (l .inv .1))
 
 pub totals-verdict-spec : {M : Type 1} → statement M

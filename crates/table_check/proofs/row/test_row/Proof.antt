@@ -3,18 +3,18 @@
 use native.Mathlib.Omega.{arith}
 use Rattle.calendar.specs.Area.{openBy}
 use Rattle.table_check.proofs.Finals.{few-jobs}
-use Rattle.table_check.proofs.TestNumbers.{tested-early, tested-inside, tested-late}
+use Rattle.table_check.proofs.TestNumbers.{tested-standing, tested-inside, tested-amount}
 use Rattle.table_check.proofs.row.test_row.Statement.{statement}
 use Rattle.table_check.proofs.row.test_row.Tie as tie
 
-place-of-requires : tie.Need-place-of-requires
-place-of-requires c κs = tt
+rank-of-requires : tie.Need-rank-of-requires
+rank-of-requires c κs = tt
 
-early-fault-requires : tie.Need-early-fault-requires
-early-fault-requires c κs = few-jobs (c .before .before .before .before .before .before .pre .0)
+standing-fault-requires : tie.Need-standing-fault-requires
+standing-fault-requires c κs = few-jobs (c .before .before .before .before .before .before .pre .0)
 
 returns : tie.Need-returns
-returns c = tested-early _ (openBy _) _ _ _ _ _ _ (c .before .before .before .before .before .before .before .before .pre .0 .jobs) (c .before .before .place-of .ensures .0) (c .before .early-fault .ensures) _ (c .if1 .taken)
+returns c = tested-standing _ (openBy _) _ _ _ _ _ _ (c .before .before .before .before .before .before .before .before .pre .0 .jobs) (c .before .before .rank-of .ensures .0) (c .before .standing-fault .ensures) _ (c .if1 .taken)
 
 wide-requires : tie.Need-wide-requires
 wide-requires c κs = tt
@@ -27,20 +27,20 @@ mul-read16 c = omega (arith, c .wide16 .ensures .1)
 
 read16-requires : tie.Need-read16-requires
 read16-requires c κs =
-    let inside = tested-inside _ (openBy _) _ _ _ _ _ _ (c .before .before .before .before .before .before .before .before .before .before .pre .0 .jobs) (c .before .before .before .before .place-of .ensures .0) (c .before .before .before .early-fault .ensures) (c .before .before .if1 .left) in
+    let inside = tested-inside _ (openBy _) _ _ _ _ _ _ (c .before .before .before .before .before .before .before .before .before .before .pre .0 .jobs) (c .before .before .before .before .rank-of .ensures .0) (c .before .before .before .standing-fault .ensures) (c .before .before .if1 .left) in
     omega (arith, inside .0, c .wide16 .ensures .0, c .before .before .before .before .before .before .before .before .before .before .pre .2)
 
-mul-late-fault : tie.Need-mul-late-fault
-mul-late-fault c = omega (arith, c .before .before .wide .ensures .1)
+mul-amount-fault : tie.Need-mul-amount-fault
+mul-amount-fault c = omega (arith, c .before .before .wide .ensures .1)
 
-shared-slice-read-late-fault : tie.Need-shared-slice-read-late-fault
-shared-slice-read-late-fault c =
+shared-slice-read-amount-fault : tie.Need-shared-slice-read-amount-fault
+shared-slice-read-amount-fault c =
     let p = c .before .before .before .before .before .before .before .before .before .before .before .before .pre in
-    let inside = tested-inside _ (openBy _) _ _ _ _ _ _ (p .0 .jobs) (c .before .before .before .before .before .before .place-of .ensures .0) (c .before .before .before .before .before .early-fault .ensures) (c .before .before .before .before .if1 .left) in
+    let inside = tested-inside _ (openBy _) _ _ _ _ _ _ (p .0 .jobs) (c .before .before .before .before .before .before .rank-of .ensures .0) (c .before .before .before .before .before .standing-fault .ensures) (c .before .before .before .before .if1 .left) in
     omega (arith, inside .1, c .before .before .before .wide .ensures .0, few-jobs (p .0), p .0 .jobs, p .1 .caps-long)
 
-late-fault-requires : tie.Need-late-fault-requires
-late-fault-requires c κs = tt
+amount-fault-requires : tie.Need-amount-fault-requires
+amount-fault-requires c κs = tt
 
 mul-t15 : tie.Need-mul-t15
 mul-t15 c = omega (arith, c .before .before .before .before .wide .ensures .1)
@@ -48,29 +48,29 @@ mul-t15 c = omega (arith, c .before .before .before .before .wide .ensures .1)
 shared-slice-read-t12 : tie.Need-shared-slice-read-t12
 shared-slice-read-t12 c =
     let p = c .before .before .before .before .before .before .before .before .before .before .before .before .before .before .pre in
-    let inside = tested-inside _ (openBy _) _ _ _ _ _ _ (p .0 .jobs) (c .before .before .before .before .before .before .before .before .place-of .ensures .0) (c .before .before .before .before .before .before .before .early-fault .ensures) (c .before .before .before .before .before .before .if1 .left) in
+    let inside = tested-inside _ (openBy _) _ _ _ _ _ _ (p .0 .jobs) (c .before .before .before .before .before .before .before .before .rank-of .ensures .0) (c .before .before .before .before .before .before .before .standing-fault .ensures) (c .before .before .before .before .before .before .if1 .left) in
     omega (arith, inside .1, c .before .before .before .before .before .wide .ensures .0, few-jobs (p .0), p .0 .jobs, p .1 .sizes-long)
 
 returns-2 : tie.Need-returns-2
 returns-2 c =
     let p = c .before .before .before .before .before .before .before .before .before .before .before .before .before .before .pre in
-    tested-late _ (openBy _) _ _ _ _ _ _ (p .0 .jobs) (c .before .before .before .before .before .before .before .before .place-of .ensures .0) (c .before .before .before .before .before .before .before .early-fault .ensures) (c .before .before .before .before .before .before .if1 .left)
-    _ _ _ _ _ _ _ _ (p .1) (p .0 .processors) (c .before .before .before .before .before .wide .ensures .0) (c .before .before .before .before .wide16 .ensures .0) (c .before .before .before .read16 .ensures) (c .before .late-fault .ensures)
+    tested-amount _ (openBy _) _ _ _ _ _ _ (p .0 .jobs) (c .before .before .before .before .before .before .before .before .rank-of .ensures .0) (c .before .before .before .before .before .before .before .standing-fault .ensures) (c .before .before .before .before .before .before .if1 .left)
+    _ _ _ _ _ _ _ _ (p .1) (p .0 .processors) (c .before .before .before .before .before .wide .ensures .0) (c .before .before .before .before .wide16 .ensures .0) (c .before .before .before .read16 .ensures) (c .before .amount-fault .ensures)
 
 pub test-row-spec : {M : Type 1} → statement M
 test-row-spec =
     tie.close
     (tie.spec
-    place-of-requires
-    early-fault-requires
+    rank-of-requires
+    standing-fault-requires
     returns
     wide-requires
     wide16-requires
     mul-read16
     read16-requires
-    mul-late-fault
-    shared-slice-read-late-fault
-    late-fault-requires
+    mul-amount-fault
+    shared-slice-read-amount-fault
+    amount-fault-requires
     mul-t15
     shared-slice-read-t12
     returns-2)

@@ -30,20 +30,20 @@ slice-aggregate-walk-rows-4 c = search needs
 walk-rows-requires : tie.Need-walk-rows-requires
 walk-rows-requires c κs = (c .before .before .before .before .before .before .before .before .before .before .before .before .before .before .pre, c .before .before .before .before .before .before .before .load-jobs .ensures, refl, refl)
 
-slice-aggregate-first-off : tie.Need-slice-aggregate-first-off
-slice-aggregate-first-off c = search needs
+slice-aggregate-first-mismatch : tie.Need-slice-aggregate-first-mismatch
+slice-aggregate-first-mismatch c = search needs
 
-slice-aggregate-first-off-2 : tie.Need-slice-aggregate-first-off-2
-slice-aggregate-first-off-2 c = search needs
+slice-aggregate-first-mismatch-2 : tie.Need-slice-aggregate-first-mismatch-2
+slice-aggregate-first-mismatch-2 c = search needs
 
-first-off-requires : tie.Need-first-off-requires
-first-off-requires c κs = let held = c .before .before .before .before .before .before .before .before .before .before .before .before .before .before .load-jobs .ensures in (c .before .before .before .before .before .before .before .before .before .before .before .before .before .before .before .before .before .before .before .before .before .pre .current, held .size-of, held .sizes-long, c .before .before .before .before .before .before .walk-rows .ensures .totals-long)
+first-mismatch-requires : tie.Need-first-mismatch-requires
+first-mismatch-requires c κs = let held = c .before .before .before .before .before .before .before .before .before .before .before .before .before .before .load-jobs .ensures in (c .before .before .before .before .before .before .before .before .before .before .before .before .before .before .before .before .before .before .before .before .before .pre .current, held .size-of, held .sizes-long, c .before .before .before .before .before .before .walk-rows .ensures .totals-long)
 
 same-length : tie.Need-same-length
 same-length c = search needs
 
 returns : tie.Need-returns
-returns c = flow-closed (c .before .before .before .before .before .before .before .before .before .before .before .before .before .before .before .before .before .before .before .before .before .before .pre .current) (c .before .before .before .before .before .before .before .walk-rows .ensures) (c .first-off .ensures)
+returns c = flow-closed (c .before .before .before .before .before .before .before .before .before .before .before .before .before .before .before .before .before .before .before .before .before .before .pre .current) (c .before .before .before .before .before .before .before .walk-rows .ensures) (c .first-mismatch .ensures)
 
 pub walk-flow-spec : {M : Type 1} → statement M
 walk-flow-spec =
@@ -57,8 +57,8 @@ walk-flow-spec =
     slice-aggregate-walk-rows-3
     slice-aggregate-walk-rows-4
     walk-rows-requires
-    slice-aggregate-first-off
-    slice-aggregate-first-off-2
-    first-off-requires
+    slice-aggregate-first-mismatch
+    slice-aggregate-first-mismatch-2
+    first-mismatch-requires
     same-length
     returns)

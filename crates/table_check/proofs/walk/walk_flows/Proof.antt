@@ -11,16 +11,16 @@ use Rattle.calendar.specs.Area.{openBy}
 use Rattle.table_check.specs.Tally.{rowsTo}
 use Rattle.table_check.proofs.Finals.{index-flows}
 use Rattle.table_check.proofs.TableRows.{row-inside}
-use Rattle.table_check.proofs.Flows.{Between, between-first, flows-few, jobs-few, flow-stands, table-ends, unknown-stops, early-stops, flow-begins, flow-stops, between-next, goes-on}
+use Rattle.table_check.proofs.Flows.{Between, between-first, flows-few, jobs-few, flow-stands, table-ends, unknown-stops, standing-stops, flow-begins, flow-stops, between-next, goes-on}
 use Rattle.table_check.proofs.walk.walk_flows.Statement.{statement}
 use Rattle.table_check.proofs.walk.walk_flows.Tie as tie
 
 abbrev Inv-loop : tie.InvT-loop
-Inv-loop book shut table work₀ x flows off₀ finish₀ least₀ at₀ work off finish least at =
-    Between book (openBy shut) table x flows work₀ work off finish least at (rowsTo (bookOf book) at)
+Inv-loop book shut table work₀ x flows mismatch₀ finish₀ least₀ at₀ work mismatch finish least at =
+    Between book (openBy shut) table x flows work₀ work mismatch finish least at (rowsTo (bookOf book) at)
 
 abbrev μ-loop : tie.MeasureT-loop
-μ-loop book shut table work₀ x flows off₀ finish₀ least₀ at₀ work off finish least at = length table - at
+μ-loop book shut table work₀ x flows mismatch₀ finish₀ least₀ at₀ work mismatch finish least at = length table - at
 
 -- where the work area is cleared, a turn, the flow of its row, the tests of that row, and the walk over the flow's rows
 abbrev cleared : tie.At-loop Inv-loop μ-loop → tie.After-clear Inv-loop μ-loop
@@ -29,10 +29,10 @@ cleared c = c .before .before .before
 abbrev turn : tie.After-wide Inv-loop μ-loop → tie.At-loop Inv-loop μ-loop
 turn c = c .before .before .before
 
-abbrev flow : tie.After-early-fault Inv-loop μ-loop → tie.Else1 Inv-loop μ-loop
+abbrev flow : tie.After-standing-fault Inv-loop μ-loop → tie.Else1 Inv-loop μ-loop
 flow c = c .before .before .before .before
 
-abbrev tested : tie.After-walk-flow Inv-loop μ-loop → tie.After-early-fault Inv-loop μ-loop
+abbrev tested : tie.After-walk-flow Inv-loop μ-loop → tie.After-standing-fault Inv-loop μ-loop
 tested c = c .before .before .before .before .before
 
 clear-requires : tie.Need-clear-requires Inv-loop μ-loop
@@ -78,8 +78,8 @@ element-copy-out-service-key c = omega (arith, flows-few (turn (c .before .befor
 service-key-requires : tie.Need-service-key-requires Inv-loop μ-loop
 service-key-requires c κs = tt
 
-early-fault-requires : tie.Need-early-fault-requires Inv-loop μ-loop
-early-fault-requires c κs = let g = c .before .before .before in jobs-few (turn (g .before) .loop .inv) (g .if1 .left)
+standing-fault-requires : tie.Need-standing-fault-requires Inv-loop μ-loop
+standing-fault-requires c κs = let g = c .before .before .before in jobs-few (turn (g .before) .loop .inv) (g .if1 .left)
 
 refused-requires-2 : tie.Need-refused-requires-2 Inv-loop μ-loop
 refused-requires-2 c κs = tt
@@ -92,8 +92,8 @@ returns-2 c =
     let e = c .before .before in
     let w = flow e .before in
     let r = w .before .read-row in
-    early-stops (turn w .loop .inv) (w .before .before .loop-test .taken) (r .result) (r .ensures) (w .wide .ensures .0) (flow e .if1 .left)
-    refl (e .before .service-key .ensures .0) (e .early-fault .ensures) _ (cleared (turn w) .clear .ensures) (c .refused2 .ensures) (c .before .if2 .taken)
+    standing-stops (turn w .loop .inv) (w .before .before .loop-test .taken) (r .result) (r .ensures) (w .wide .ensures .0) (flow e .if1 .left)
+    refl (e .before .service-key .ensures .0) (e .standing-fault .ensures) _ (cleared (turn w) .clear .ensures) (c .refused2 .ensures) (c .before .if2 .taken)
 
 mul-records : tie.Need-mul-records Inv-loop μ-loop
 mul-records c = omega (arith, flow (c .before) .before .wide .ensures .1)
@@ -110,7 +110,7 @@ walk-flow-requires c κs =
     let w = flow e .before in
     let r = w .before .read-row in
     flow-begins (turn w .loop .inv) (w .before .before .loop-test .taken) (r .result) (r .ensures) (w .wide .ensures .0) (flow e .if1 .left)
-    refl (e .before .service-key .ensures .0) (e .early-fault .ensures) (c .before .before .before .if2 .left) refl refl (c .before .head-of .ensures .release) refl
+    refl (e .before .service-key .ensures .0) (e .standing-fault .ensures) (c .before .before .before .if2 .left) refl refl (c .before .head-of .ensures .release) refl
 
 enum-told : tie.Need-enum-told Inv-loop μ-loop
 enum-told c = search needs
@@ -130,11 +130,11 @@ returns-3 c =
     let u = turn (flow (tested walked) .before) in
     flow-stops (u .loop .inv) (walked .walk-flow .ensures) _ (cleared u .clear .ensures) refl (c .enum-told2 .given .1)
 
-array-write-off : tie.Need-array-write-off Inv-loop μ-loop
-array-write-off c =
+array-write-mismatch : tie.Need-array-write-mismatch Inv-loop μ-loop
+array-write-mismatch c =
     let g = flow (tested (c .before .before .before .before)) in
     let l = turn (g .before) .loop .inv in
-    omega (arith, flows-few l, g .if1 .left, l .off-long)
+    omega (arith, flows-few l, g .if1 .left, l .mismatch-long)
 
 mul-finish : tie.Need-mul-finish Inv-loop μ-loop
 mul-finish c = omega (arith, flow (tested (c .before .before .before .before)) .before .wide .ensures .1)
@@ -196,7 +196,7 @@ walk-flows-spec =
     mul-service-key
     element-copy-out-service-key
     service-key-requires
-    early-fault-requires
+    standing-fault-requires
     refused-requires-2
     same-length-2
     returns-2
@@ -208,7 +208,7 @@ walk-flows-spec =
     enum-told-2
     same-length-3
     returns-3
-    array-write-off
+    array-write-mismatch
     mul-finish
     array-write-finish
     add-least

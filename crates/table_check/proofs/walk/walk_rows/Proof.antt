@@ -61,8 +61,8 @@ test-row-requires c κs = let g = c .before .before .before .before .before .bef
 refused-requires : tie.Need-refused-requires Inv-loop μ-loop Inv-rows μ-rows
 refused-requires c κs = tt
 
-to-ask-requires : tie.Need-to-ask-requires Inv-loop μ-loop Inv-rows μ-rows
-to-ask-requires c κs =
+predecessors-due-requires : tie.Need-predecessors-due-requires Inv-loop μ-loop Inv-rows μ-rows
+predecessors-due-requires c κs =
     let t = c .before .before .before in
     let g = row t .rows .inv .0 in
     let here = read t .before .rows-test .taken in
@@ -77,7 +77,7 @@ loop-holds c =
     let here = read t .before .rows-test .taken in
     let turn = turn-of g here (read t .read-row .result) (read t .read-row .ensures) (sym (t .before .before .before .before .wide .ensures .0) ∙ t .before .before .if1 .left) (t .test-row .ensures)
     (c .before .before .before .if2 .left) in
-    asking-first g turn here (is-released g turn (c .before .to-ask .ensures .unreleased) (c .if3 .left)) (c .before .to-ask .ensures .bits)
+    asking-first g turn here (is-released g turn (c .before .predecessors-due .ensures .unreleased) (c .if3 .left)) (c .before .predecessors-due .ensures .bits)
 
 mul-lacks : tie.Need-mul-lacks Inv-loop μ-loop Inv-rows μ-rows
 mul-lacks c = omega (arith, asks-few (c .before .loop .inv) (c .loop-test .taken))
@@ -109,11 +109,11 @@ count-row-requires c κs = let a = c .before .before .before .before .loop .inv 
 add-finish : tie.Need-add-finish Inv-loop μ-loop Inv-rows μ-rows
 add-finish c = let a = asked c .loop .inv in omega (arith, slot-in (a .going) (a .turn))
 
-place-of-requires : tie.Need-place-of-requires Inv-loop μ-loop Inv-rows μ-rows
-place-of-requires c κs = tt
+rank-of-requires : tie.Need-rank-of-requires Inv-loop μ-loop Inv-rows μ-rows
+rank-of-requires c κs = tt
 
 add-least : tie.Need-add-least Inv-loop μ-loop Inv-rows μ-rows
-add-least c = omega (arith, c .place-of .ensures .1)
+add-least c = omega (arith, c .rank-of .ensures .1)
 
 add-at : tie.Need-add-at Inv-loop μ-loop Inv-rows μ-rows
 add-at c = let a = asked (c .before) .loop .inv in omega (arith, row-inside (a .going .headed) (a .going .reached) (a .here), a .going .table-fits)
@@ -127,7 +127,7 @@ rows-again c =
     let a = k .loop .inv in
     let none = asking-ends a (c .before .before .before .before .before .before .before .before .before .before .before .before .loop-test .left) in
     let counted = c .before .before .before .before .before .before .before .before .count-row .ensures in (
-      going-next (a .going) (a .turn) (a .released) none counted (a .going .no-fault) (c .place-of .ensures .0),
+      going-next (a .going) (a .turn) (a .released) none counted (a .going .no-fault) (c .rank-of .ensures .0),
       lent-next (a .going) (a .turn) (a .released) none counted (row (tested k) .rows .inv .1),
     )
 
@@ -189,7 +189,7 @@ returns-4 c =
     let here = read t .before .rows-test .taken in
     let turn = turn-of g here (read t .read-row .result) (read t .read-row .ensures) (sym (t .before .before .before .before .wide .ensures .0) ∙ t .before .before .if1 .left) (t .test-row .ensures)
     (c .before .before .before .before .if2 .left) in
-    walk-stops g (row t .rows .inv .1) (turn .more) (c .refused2 .ensures) (unreleased-stops g turn (c .before .before .to-ask .ensures .unreleased) (c .before .if3 .taken))
+    walk-stops g (row t .rows .inv .1) (turn .more) (c .refused2 .ensures) (unreleased-stops g turn (c .before .before .predecessors-due .ensures .unreleased) (c .before .if3 .taken))
 
 same-length-13 : tie.Need-same-length-13 Inv-loop μ-loop Inv-rows μ-rows
 same-length-13 c = row (tested (c .before .before .before .before .before)) .rows .inv .1 .totals-kept
@@ -219,7 +219,7 @@ walk-rows-spec =
     wide-requires
     test-row-requires
     refused-requires
-    to-ask-requires
+    predecessors-due-requires
     refused-requires-2
     loop-holds
     mul-lacks
@@ -231,7 +231,7 @@ walk-rows-spec =
     loop-again
     count-row-requires
     add-finish
-    place-of-requires
+    rank-of-requires
     add-least
     add-at
     rows-less

@@ -1,11 +1,11 @@
--- `table_check::row::to_ask` meets its contract: each arm answers as its test says. Assumes nothing.
+-- `table_check::row::predecessors_due` meets its contract: each arm answers as its test says. Assumes nothing.
 use mathlib.Core.Path.{ap}
 use native.Mathlib.Omega.{arith}
 use Rattle.rules.specs.Book.{Job}
 use Rattle.table_check.proofs.Finals.{few-jobs}
 use Rattle.table_check.proofs.TestNumbers.{asked-nothing, asked-whole}
-use Rattle.table_check.proofs.row.to_ask.Statement.{statement}
-use Rattle.table_check.proofs.row.to_ask.Tie as tie
+use Rattle.table_check.proofs.row.predecessors_due.Statement.{statement}
+use Rattle.table_check.proofs.row.predecessors_due.Tie as tie
 
 wide-requires : tie.Need-wide-requires
 wide-requires c κs = tt
@@ -28,5 +28,5 @@ returns-2 c =
     asked-whole _ _ _ _ _ _ (rw (← i .wide .ensures .0) (c .before .before .before .if1 .left)) (i .before .before .before .pre .0 .release)
     (rw (← i .wide .ensures .0) (ap (λ (j : Job). j .predecessors) (c .before .before .job-of .ensures)))
 
-pub to-ask-spec : {M : Type 1} → statement M
-to-ask-spec = tie.close (tie.spec wide-requires mul-if1 shared-slice-read-if1 returns job-of-requires returns-2)
+pub predecessors-due-spec : {M : Type 1} → statement M
+predecessors-due-spec = tie.close (tie.spec wide-requires mul-if1 shared-slice-read-if1 returns job-of-requires returns-2)

@@ -1,15 +1,15 @@
--- `table_check::walk::first_off` meets its contract. The invariant: the jobs so far pass. The measure is the jobs left. Assumes nothing.
+-- `table_check::walk::first_mismatch` meets its contract. The invariant: the jobs so far pass. The measure is the jobs left. Assumes nothing.
 use mathlib.Core.Path.{_≡_}
 use Prim.Native.Nat.{_-_, _≤_}
 use Rattle.rules.specs.declared.Verdict.the-variants.{Pass}
 use Rattle.rules.specs.Answers.{firstFault}
 use Rattle.rules.specs.Reading.{bookOf}
 use Rattle.table_check.specs.Walk.{totalFaultBy}
-use Rattle.table_check.proofs.Finals.{none-walked, one-walked, few-jobs, total-right, total-wrong, closes-off, closes-right}
+use Rattle.table_check.proofs.Finals.{none-walked, one-walked, few-jobs, total-right, total-wrong, closes-mismatch, closes-right}
 use borrow.Author.Needs.{needs}
 use native.Mathlib.Omega.{arith}
-use Rattle.table_check.proofs.walk.first_off.Statement.{statement}
-use Rattle.table_check.proofs.walk.first_off.Tie as tie
+use Rattle.table_check.proofs.walk.first_mismatch.Statement.{statement}
+use Rattle.table_check.proofs.walk.first_mismatch.Tie as tie
 
 abbrev Inv-loop : tie.InvT-loop
 Inv-loop book sizes totals c job₀ job = (job ≤ c .jobs) × (c .jobs ≤ 64) × (firstFault (totalFaultBy (bookOf book) (c .flow) totals) job ≡ Pass)
@@ -39,7 +39,7 @@ returns : tie.Need-returns Inv-loop μ-loop
 returns c =
     let p = c .before .before .before .before .before .before .before .before .before .before .pre in
     let l = c .before .before .before .before .before .before .loop in
-    closes-off _ _ _ _ (p .0 .jobs) (l .inv .1) (l .job) (c .before .before .before .before .if1 .taken) (l .inv .2)
+    closes-mismatch _ _ _ _ (p .0 .jobs) (l .inv .1) (l .job) (c .before .before .before .before .if1 .taken) (l .inv .2)
     (total-wrong _ _ _ _ (l .job) _ (c .before .before .before .wide .ensures .0) (p .1 _ (omega (arith, c .before .before .before .wide .ensures .0, c .before .before .before .before .if1 .taken))) (c .if2 .taken))
 
 add-job : tie.Need-add-job Inv-loop μ-loop
@@ -63,8 +63,8 @@ returns-2 c =
     let l = c .before .before .loop in
     closes-right _ _ _ _ (c .before .before .before .before .before .before .pre .0 .jobs) (l .inv .1) (l .job) (l .inv .0) (c .if1 .left) (l .inv .2)
 
-pub first-off-spec : {M : Type 1} → statement M
-first-off-spec =
+pub first-mismatch-spec : {M : Type 1} → statement M
+first-mismatch-spec =
     tie.close
     (tie.spec
     Inv-loop
