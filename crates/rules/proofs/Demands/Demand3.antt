@@ -6,6 +6,7 @@ use Prim.Native.Nat.{ℕ, _≤_}
 use mathlib.Core.List.{List}
 use native.Mathlib.Omega.{arith}
 use lib.ListN.{length}
+use Rattle.rules.specs.Answers.{none}
 use Rattle.rules.specs.Limits.{workBytes}
 use Rattle.rules.specs.Book.{Book, InRange}
 use Rattle.rules.specs.Reading.{versionOf, read, readBook, bookBytes}
@@ -28,6 +29,19 @@ module _ (c : Book) (range : InRange c) (out area : List ℕ) (room : workBytes 
   answered (long-13 h rows e l) = inr (inr refl)
   answered (written-0 h rows e l) = inl refl
 
+  -- the places of 12 and 13
+  place-of-12 : {o : PlanOutcome} → PlanCase c out area o → o .answer .number ≡ 12 → o .answer .job ≡ none
+  place-of-12 (short-11 h) z = refl
+  place-of-12 (stopped-12 h f e) z = refl
+  place-of-12 (long-13 h rows e l) z = refl
+  place-of-12 (written-0 h rows e l) z = refl
+
+  place-of-13 : {o : PlanOutcome} → PlanCase c out area o → o .answer .number ≡ 13 → (o .answer .flow ≡ none) × (o .answer .job ≡ none)
+  place-of-13 (short-11 h) z = (refl, refl)
+  place-of-13 (stopped-12 h f e) z = absurd (omega arith)
+  place-of-13 (long-13 h rows e l) z = (refl, refl)
+  place-of-13 (written-0 h rows e l) z = (refl, refl)
+
   well : plan c ≡ planned (rowsOf (plan c)) → PlannedWell c (rowsOf (plan c))
   well = planned-well c range (rowsOf (plan c))
 
@@ -38,6 +52,8 @@ module _ (c : Book) (range : InRange c) (out area : List ℕ) (room : workBytes 
     planned-13 = λ z. well (plan-number-13 p z .0);
     written = λ z. writes-plan p z .table;
     too-long = λ z. (plan-number-13 p z .1, plan-number-13 p z .2);
+    place-12 = place-of-12 p;
+    place-13 = place-of-13 p;
     infeasible-flow = λ z. let w = plan-number-12 p z in rw (w .2) (infeasible-proves c range (w .0) (w .1));
   }
 

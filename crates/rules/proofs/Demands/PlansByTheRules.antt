@@ -16,6 +16,7 @@ writes-plan (stopped-12 h f e) z = absurd (omega arith)
 writes-plan (long-13 h rows e l) z = absurd (omega arith)
 writes-plan (written-0 h rows e l) z = record {
   all-placed = rw e refl;
+  no-place = (refl, refl);
   table = rw e refl;
   late-flows = rw e refl;
   table-length = rw e refl;

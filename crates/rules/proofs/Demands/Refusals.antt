@@ -9,7 +9,7 @@ use mathlib.Core.List.{List}
 use native.Mathlib.Omega.{arith}
 use lib.ListN.{length, take, getD}
 use lib.Dec.{ltb, leb, eqb}
-use borrow.Author.Tests.{leb-true, eqb-true, lt-leb, ne-eqb, le-ltb}
+use borrow.Author.Tests.{leb-true, eqb-true, lt-leb, ne-eqb, le-ltb, lt-ltb}
 use Rattle.rules.specs.declared.Verdict.{Verdict}
 use Rattle.rules.specs.declared.Verdict.the-variants.{Pass, Refused}
 use Rattle.rules.specs.Walks.{if_then_else_, anyTo}
@@ -23,7 +23,7 @@ use Rattle.rules.specs.Rows.{Row, usedIn, totalOf, finishOf, workZero}
 use Rattle.rules.specs.Table.{tableHead, rowLength, finishIn}
 use Rattle.rules.specs.Planner.{PlanOutcome, planReading, planCall}
 use Rattle.rules.specs.Check.{tableRows, tableHeadFault, noRow, rises, lacksPredecessor, beforeRelease, rowFault, totalFault, finishFault, tableFault, CheckOutcome, checkOutcome, checkReading, checkCall}
-use Rattle.rules.specs.Demands.Refusals.{byEleven, AreaAfterRefusal, PlannerRefusal, CheckRefusal, Demand1, Says, bookVerdict}
+use Rattle.rules.specs.Demands.Refusals.{byEleven, AreaAfterRefusal, PlannerRefusal, CheckRefusal, Demand1, bookVerdict, PlanSays, CheckSays}
 use Rattle.rules.proofs.Laws.Walks.{or-cases}
 use Rattle.rules.proofs.Laws.Faults.{not-pass}
 use Rattle.rules.proofs.Calls.CallCases.{check-cases, PlanCase, short-11, stopped-12, long-13, written-0, reading-case}
@@ -296,40 +296,43 @@ check-answers book calendar s area =
 -- ---- an answer says the verdict: that on the book and its calendar, and then that on the table
 module _ (book calendar : List ℕ) where
   plan-says-of : (out area : List ℕ) (v : Verdict) (b : Book) → 0 < numberOf v →
-      let a = planReading out area (readingOf v b) .answer in Says v (a .number) (a .flow) (a .job)
+      PlanSays v (planReading out area (readingOf v b) .answer)
   unfolding planReading
   plan-says-of out area Pass b l = absurd (omega arith)
   plan-says-of out area (Refused n f j) b l = record { number-is = refl; flow-is = refl; job-is = refl }
 
   check-says-of : (s area : List ℕ) (v : Verdict) (b : Book) → 0 < numberOf v →
-      let a = checkReading s area (readingOf v b) .answer in Says v (a .number) (a .flow) (a .job)
+      CheckSays v (checkReading s area (readingOf v b) .answer)
   unfolding checkReading
   check-says-of s area Pass b l = absurd (omega arith)
   check-says-of s area (Refused n f j) b l = record { number-is = refl; flow-is = refl; job-is = refl }
 
   planner-says : (out area : List ℕ) → 0 < numberOf (bookVerdict book calendar) →
-      let a = planCall book calendar out area .answer in Says (bookVerdict book calendar) (a .number) (a .flow) (a .job)
+      PlanSays (bookVerdict book calendar) (planCall book calendar out area .answer)
   unfolding planCall readBook
   planner-says out area = plan-says-of out area (bookVerdict book calendar) (bookWith book calendar)
 
   check-says : (s area : List ℕ) → 0 < numberOf (bookVerdict book calendar) →
-      let a = checkCall book calendar s area .answer in Says (bookVerdict book calendar) (a .number) (a .flow) (a .job)
+      CheckSays (bookVerdict book calendar) (checkCall book calendar s area .answer)
   unfolding checkCall readBook
   check-says s area = check-says-of s area (bookVerdict book calendar) (bookWith book calendar)
 
   table-says : (s area : List ℕ) (b : Book) → readBook book calendar ≡ read b → workBytes ≤ length area →
-      let a = checkCall book calendar s area .answer in Says (tableFault b s) (a .number) (a .flow) (a .job)
+      CheckSays (tableFault b s) (checkCall book calendar s area .answer)
   unfolding checkCall checkReading checkOutcome
   table-says s area b reads long = rw (reads, le-ltb (length area) workBytes long) (said (tableFault b s))
     where
-      said : (v : Verdict) → let a = checkOutcome b s area v .answer in Says v (a .number) (a .flow) (a .job)
+      said : (v : Verdict) → CheckSays v (checkOutcome b s area v .answer)
       said Pass = record { number-is = refl; flow-is = refl; job-is = refl }
       said (Refused n f j) = record { number-is = refl; flow-is = refl; job-is = refl }
 
 pub demand-1 : Demand1
+unfolding planCall planReading checkCall checkReading
 demand-1 = record {
   planner-says = planner-says;
   check-says = check-says;
+  planner-11 = λ book calendar out area b reads short. rw (reads, lt-ltb (length area) workBytes short) refl;
+  check-11 = λ book calendar table area b reads short. rw (reads, lt-ltb (length area) workBytes short) refl;
   table-says = table-says;
   planner-number = λ book calendar out area. planner-answers book calendar out area .number-is;
   planner-refusal = λ book calendar out area. planner-answers book calendar out area .refusal;

@@ -31,11 +31,11 @@ pub record IsScheduleTable (b : Book) (table : List ℕ) (late : ℕ) : Type 0 w
 pub record AcceptsExactly : Type 0 where
   pub only-schedules : (book calendar table area : List ℕ) (b : Book) → readBook book calendar ≡ read b → AllBytes table →
       checkCall book calendar table area .answer .number ≡ 0 → IsScheduleTable b table (checkCall book calendar table area .answer .late)
+  pub every-schedule : (book calendar table area : List ℕ) (b : Book) (late : ℕ) → readBook book calendar ≡ read b → workBytes ≤ length area →
+      IsScheduleTable b table late → checkCall book calendar table area .answer ≡ checkAccepted late
   -- "After acceptance each pair holds the processors in use in that slot.", and bytes past the caller's size are untouched
   pub area-used : (book calendar table area : List ℕ) (b : Book) → readBook book calendar ≡ read b → checkCall book calendar table area .answer .number ≡ 0 →
       checkCall book calendar table area .area ≡ workUsed slots (tableRows b table) area
-  pub every-schedule : (book calendar table area : List ℕ) (b : Book) (late : ℕ) → readBook book calendar ≡ read b → workBytes ≤ length area →
-      IsScheduleTable b table late → checkCall book calendar table area .answer ≡ checkAccepted late
 
 -- ---- planner and check together: the check accepts every table that the planner writes, with the same number of late flows
 unfoldable pub AcceptsPlans : Type 0

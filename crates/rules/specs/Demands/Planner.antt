@@ -8,6 +8,7 @@ use mathlib.Core.List.{List, _++_}
 use lib.ListN.{length, drop}
 use lib.Dec.{eqb}
 use Rattle.rules.specs.Walks.{sumTo}
+use Rattle.rules.specs.Answers.{none}
 use Rattle.rules.specs.Limits.{workBytes, slots}
 use Rattle.rules.specs.Calendar.{openBefore}
 use Rattle.rules.specs.Book.{Book, flowCount, flowOf, twiceDeadline, jobCount, jobOf}
@@ -27,6 +28,8 @@ use Rattle.rules.specs.Cut.{cut}
 -- the outcome with the rows that the rules give; the finishes stand in the table
 pub record WritesPlan (b : Book) (out area : List ℕ) (o : PlanOutcome) : Type 0 where
   pub all-placed : plan b ≡ planned (rowsOf (plan b))
+  -- "An accepted call returns number 0 and place 255, 255."
+  pub no-place : (o .answer .flow ≡ none) × (o .answer .job ≡ none)
   pub table : o .output ≡ tableBytes b (rowsOf (plan b)) ++ drop (tableLength b (rowsOf (plan b))) out
   pub late-flows : o .answer .late ≡ lateFlows b (rowsOf (plan b))
   pub table-length : o .answer .length ≡ tableLength b (rowsOf (plan b))
@@ -81,6 +84,9 @@ pub record PlannerOwes (b : Book) (out : List ℕ) (o : PlanOutcome) : Type 0 wh
   pub too-long : o .answer .number ≡ 13 → (length out < tableLength b (rowsOf (plan b))) × (o .output ≡ out)
   -- "One is refused as infeasible when the answer is 12: it is the flow named"
   pub infeasible-flow : o .answer .number ≡ 12 → (o .answer .flow < flowCount b) × NoneOnTime b (o .answer .flow)
+  -- 12: "that flow, -"; 13: "-, -"
+  pub place-12 : o .answer .number ≡ 12 → o .answer .job ≡ none
+  pub place-13 : o .answer .number ≡ 13 → (o .answer .flow ≡ none) × (o .answer .job ≡ none)
 
 -- "Cut after its first k flows in service order .. it .. is a book of its own. The planner is given that book." It keeps its version, and
 -- with its flows their releases (02, Req 01); "a book that is cut keeps its calendar" (02, Req 07).

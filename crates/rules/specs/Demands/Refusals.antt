@@ -7,7 +7,9 @@ use mathlib.Core.List.{List}
 use lib.ListN.{length}
 use lib.Dec.{leb, eqb}
 use Rattle.rules.specs.declared.Verdict.{Verdict}
-use Rattle.rules.specs.Answers.{_andThen_, numberOf, flowNamed, jobNamed}
+use Rattle.rules.specs.declared.PlanAnswer.{PlanAnswer}
+use Rattle.rules.specs.declared.CheckAnswer.{CheckAnswer}
+use Rattle.rules.specs.Answers.{_andThen_, numberOf, flowNamed, jobNamed, none, planRefused, checkRefused}
 use Rattle.rules.specs.Limits.{slots, workBytes}
 use Rattle.rules.specs.Calendar.{calendarFault}
 use Rattle.rules.specs.Book.{Book}
@@ -47,6 +49,12 @@ pub record Says (v : Verdict) (number flow job : ℕ) : Type 0 where
   pub flow-is : flow ≡ flowNamed v
   pub job-is : job ≡ jobNamed v
 
+abbrev pub PlanSays : Verdict → PlanAnswer → Type 0
+PlanSays v a = Says v (a .number) (a .flow) (a .job)
+
+abbrev pub CheckSays : Verdict → CheckAnswer → Type 0
+CheckSays v a = Says v (a .number) (a .flow) (a .job)
+
 -- the verdict on a book and the calendar that goes with it: the book's first fault, else "24 .. after the book's checks" (02, Req 07)
 abbrev pub bookVerdict : List ℕ → List ℕ → Verdict
 bookVerdict book calendar = bookFault book andThen calendarFault calendar
@@ -54,12 +62,17 @@ bookVerdict book calendar = bookFault book andThen calendarFault calendar
 pub record Demand1 : Type 0 where
   -- a book or a calendar that does not pass is turned down by its first fault, whatever else is lent
   pub planner-says : (book calendar out area : List ℕ) → 0 < numberOf (bookVerdict book calendar) →
-      Says (bookVerdict book calendar) (planCall book calendar out area .answer .number) (planCall book calendar out area .answer .flow) (planCall book calendar out area .answer .job)
+      PlanSays (bookVerdict book calendar) (planCall book calendar out area .answer)
   pub check-says : (book calendar table area : List ℕ) → 0 < numberOf (bookVerdict book calendar) →
-      Says (bookVerdict book calendar) (checkCall book calendar table area .answer .number) (checkCall book calendar table area .answer .flow) (checkCall book calendar table area .answer .job)
-  -- then 11; then a table is turned down by its first fault, or accepted with number 0 and place 255, 255
+      CheckSays (bookVerdict book calendar) (checkCall book calendar table area .answer)
+  -- then "work area too short", 11, "-, -"
+  pub planner-11 : (book calendar out area : List ℕ) (b : Book) → readBook book calendar ≡ read b → length area < workBytes →
+      planCall book calendar out area ≡ record { answer = planRefused 11 none none; output = out; area = area }
+  pub check-11 : (book calendar table area : List ℕ) (b : Book) → readBook book calendar ≡ read b → length area < workBytes →
+      checkCall book calendar table area ≡ record { answer = checkRefused 11 none none; area = area }
+  -- then a table is turned down by its first fault, or accepted with number 0 and place 255, 255
   pub table-says : (book calendar table area : List ℕ) (b : Book) → readBook book calendar ≡ read b → workBytes ≤ length area →
-      Says (tableFault b table) (checkCall book calendar table area .answer .number) (checkCall book calendar table area .answer .flow) (checkCall book calendar table area .answer .job)
+      CheckSays (tableFault b table) (checkCall book calendar table area .answer)
   -- the planner's numbers are 0 to 13, 22 and 24, the check's 0 to 11, 14 to 22, 24 and 25
   pub planner-number : (book calendar out area : List ℕ) →
       (planCall book calendar out area .answer .number ≤ 13) ⊎
