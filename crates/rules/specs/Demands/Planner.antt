@@ -84,7 +84,7 @@ pub record PlannerOwes (b : Book) (out : List ℕ) (o : PlanOutcome) : Type 0 wh
   pub too-long : o .answer .number ≡ 13 → (length out < tableLength b (rowsOf (plan b))) × (o .output ≡ out)
   -- "One is refused as infeasible when the answer is 12: it is the flow named"
   pub infeasible-flow : o .answer .number ≡ 12 → (o .answer .flow < flowCount b) × NoneOnTime b (o .answer .flow)
-  -- 12: "that flow, -"; 13: "-, -"
+  -- 12 with "that flow, 255", 13 with "255, 255"
   pub place-12 : o .answer .number ≡ 12 → o .answer .job ≡ none
   pub place-13 : o .answer .number ≡ 13 → (o .answer .flow ≡ none) × (o .answer .job ≡ none)
 

@@ -65,7 +65,7 @@ pub record Demand1 : Type 0 where
       PlanSays (bookVerdict book calendar) (planCall book calendar out area .answer)
   pub check-says : (book calendar table area : List ℕ) → 0 < numberOf (bookVerdict book calendar) →
       CheckSays (bookVerdict book calendar) (checkCall book calendar table area .answer)
-  -- then "work area too short", 11, "-, -"
+  -- then "work area too short", 11, with 255 and 255
   pub planner-11 : (book calendar out area : List ℕ) (b : Book) → readBook book calendar ≡ read b → length area < workBytes →
       planCall book calendar out area ≡ record { answer = planRefused 11 none none; output = out; area = area }
   pub check-11 : (book calendar table area : List ℕ) (b : Book) → readBook book calendar ≡ read b → length area < workBytes →
