@@ -1,4 +1,4 @@
--- The specification, in the order in which it is read.
+-- The specification, each file after those that it builds on. `Demands`, the last, says what is owed, and is read first.
 pub mod Walks
 pub mod Fields
 pub mod Answers
