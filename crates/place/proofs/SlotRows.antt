@@ -12,7 +12,7 @@ use Rattle.rules.specs.Ideal.{takeOf}
 use Rattle.rules.specs.PseudoJobs.{PseudoJob, rate, work}
 use Rattle.rules.specs.Rows.{Row, rowFor}
 use Rattle.rules.specs.Placing.{share}
-use Rattle.rules.proofs.Chains.Shares.{offset, offset-within-rate, share-none, share-overlap}
+use Rattle.rules.proofs.Chains.Shares.{unitsBefore, units-within-rate, share-none, share-overlap}
 use Rattle.chain.specs.Runs.{partsBelow}
 use Rattle.place.specs.declared.Current.{Current}
 use Rattle.place.specs.Output.{Put}
@@ -35,13 +35,13 @@ rows-below-next : (w : Flow) (f t : ℕ) (p : PseudoJob) (done n j : ℕ) →
 rows-below-next w f t p done n j = rw add-one (slot-rows-next t f (λ i. share w p i done n) j)
 
 -- the units of the slot before those of the next job
-offset-none : (w : Flow) (p : PseudoJob) → offset w p 0 ≡ 0
-unfolding offset sumTo
-offset-none w p = refl
+units-none : (w : Flow) (p : PseudoJob) → unitsBefore w p 0 ≡ 0
+unfolding unitsBefore sumTo
+units-none w p = refl
 
-offset-next : (w : Flow) (p : PseudoJob) (i : ℕ) → offset w p (i + 1) ≡ offset w p i + takeOf w i (p .first)
-unfolding offset sumTo
-offset-next w p i = rw (add-one i) refl
+units-next : (w : Flow) (p : PseudoJob) (i : ℕ) → unitsBefore w p (i + 1) ≡ unitsBefore w p i + takeOf w i (p .first)
+unfolding unitsBefore sumTo
+units-next w p i = rw (add-one i) refl
 
 -- a job has at most its take in one slot of the run and its take in the next
 overlap-within : (y s a m : ℕ) → s ≤ m → min y (s + a) - m ≤ a
@@ -54,7 +54,7 @@ overlaps-within o n s a r =
 -- ---- the loop over parts
 -- the rows of the jobs below j are put; before the units of job j stand `before` others
 pub record JobsPut (w : Flow) (f t : ℕ) (p : PseudoJob) (done n : ℕ) (out : List ℕ) (at : ℕ) (out′ : List ℕ) (next before j : ℕ) : Type 0 where
-  pub units : before ≡ offset w p j
+  pub units : before ≡ unitsBefore w p j
   pub put : Put out at (rowsBelow w f t p done n j) out′ next
 
 -- the rows of the first q parts are put: those of the jobs below one that stands behind q parts
@@ -69,7 +69,7 @@ slot-kept-first {w} {f} {t} {p} {done} {n} {out} {at} = record {
   job = 0;
   job-to = omega arith;
   behind = parts-none (λ i. takeOf w i (p .first));
-  so-far = record { units = sym (offset-none w p); put = rw (slot-rows-none t f (λ i. share w p i done n)) (put-none out at) };
+  so-far = record { units = sym (units-none w p); put = rw (slot-rows-none t f (λ i. share w p i done n)) (put-none out at) };
 }
 
 -- one turn, in a slot that uses `give` units of the pseudo-job in service after the first `done`
@@ -94,7 +94,7 @@ module _ {s : List ℕ} {c : Current} {names takes rows : List ℕ} (v : Serving
   -- a job that takes nothing has no row
   pass : (i : ℕ) → i < jobCount w → take i ≡ 0 → PutBelow i → PutBelow (i + 1)
   pass i l e b = record {
-    units = omega (arith, b .units, offset-next w p i);
+    units = omega (arith, b .units, units-next w p i);
     put = rw (rows-below-next w (c .flow) t p done give i, row-for-none t (c .flow) i _ (share-none w p i done give positive fits l e), append-nil) (b .put);
   }
 
@@ -105,7 +105,7 @@ module _ {s : List ℕ} {c : Current} {names takes rows : List ℕ} (v : Serving
   pub units-within : q < c .parts → before + getD takes q 0 ≤ c .rate
   units-within l =
       let j = part l in
-      omega (arith, j .holds .units, j .amount-is, v .held .in-service .rate, offset-within-rate w p (j .job) (j .job-in))
+      omega (arith, j .holds .units, j .amount-is, v .held .in-service .rate, units-within-rate w p (j .job) (j .job-in))
 
   -- what its row asks
   pub row-asked : q < c .parts → at + 384 < 4294967296 →
@@ -122,7 +122,7 @@ module _ {s : List ℕ} {c : Current} {names takes rows : List ℕ} (v : Serving
       )
 
   -- the share of job j, without division
-  share-is-overlaps : (j : ℕ) → j < jobCount w → overlaps (done % c .rate) give (offset w p j) (take j) (c .rate) ≡ share w p j done give
+  share-is-overlaps : (j : ℕ) → j < jobCount w → overlaps (done % c .rate) give (unitsBefore w p j) (take j) (c .rate) ≡ share w p j done give
   share-is-overlaps j l = rw (v .held .in-service .rate) (sym (share-overlap w p j done give positive fits (omega (arith, v .held .in-service .rate)) l))
 
   -- its row after those of the parts before it
@@ -138,7 +138,7 @@ module _ {s : List ℕ} {c : Current} {names takes rows : List ℕ} (v : Serving
         job-to = omega (arith, j .job-in);
         behind = j .one-more;
         so-far = record {
-          units = omega (arith, j .holds .units, j .amount-is, offset-next w p (j .job));
+          units = omega (arith, j .holds .units, j .amount-is, units-next w p (j .job));
           put = rw (rows-below-next w (c .flow) t p done give (j .job)) (put-more out out′ out″ at next next′ _ _ (j .holds .put) its);
         };
       }

@@ -42,12 +42,12 @@ use Rattle.rules.proofs.Laws.Sums.{sum-ext, sum-add, sum-scale, sum-con
 use Rattle.rules.proofs.Laws.Walks.{last-or, join-snoc, join-length}
 
 -- the units of a slot of the run that come before those of job i
-unfoldable pub offset : Flow → PseudoJob → ℕ → ℕ
-offset w p i = sumTo (λ k. takeOf w k (p .first)) i
+unfoldable pub unitsBefore : Flow → PseudoJob → ℕ → ℕ
+unitsBefore w p i = sumTo (λ k. takeOf w k (p .first)) i
 
 -- of the first x units of the pseudo-job, those of job i
 unfoldable pub shareUpTo : Flow → PseudoJob → ℕ → ℕ → ℕ
-shareUpTo w p i x = x / rate w p * takeOf w i (p .first) + min (takeOf w i (p .first)) (x % rate w p - offset w p i)
+shareUpTo w p i x = x / rate w p * takeOf w i (p .first) + min (takeOf w i (p .first)) (x % rate w p - unitsBefore w p i)
 
 -- ---- counting units in lists
 units-of-append : (i : ℕ) (xs ys : List ℕ) → unitsOf i (xs ++ ys) ≡ unitsOf i xs + unitsOf i ys
@@ -152,12 +152,12 @@ module _ (w : Flow) (p : PseudoJob) where
       omega (arith, join-length (λ s. slotUnits w p) (p .width) 0, sum-const (length (slotUnits w p)) (p .width), ap (_* p .width) slot-units-length)
 
   -- a job's units in a slot stand within the slot
-  pub offset-within-rate : (i : ℕ) → i < jobCount w → offset w p i + takeOf w i (p .first) ≤ rate w p
-  unfolding offset rate sumTo
-  offset-within-rate i l = sum-up (λ k. takeOf w k (p .first)) {m = suc i} {n = jobCount w} l
+  pub units-within-rate : (i : ℕ) → i < jobCount w → unitsBefore w p i + takeOf w i (p .first) ≤ rate w p
+  unfolding unitsBefore rate sumTo
+  units-within-rate i l = sum-up (λ k. takeOf w k (p .first)) {m = suc i} {n = jobCount w} l
 
-  slot-part : (i m : ℕ) → i < jobCount w → unitsOf i (take m (slotUnits w p)) ≡ min (takeOf w i (p .first)) (m - offset w p i)
-  unfolding slotUnits offset
+  slot-part : (i m : ℕ) → i < jobCount w → unitsOf i (take m (slotUnits w p)) ≡ min (takeOf w i (p .first)) (m - unitsBefore w p i)
+  unfolding slotUnits unitsBefore
   slot-part i m l = layout-part (λ k. takeOf w k (p .first)) i m (jobCount w) l
 
   -- ---- the closed formula
@@ -166,7 +166,7 @@ module _ (w : Flow) (p : PseudoJob) where
   share-up-to-nothing i pos = rw (zero-div (rate w p), zero-mod (rate w p)) (omega arith)
 
   -- within the first slot of the run
-  share-in-slot : (i x : ℕ) → x < rate w p → shareUpTo w p i x ≡ min (takeOf w i (p .first)) (x - offset w p i)
+  share-in-slot : (i x : ℕ) → x < rate w p → shareUpTo w p i x ≡ min (takeOf w i (p .first)) (x - unitsBefore w p i)
   unfolding shareUpTo
   share-in-slot i x l = rw (div-eq-of-lt l, mod-eq-of-lt l) (omega arith)
 
@@ -201,17 +201,17 @@ module _ (w : Flow) (p : PseudoJob) where
   share-up-to-none i x e = rw e (omega arith)
 
   -- the shares of all jobs are the units
-  fill : (m n : ℕ) → sumTo (λ i. min (takeOf w i (p .first)) (m - offset w p i)) n ≡ min (offset w p n) m
-  unfolding sumTo offset
+  fill : (m n : ℕ) → sumTo (λ i. min (takeOf w i (p .first)) (m - unitsBefore w p i)) n ≡ min (unitsBefore w p n) m
+  unfolding sumTo unitsBefore
   fill m zero = omega arith
   fill m (suc n) = omega (arith, fill m n)
 
   pub shares-up-to-sum : (x : ℕ) → 0 < rate w p → sumTo (λ i. shareUpTo w p i x) (jobCount w) ≡ x
-  unfolding shareUpTo offset rate
+  unfolding shareUpTo unitsBefore rate
   shares-up-to-sum x pos =
       omega (
         arith,
-        sum-add (λ i. x / rate w p * takeOf w i (p .first)) (λ i. min (takeOf w i (p .first)) (x % rate w p - offset w p i)) (jobCount w),
+        sum-add (λ i. x / rate w p * takeOf w i (p .first)) (λ i. min (takeOf w i (p .first)) (x % rate w p - unitsBefore w p i)) (jobCount w),
         sum-scale (x / rate w p) (λ i. takeOf w i (p .first)) (jobCount w),
         fill (x % rate w p) (jobCount w),
         div-add-mod' x (rate w p),
@@ -242,7 +242,7 @@ module _ (w : Flow) (p : PseudoJob) where
           omega (
             arith,
             slot-part i x l,
-            offset-within-rate i l,
+            units-within-rate i l,
             ih (x - rate w p) (omega arith),
             share-up-to-round i (x - rate w p) pos,
             ap (shareUpTo w p i) q,
@@ -289,24 +289,24 @@ module _ (w : Flow) (p : PseudoJob) where
 
   -- of the first y units of two slots of the run: those of job i in the one and in the other
   share-in-two-slots : (i y : ℕ) → 0 < rate w p → y < rate w p + rate w p → i < jobCount w →
-      shareUpTo w p i y ≡ min (takeOf w i (p .first)) (y - offset w p i) + min (takeOf w i (p .first)) (y - (offset w p i + rate w p))
+      shareUpTo w p i y ≡ min (takeOf w i (p .first)) (y - unitsBefore w p i) + min (takeOf w i (p .first)) (y - (unitsBefore w p i + rate w p))
   share-in-two-slots i y pos b l = go (lt-or-ge y (rate w p))
     where
       go : (y < rate w p) ⊎ (rate w p ≤ y) →
-          shareUpTo w p i y ≡ min (takeOf w i (p .first)) (y - offset w p i) + min (takeOf w i (p .first)) (y - (offset w p i + rate w p))
+          shareUpTo w p i y ≡ min (takeOf w i (p .first)) (y - unitsBefore w p i) + min (takeOf w i (p .first)) (y - (unitsBefore w p i + rate w p))
       go (inl g) = omega (arith, share-in-slot i y g)
       go (inr g) =
           let q : y - rate w p + rate w p ≡ y = omega arith in
-          let first : min (takeOf w i (p .first)) (y - offset w p i) ≡ takeOf w i (p .first) = omega (arith, offset-within-rate i l) in
-          let second : y - (offset w p i + rate w p) ≡ y - rate w p - offset w p i = omega arith in
+          let first : min (takeOf w i (p .first)) (y - unitsBefore w p i) ≡ takeOf w i (p .first) = omega (arith, units-within-rate i l) in
+          let second : y - (unitsBefore w p i + rate w p) ≡ y - rate w p - unitsBefore w p i = omega arith in
           let inside : y - rate w p < rate w p = omega arith in
           rw (first, second, ← share-in-slot i (y - rate w p) inside, add-comm (takeOf w i (p .first)) (shareUpTo w p i (y - rate w p)))
           (sym (ap (shareUpTo w p i) q) ∙ share-up-to-round i (y - rate w p) pos)
 
   -- without division: the n units from number o = x % rate on, against the job's units in this slot of the run and in the next
   pub share-overlap : (i x n : ℕ) → 0 < rate w p → x + n ≤ work w p → n ≤ rate w p → i < jobCount w →
-      share w p i x n ≡ min (x % rate w p + n) (offset w p i + takeOf w i (p .first)) - max (x % rate w p) (offset w p i) +
-      (min (x % rate w p + n) (offset w p i + rate w p + takeOf w i (p .first)) - max (x % rate w p) (offset w p i + rate w p))
+      share w p i x n ≡ min (x % rate w p + n) (unitsBefore w p i + takeOf w i (p .first)) - max (x % rate w p) (unitsBefore w p i) +
+      (min (x % rate w p + n) (unitsBefore w p i + rate w p + takeOf w i (p .first)) - max (x % rate w p) (unitsBefore w p i + rate w p))
   share-overlap i x n pos h m l =
       let q : x / rate w p * rate w p + x % rate w p ≡ x = omega (arith, div-add-mod' x (rate w p)) in
       let q′ : x / rate w p * rate w p + (x % rate w p + n) ≡ x + n = omega arith in
@@ -319,6 +319,6 @@ module _ (w : Flow) (p : PseudoJob) where
         ap (shareUpTo w p i) q′,
         share-in-two-slots i (x % rate w p) pos (omega (arith, mod-lt x pos)) l,
         share-in-two-slots i (x % rate w p + n) pos (omega (arith, mod-lt x pos)) l,
-        overlap (x % rate w p) (x % rate w p + n) (offset w p i) (takeOf w i (p .first)) (omega arith),
-        overlap (x % rate w p) (x % rate w p + n) (offset w p i + rate w p) (takeOf w i (p .first)) (omega arith),
+        overlap (x % rate w p) (x % rate w p + n) (unitsBefore w p i) (takeOf w i (p .first)) (omega arith),
+        overlap (x % rate w p) (x % rate w p + n) (unitsBefore w p i + rate w p) (takeOf w i (p .first)) (omega arith),
       )
