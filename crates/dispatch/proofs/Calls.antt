@@ -32,7 +32,7 @@ use Rattle.rules.proofs.Rows.ListOrder.{list-length}
 use Rattle.rules.proofs.Demands.AcceptsExactly.{call-accepts}
 use Rattle.rules.proofs.Demands.Dispatches.{check-reads, dispatches}
 use Rattle.dispatch.specs.Merge.{Accepted, acceptedRows, InUse}
-use Rattle.dispatch.specs.Call.{headBytes}
+use Rattle.dispatch.specs.Call.{listHeadBytes}
 use Rattle.dispatch.proofs.Tables.{rows-fill}
 
 -- ---- the check's number 0
@@ -80,8 +80,8 @@ module _ (book table : List ℕ) (accepted : Accepted book table) where
   size-of-list flows e = omega (arith, rows-fill book table accepted)
 
 -- head and rows, stored one after the other
-pub head-stores : (s : List ℕ) (n processors : ℕ) → sets (set (sets s 0 (bytesOf 4 n)) 4 1) 5 (bytesOf 2 processors) ≡ sets s 0 (headBytes n processors)
-unfolding bytesOf headBytes
+pub head-stores : (s : List ℕ) (n processors : ℕ) → sets (set (sets s 0 (bytesOf 4 n)) 4 1) 5 (bytesOf 2 processors) ≡ sets s 0 (listHeadBytes n processors)
+unfolding bytesOf listHeadBytes
 head-stores s n processors = simp (towards-suc, div-one)
 
 pub list-length-is : (rows : List Row) → listLength rows ≡ 7 + 6 * length rows
@@ -89,8 +89,8 @@ unfolding listLength
 list-length-is rows = refl
 
 pub list-stores : (b : Book) (rows : List Row) (out : List ℕ) (size : ℕ) → size ≡ listLength rows → size ≤ length out →
-    sets (sets out 0 (headBytes size (b .processors))) 7 (rowsBytes (listRows rows)) ≡ listBytes b rows ++ drop size out
-unfolding headBytes listBytes
+    sets (sets out 0 (listHeadBytes size (b .processors))) 7 (rowsBytes (listRows rows)) ≡ listBytes b rows ++ drop size out
+unfolding listHeadBytes listBytes
 list-stores b rows out size e room =
     let head = bytesOf 4 size ++ bytesOf 1 1 ++ bytesOf 2 (b .processors) in
     let seven : length head ≡ 7 = simp (length-append, bytes-length) in

@@ -17,7 +17,7 @@ use Rattle.rules.specs.Fields.{byte, field}
 use Rattle.rules.proofs.Laws.Walks.{last-or, list-length}
 use Rattle.rules.proofs.Laws.Division.{lt-or-ge}
 use Rattle.rules.proofs.Laws.Fields.{sets-append}
-use Rattle.dispatch.specs.Runs.{part, dueAt, WholeRows, RunOf, RunTo, Room, Copied, RunCopied}
+use Rattle.dispatch.specs.Runs.{part, dueAt, WholeRows, RunOf, RunTo, RunAsked, Copied, RunCopied}
 
 -- ---- parts
 list-split : {A : Type 0} (g : ℕ → A) (m n s : ℕ) → listFrom g (m + n) s ≡ listFrom g m s ++ listFrom g n (s + m)
@@ -171,7 +171,7 @@ pub copied-length : {s : List ℕ} {flow slot from to at : ℕ} {out out′ : Li
 copied-length {s} {from = from} {to = to} {at = at} {out = out} p = ap length (p .copied) ∙ length-sets out to (part s from (at - from))
 
 -- ---- room for a run
-module _ (s : List ℕ) (flow slot from to size : ℕ) (p : Room s flow slot from to size) where
+module _ (s : List ℕ) (flow slot from to size : ℕ) (p : RunAsked s flow slot from to size) where
   -- a run stays inside the table
   pub run-inside : (at : ℕ) → RunTo s flow slot from at → at ≤ length s
   unfolding RunOf
@@ -184,7 +184,7 @@ module _ (s : List ℕ) (flow slot from to size : ℕ) (p : Room s flow slot fro
           omega (arith, r .at-is, p .rows .whole n i)
 
   -- and behind its first rows there is room for the rest
-  pub room-after : (at next : ℕ) → next ≡ to + (at - from) → RunTo s flow slot from at → Room s flow slot at next size
+  pub room-after : (at next : ℕ) → next ≡ to + (at - from) → RunTo s flow slot from at → RunAsked s flow slot at next size
   room-after at next is r = record {
     rows = run-whole s flow slot from at (p .rows) r;
     inside = run-inside at r;
@@ -236,7 +236,7 @@ module _ (s : List ℕ) (flow slot from to : ℕ) (out₀ : List ℕ) where
             ∙ copies-append out₀ s to from done n;
       }
 
-  module _ (p : Room s flow slot from to (length out₀)) {out : List ℕ} {done : ℕ} (g : Going s flow slot from to out₀ out done) where
+  module _ (p : RunAsked s flow slot from to (length out₀)) {out : List ℕ} {done : ℕ} (g : Going s flow slot from to out₀ out done) where
     pub going-inside : from + done ≤ length s
     going-inside = run-inside s flow slot from to (length out₀) p (from + done) (g .reaches)
 

@@ -11,8 +11,8 @@ use Rattle.rules.specs.Dispatch.{DispatchOutcome, listLength}
 use Rattle.dispatch.specs.Merge.{Accepted, acceptedRows, InUse}
 
 -- "length (4), version 1 (1), P (2)" (02, Req 03)
-unfoldable pub headBytes : ℕ → ℕ → List ℕ
-headBytes bytes processors = bytesOf 4 bytes ++ bytesOf 1 1 ++ bytesOf 2 processors
+unfoldable pub listHeadBytes : ℕ → ℕ → List ℕ
+listHeadBytes bytes processors = bytesOf 4 bytes ++ bytesOf 1 1 ++ bytesOf 2 processors
 
 -- what writing the list of an accepted table asks: the area as the check leaves it, the book's flows, and an output in which the list, whose length four
 -- bytes can hold, has room

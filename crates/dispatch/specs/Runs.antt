@@ -37,7 +37,7 @@ pub record Run (s : List ℕ) (flow slot from end : ℕ) : Type 0 where
 
 -- what copying a run asks: whole rows from `from` on in a table whose length four bytes can hold, what stands between two rows of the run belongs to it, and
 -- there is room for the run, however long it is
-pub record Room (s : List ℕ) (flow slot from to size : ℕ) : Type 0 where
+pub record RunAsked (s : List ℕ) (flow slot from to size : ℕ) : Type 0 where
   pub rows : WholeRows s from
   pub inside : from ≤ length s
   pub short : length s < 4294967296

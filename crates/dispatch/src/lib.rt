@@ -8,7 +8,7 @@ ghost use Rattle.rules.specs.Answers.{listRefused};
 ghost use Rattle.rules.specs.Reading.{bookOf};
 ghost use Rattle.rules.specs.Dispatch.{listBytes, listOutcome, dispatchCall};
 ghost use Rattle.dispatch.specs.Merge.{Accepted, acceptedRows, InUse};
-ghost use Rattle.dispatch.specs.Call.{headBytes, ListAsked, Leaves};
+ghost use Rattle.dispatch.specs.Call.{listHeadBytes, ListAsked, Leaves};
 use book::bytes;
 use rules::ListAnswer;
 
@@ -30,7 +30,7 @@ pub fn refusal(number: u8, flow: u8, job: u8) -> ListAnswer
 // The head of a list: its whole length, version and processors.
 pub fn put_head(out: &mut [u8], size: u32, processors: u16)
     requires { ⌜ 7 ≤ length (now out) ⌝ }
-    ensures { λ _. ⌜ now (out .exit) ≡ sets (now (out .entry)) 0 (headBytes size processors) ⌝ }
+    ensures { λ _. ⌜ now (out .exit) ≡ sets (now (out .entry)) 0 (listHeadBytes size processors) ⌝ }
 {
     bytes::write32(out, 0, size);
     out[4] = 1;

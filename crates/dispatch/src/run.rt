@@ -3,7 +3,7 @@ ghost use mathlib.Core.Path.{_≡_};
 ghost use Prim.Native.Nat.{_+_, _%_, _<_, _≤_};
 ghost use lib.ListN.{length};
 ghost use lib.Seq.{sets};
-ghost use Rattle.dispatch.specs.Runs.{part, dueAt, WholeRows, Room, BlocksCopied, SomeCopied, RunCopied};
+ghost use Rattle.dispatch.specs.Runs.{part, dueAt, WholeRows, RunAsked, BlocksCopied, SomeCopied, RunCopied};
 use book::bytes;
 
 // The slot of the row at `at`, where it is one of this flow; 65,535 where it is not, or where the table ends.
@@ -60,7 +60,7 @@ pub fn copy_blocks(
     flow: u8,
     slot: u16,
 ) -> usize
-    requires { ⌜ Room (now table) flow slot from to (length (now out)) ⌝ }
+    requires { ⌜ RunAsked (now table) flow slot from to (length (now out)) ⌝ }
     ensures { λ at. ⌜ BlocksCopied (now (table .entry)) flow slot from to (now (out .entry)) (now (out .exit)) at ⌝ }
 {
     let mut done: usize = 0;
@@ -81,7 +81,7 @@ pub fn copy_some(
     slot: u16,
     most: usize,
 ) -> usize
-    requires { ⌜ Room (now table) flow slot from to (length (now out)) × (most % 6 ≡ 0) ⌝ }
+    requires { ⌜ RunAsked (now table) flow slot from to (length (now out)) × (most % 6 ≡ 0) ⌝ }
     ensures { λ next. ⌜ SomeCopied most (now (table .entry)) flow slot from to (now (out .entry)) (now (out .exit)) next ⌝ }
 {
     let mut done: usize = 0;
@@ -97,7 +97,7 @@ pub fn copy_some(
 
 // A run that may be long: its blocks, then the fewer than sixteen rows that are left; the offset behind it in the table.
 pub fn copy_long(table: &[u8], out: &mut [u8], from: usize, to: usize, flow: u8, slot: u16) -> usize
-    requires { ⌜ Room (now table) flow slot from to (length (now out)) ⌝ }
+    requires { ⌜ RunAsked (now table) flow slot from to (length (now out)) ⌝ }
     ensures { λ next. ⌜ RunCopied (now (table .entry)) flow slot from to (now (out .entry)) (now (out .exit)) next ⌝ }
 {
     let at = copy_blocks(table, out, from, to, flow, slot);
@@ -114,7 +114,7 @@ pub fn copy_run(
     slot: u16,
     jobs: u8,
 ) -> usize
-    requires { ⌜ Room (now table) flow slot from to (length (now out)) ⌝ }
+    requires { ⌜ RunAsked (now table) flow slot from to (length (now out)) ⌝ }
     ensures { λ next. ⌜ RunCopied (now (table .entry)) flow slot from to (now (out .entry)) (now (out .exit)) next ⌝ }
 {
     if 16 <= jobs {

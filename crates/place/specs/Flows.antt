@@ -103,7 +103,7 @@ abbrev pub OffsetIf : Bool → ℕ → ℕ → Type 0
 OffsetIf listed offset held = listed ≡ true → offset ≡ held
 
 -- the offsets of rows that are put fit a number; where none are put, no output is lent
-pub record Room (listed : Bool) (lent last : ℕ) : Type 0 where
+pub record OutputRoom (listed : Bool) (lent last : ℕ) : Type 0 where
   pub offsets : listed ≡ true → last < 4294967296
   pub nothing-lent : listed ≡ false → lent ≡ 0
 

@@ -9,7 +9,7 @@ ghost use Rattle.rules.specs.Reading.{bookOf};
 ghost use Rattle.rules.specs.Rows.{Row, rowFor, usedIn, workUsed};
 ghost use Rattle.book.specs.Promise.{FlowStands};
 ghost use Rattle.rules.specs.Book.{flowOf};
-ghost use Rattle.place.specs.Flows.{SlotServed, RunAnswer, SlotUsed, RunUsed, Room, RunGoes, FlowHeld, FlowPlaced};
+ghost use Rattle.place.specs.Flows.{SlotServed, RunAnswer, SlotUsed, RunUsed, OutputRoom, RunGoes, FlowHeld, FlowPlaced};
 ghost use Rattle.place.specs.Output.{Put};
 ghost use Rattle.place.specs.Service.{InService, PartsHeld, Serving, currentFlow, pseudoJob, Packs, packedRow, packedRows, jobRows, overlaps};
 use book::bytes;
@@ -335,7 +335,7 @@ pub fn run_as(
     from: usize,
     limit: usize,
 ) -> Placed
-    requires { ⌜ PartsHeld (now book) c (now names) (now takes) × (c .parts ≤ length (now rows)) × (workBytes ≤ length (now area)) × (from ≤ limit) × (limit ≤ 8192) × Room listed (length (now out)) (at + 384 * (8192 - from)) ⌝ }
+    requires { ⌜ PartsHeld (now book) c (now names) (now takes) × (c .parts ≤ length (now rows)) × (workBytes ≤ length (now area)) × (from ≤ limit) × (limit ≤ 8192) × OutputRoom listed (length (now out)) (at + 384 * (8192 - from)) ⌝ }
     ensures { λ r. ⌜ RunGoes listed (now (book .entry)) c from at limit (now (out .entry)) (now (area .entry)) (now (out .exit)) (now (area .exit)) r ⌝ }
 {
     if listed {
@@ -368,7 +368,7 @@ pub fn place_cuts(
     limit: usize,
     release: usize,
 ) -> Placed
-    requires { ⌜ FlowHeld (now book) f (now caps) (now starts) (now ends) (now lasts) (now firsts) count path × (count ≤ length (now names)) × (count ≤ length (now takes)) × (count ≤ length (now rows)) × (processors ≡ bookOf (now book) .processors) × (release ≡ flowOf (bookOf (now book)) f .release) × (release ≤ limit) × (limit ≤ 8192) × (workBytes ≤ length (now area)) × Room listed (length (now out)) (at + 3145728) ⌝ }
+    requires { ⌜ FlowHeld (now book) f (now caps) (now starts) (now ends) (now lasts) (now firsts) count path × (count ≤ length (now names)) × (count ≤ length (now takes)) × (count ≤ length (now rows)) × (processors ≡ bookOf (now book) .processors) × (release ≡ flowOf (bookOf (now book)) f .release) × (release ≤ limit) × (limit ≤ 8192) × (workBytes ≤ length (now area)) × OutputRoom listed (length (now out)) (at + 3145728) ⌝ }
     ensures { λ r. ⌜ ((rows : List Row) (bytes : List ℕ) → now (area .entry) ≡ workUsed slots rows bytes → ((t : ℕ) → usedIn rows t ≤ processors) → FlowPlaced listed (bookOf (now (book .entry))) f limit rows bytes (now (out .entry)) at (now (out .exit)) (now (area .exit)) r) ⌝ }
 {
     let mut from: usize = 0;
@@ -432,7 +432,7 @@ pub fn place_flow(
     processors: u16,
     limit: u16,
 ) -> Placed
-    requires { ⌜ FlowStands (now book) f records × (processors ≡ bookOf (now book) .processors) × (limit ≤ 8192) × (workBytes ≤ length (now area)) × Room listed (length (now out)) (at + 3145728) ⌝ }
+    requires { ⌜ FlowStands (now book) f records × (processors ≡ bookOf (now book) .processors) × (limit ≤ 8192) × (workBytes ≤ length (now area)) × OutputRoom listed (length (now out)) (at + 3145728) ⌝ }
     ensures { λ r. ⌜ ((rows : List Row) (bytes : List ℕ) → now (area .entry) ≡ workUsed slots rows bytes → ((t : ℕ) → usedIn rows t ≤ processors) → FlowPlaced listed (bookOf (now (book .entry))) f limit rows bytes (now (out .entry)) at (now (out .exit)) (now (area .exit)) r) ⌝ }
 {
     let mut sizes = [0u32; 64];

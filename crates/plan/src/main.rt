@@ -7,7 +7,7 @@ ghost use mathlib.Core.Path.{_≡_};
 ghost use Prim.Native.Nat.{_≤_};
 ghost use lib.ListN.{length};
 ghost use Rattle.rules.specs.Limits.{workBytes};
-ghost use Rattle.plan_text.specs.Put.{Put};
+ghost use Rattle.plan_text.specs.Put.{TextPut};
 ghost use Rattle.plan_text.specs.Printed.{lentBytes, textBytes, printed, Prints};
 use libc::STDERR_FILENO;
 use libc::STDOUT_FILENO;
@@ -35,7 +35,7 @@ fn plan_input(input: &[u8], output: &mut [u8], work: &mut [u8]) -> PlanAnswer
 // The text for an input.
 fn put_answer(input: &[u8], text: &mut [u8]) -> usize
     requires { ⌜ textBytes ≤ length (now text) ⌝ }
-    ensures { λ r. ⌜ (Put (now (text .entry)) 0 (printed (now (input .entry))) (now (text .exit)) r) × (r ≤ length (now (text .entry))) ⌝ }
+    ensures { λ r. ⌜ (TextPut (now (text .entry)) 0 (printed (now (input .entry))) (now (text .exit)) r) × (r ≤ length (now (text .entry))) ⌝ }
 {
     let mut table = io::large_buffer();
     let mut work = io::large_buffer();

@@ -14,9 +14,9 @@ use Rattle.rules.proofs.Laws.Walks.{join-last}
 use Rattle.rules.specs.Fields.{byte, field}
 use Rattle.rules.specs.Table.{rowAt}
 use Rattle.rules.specs.Text.{tableLine, finishLine, rowLine, refusalLine}
-use Rattle.plan_text.specs.Put.{Put, longestLine}
+use Rattle.plan_text.specs.Put.{TextPut, longestLine}
 use Rattle.plan_text.proofs.Pieces.{put-as, put-after, table-line-most, finish-line-most, row-line-most, refusal-line-most}
-use Rattle.plan_text.specs.Lines.{Stands, flowsIn, tableLineAt, tableLines, lineAt, lineCount, firstLines, textOf}
+use Rattle.plan_text.specs.Lines.{TableWithin, flowsIn, tableLineAt, tableLines, lineAt, lineCount, firstLines, textOf}
 
 -- the values read one by one are the row
 pub row-read : (s : List ℕ) (from slot processors : ℕ) → slot ≡ field 2 s from → processors ≡ field 2 s (from + 4) →
@@ -41,7 +41,7 @@ line-row table bytes late n flows e g =
     rw (ne-eqb n 0 (λ z. omega arith), lt-leb n (flowsIn table) (omega arith)) (ap (λ (f : ℕ). rowLine (rowAt table (8 + 2 * f + 6 * (n - (1 + f))))) e)
 
 -- the row of the last line lies within the table
-pub row-within : (table : List ℕ) (bytes n flows : ℕ) → Stands table bytes → flows ≡ flowsIn table → flows < n → n < tableLines table bytes →
+pub row-within : (table : List ℕ) (bytes n flows : ℕ) → TableWithin table bytes → flows ≡ flowsIn table → flows < n → n < tableLines table bytes →
     8 + 2 * flows + 6 * (n - (1 + flows)) + 6 ≤ length table
 unfolding tableLines
 row-within table bytes n flows s e g h = omega (arith, s .rows-after, s .within)
@@ -86,12 +86,12 @@ line-most table a n =
     either-most (eqb (a .number) 0) _ _ (table-most table (a .length) (a .late) n) (refusal-line-most (a .number) (a .flow) (a .job))
 
 -- ---- lines put one after the other
-pub text-none : (table : List ℕ) (a : PlanAnswer) {l : List ℕ} → Put l 0 (firstLines table a 0) l 0
+pub text-none : (table : List ℕ) (a : PlanAnswer) {l : List ℕ} → TextPut l 0 (firstLines table a 0) l 0
 unfolding joinFrom
 text-none table a = record { stored = refl; offset-after = refl }
 
 pub text-more : (table : List ℕ) (a : PlanAnswer) (n : ℕ) {l m r : List ℕ} {at next : ℕ} →
-    Put l 0 (firstLines table a n) m at → Put m at (lineAt table a n) r next → Put l 0 (firstLines table a (n + 1)) r next
+    TextPut l 0 (firstLines table a n) m at → TextPut m at (lineAt table a n) r next → TextPut l 0 (firstLines table a (n + 1)) r next
 text-more table a n p q =
     put-as (sym (join-last (λ k. lineAt table a k) n) ∙ ap (λ (k : ℕ). firstLines table a k) (sym (add-one n))) (put-after p q)
 

@@ -33,10 +33,10 @@ use Rattle.rules.specs.Text.{
 }
 use Rattle.rules.specs.Rows.{Row}
 use Rattle.rules.proofs.Laws.Fields.{sets-append}
-use Rattle.plan_text.specs.Put.{Put, pairLine, longestLine}
+use Rattle.plan_text.specs.Put.{TextPut, pairLine, longestLine}
 
 -- a piece put after another: both are one piece
-pub put-after : {l m r a b : List ℕ} {at k next : ℕ} → Put l at a m k → Put m k b r next → Put l at (a ++ b) r next
+pub put-after : {l m r a b : List ℕ} {at k next : ℕ} → TextPut l at a m k → TextPut m k b r next → TextPut l at (a ++ b) r next
 put-after {l} {m} {r} {a} {b} {at} {k} {next} p q = record {
   stored =
       q .stored ∙ ap (λ (x : List ℕ). sets x k b) (p .stored) ∙ ap (λ (n : ℕ). sets (sets l at a) n b) (p .offset-after) ∙ sets-append l at a b;
@@ -44,11 +44,11 @@ put-after {l} {m} {r} {a} {b} {at} {k} {next} p q = record {
 }
 
 -- a piece is its bytes, however they are written
-pub put-as : {l m a b : List ℕ} {at k : ℕ} → a ≡ b → Put l at a m k → Put l at b m k
-put-as {l} {m} {a} {b} {at} {k} e p = subst (λ (w : List ℕ). Put l at w m k) e p
+pub put-as : {l m a b : List ℕ} {at k : ℕ} → a ≡ b → TextPut l at a m k → TextPut l at b m k
+put-as {l} {m} {a} {b} {at} {k} e p = subst (λ (w : List ℕ). TextPut l at w m k) e p
 
 -- putting keeps the buffer's length
-pub put-length : {l m a : List ℕ} {at k : ℕ} → Put l at a m k → length m ≡ length l
+pub put-length : {l m a : List ℕ} {at k : ℕ} → TextPut l at a m k → length m ≡ length l
 put-length {l} {m} {a} {at} p = ap length (p .stored) ∙ length-sets l at a
 
 -- the stores of the first i + 1 bytes of a word: those of its first i, and the next
@@ -90,13 +90,13 @@ digits-more zero x h g = absurd (omega arith)
 digits-more (suc n) x h g = let e : suc n - 1 ≡ n = omega arith in rw (e, le-ltb x 10 g)
 
 -- a number below 2 ^ 32 has at most ten digits: where a word and its number end, and the buffer's length, kept
-pub number-room : (word : List ℕ) (x : ℕ) {l m : List ℕ} {at k : ℕ} → Put l at (word ++ decimal x) m k →
+pub number-room : (word : List ℕ) (x : ℕ) {l m : List ℕ} {at k : ℕ} → TextPut l at (word ++ decimal x) m k →
     (k ≤ at + (length word + 10)) × (length m ≡ length l)
 number-room word x p = (omega (arith, p .offset-after, length-append word (decimal x), digits-most 9 x), put-length p)
 
 -- ---- the lines, from their pieces
 pub put-pair-line : (first : List ℕ) (x : ℕ) (second : List ℕ) (y : ℕ) {l m n r : List ℕ} {at j k next : ℕ} →
-    Put l at (first ++ decimal x) m j → Put m j (second ++ decimal y) n k → Put n k wordEnd r next → Put l at (pairLine first x second y) r next
+    TextPut l at (first ++ decimal x) m j → TextPut m j (second ++ decimal y) n k → TextPut n k wordEnd r next → TextPut l at (pairLine first x second y) r next
 put-pair-line first x second y p q e = put-as (simp append-assoc) (put-after p (put-after q e))
 
 pub table-line : (bytes late : ℕ) → pairLine wordTable bytes wordLate late ≡ tableLine bytes late
@@ -108,13 +108,13 @@ unfolding finishLine
 finish-line flow finish = refl
 
 pub put-row : (row : Row) {l m n r : List ℕ} {at j k next : ℕ} →
-    Put l at (wordSlot ++ decimal (row .slot)) m j → Put m j (wordFlow ++ decimal (row .flow)) n k →
-    Put n k (pairLine wordJob (row .job) wordTake (row .processors)) r next → Put l at (rowLine row) r next
+    TextPut l at (wordSlot ++ decimal (row .slot)) m j → TextPut m j (wordFlow ++ decimal (row .flow)) n k →
+    TextPut n k (pairLine wordJob (row .job) wordTake (row .processors)) r next → TextPut l at (rowLine row) r next
 unfolding rowLine
 put-row row p q e = put-as (simp append-assoc) (put-after p (put-after q e))
 
 pub put-refusal : (number flow job : ℕ) {l m r : List ℕ} {at j next : ℕ} →
-    Put l at (wordRefused ++ decimal number) m j → Put m j (pairLine wordFlow flow wordJob job) r next → Put l at (refusalLine number flow job) r next
+    TextPut l at (wordRefused ++ decimal number) m j → TextPut m j (pairLine wordFlow flow wordJob job) r next → TextPut l at (refusalLine number flow job) r next
 unfolding refusalLine
 put-refusal number flow job p q = put-as (simp append-assoc) (put-after p q)
 

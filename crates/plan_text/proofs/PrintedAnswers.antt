@@ -25,7 +25,7 @@ use Rattle.rules.proofs.Reading.Passing.{read-in-range}
 use Rattle.rules.proofs.Tables.TableBytes.{table-bytes-length}
 use Rattle.rules.proofs.Demands.Refusals.{unread-numbered}
 use Rattle.plan_text.specs.Put.{longestLine}
-use Rattle.plan_text.specs.Lines.{Stands, tableLines, lineCount, lineAt, firstLines, textOf}
+use Rattle.plan_text.specs.Lines.{TableWithin, tableLines, lineCount, lineAt, firstLines, textOf}
 use Rattle.plan_text.specs.Printed.{Prints, lentBytes, textBytes, planText, outcomeText, readingText, printed}
 use Rattle.plan_text.proofs.LineCases.{line-of-refusal, count-of-refusal}
 use Rattle.plan_text.proofs.TableText.{flows-in, table-text}
@@ -56,7 +56,7 @@ module _ (b : Book) (range : InRange b) (rows : List Row) (e : plan b ≡ planne
   abbrev answer : PlanAnswer
   answer = planAccepted (lateFlows b rows) (tableLength b rows)
 
-  table-stands : Stands (tableBytes b rows) (tableLength b rows)
+  table-stands : TableWithin (tableBytes b rows) (tableLength b rows)
   unfolding tableLength
   table-stands = record {
     rows-after = omega (arith, flows-in b range rows e);

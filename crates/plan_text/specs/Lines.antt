@@ -19,7 +19,7 @@ abbrev pub rowsFrom : List ℕ → ℕ
 rowsFrom table = 8 + 2 * flowsIn table
 
 -- the head and the finishes lie within the stated bytes, and these within the output
-pub record Stands (table : List ℕ) (bytes : ℕ) : Type 0 where
+pub record TableWithin (table : List ℕ) (bytes : ℕ) : Type 0 where
   pub rows-after : rowsFrom table ≤ bytes
   pub within : bytes ≤ length table
 
@@ -42,7 +42,7 @@ lineAt table a n = if eqb (a .number) 0 then tableLineAt table (a .length) (a .l
 
 -- where the answer is a table, that table stands in the output
 abbrev pub AnswerStands : List ℕ → PlanAnswer → Type 0
-AnswerStands table a = a .number ≡ 0 → Stands table (a .length)
+AnswerStands table a = a .number ≡ 0 → TableWithin table (a .length)
 
 -- the first n lines of an answer, one after the other
 abbrev pub firstLines : List ℕ → PlanAnswer → ℕ → List ℕ

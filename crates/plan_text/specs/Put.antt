@@ -7,7 +7,7 @@ use lib.Seq.{sets}
 use Rattle.rules.specs.Text.{decimal, wordEnd}
 
 -- the buffer holds the piece from `at` on, and `next` is the offset after it
-pub record Put (before : List ℕ) (at : ℕ) (piece after : List ℕ) (next : ℕ) : Type 0 where
+pub record TextPut (before : List ℕ) (at : ℕ) (piece after : List ℕ) (next : ℕ) : Type 0 where
   pub stored : after ≡ sets before at piece
   pub offset-after : next ≡ at + length piece
 

@@ -13,12 +13,12 @@ ghost use Rattle.rules.specs.Text.{
   rowLine,
   refusalLine,
 };
-ghost use Rattle.plan_text.specs.Put.{Put, pairLine, longestLine};
+ghost use Rattle.plan_text.specs.Put.{TextPut, pairLine, longestLine};
 
 // The last digit of a number.
 pub fn put_digit(out: &mut [u8], at: usize, x: u32) -> usize
     requires { ⌜ at < length (now out) ⌝ }
-    ensures { λ r. ⌜ Put (now (out .entry)) at (digit x ∷ []) (now (out .exit)) r ⌝ }
+    ensures { λ r. ⌜ TextPut (now (out .entry)) at (digit x ∷ []) (now (out .exit)) r ⌝ }
 {
     out[at] = 48 + (x % 10) as u8;
     at + 1
@@ -27,7 +27,7 @@ pub fn put_digit(out: &mut [u8], at: usize, x: u32) -> usize
 // A number in at most n + 1 digits.
 pub fn put_digits(out: &mut [u8], at: usize, n: u8, x: u32) -> usize
     requires { ⌜ at + n < length (now out) ⌝ }
-    ensures { λ r. ⌜ Put (now (out .entry)) at (digitsOf n x) (now (out .exit)) r ⌝ }
+    ensures { λ r. ⌜ TextPut (now (out .entry)) at (digitsOf n x) (now (out .exit)) r ⌝ }
 {
     if n == 0 {
         return put_digit(out, at, x);
@@ -42,7 +42,7 @@ pub fn put_digits(out: &mut [u8], at: usize, n: u8, x: u32) -> usize
 // A word of a line.
 pub fn put_word(out: &mut [u8], at: usize, word: &[u8]) -> usize
     requires { ⌜ at + length (now word) ≤ length (now out) ⌝ }
-    ensures { λ r. ⌜ Put (now (out .entry)) at (now (word .entry)) (now (out .exit)) r ⌝ }
+    ensures { λ r. ⌜ TextPut (now (out .entry)) at (now (word .entry)) (now (out .exit)) r ⌝ }
 {
     let mut i: usize = 0;
     while i < word.len() {
@@ -55,7 +55,7 @@ pub fn put_word(out: &mut [u8], at: usize, word: &[u8]) -> usize
 // A number in decimal.
 pub fn put_decimal(out: &mut [u8], at: usize, x: u32) -> usize
     requires { ⌜ at + 10 ≤ length (now out) ⌝ }
-    ensures { λ r. ⌜ Put (now (out .entry)) at (decimal x) (now (out .exit)) r ⌝ }
+    ensures { λ r. ⌜ TextPut (now (out .entry)) at (decimal x) (now (out .exit)) r ⌝ }
 {
     put_digits(out, at, 9, x)
 }
@@ -63,7 +63,7 @@ pub fn put_decimal(out: &mut [u8], at: usize, x: u32) -> usize
 // A word and the number after it.
 pub fn put_number(out: &mut [u8], at: usize, word: &[u8], x: u32) -> usize
     requires { ⌜ at + (length (now word) + 10) ≤ length (now out) ⌝ }
-    ensures { λ r. ⌜ Put (now (out .entry)) at (now (word .entry) ++ decimal x) (now (out .exit)) r ⌝ }
+    ensures { λ r. ⌜ TextPut (now (out .entry)) at (now (word .entry) ++ decimal x) (now (out .exit)) r ⌝ }
 {
     let next = put_word(out, at, word);
     put_decimal(out, next, x)
@@ -72,7 +72,7 @@ pub fn put_number(out: &mut [u8], at: usize, word: &[u8], x: u32) -> usize
 // Two words, each with the number after it, and the end of the line.
 pub fn put_pair(out: &mut [u8], at: usize, first: &[u8], x: u32, second: &[u8], y: u32) -> usize
     requires { ⌜ at + (length (now first) + (length (now second) + 21)) ≤ length (now out) ⌝ }
-    ensures { λ r. ⌜ Put (now (out .entry)) at (pairLine (now (first .entry)) x (now (second .entry)) y) (now (out .exit)) r ⌝ }
+    ensures { λ r. ⌜ TextPut (now (out .entry)) at (pairLine (now (first .entry)) x (now (second .entry)) y) (now (out .exit)) r ⌝ }
 {
     let after_first = put_number(out, at, first, x);
     let after_second = put_number(out, after_first, second, y);
@@ -82,7 +82,7 @@ pub fn put_pair(out: &mut [u8], at: usize, first: &[u8], x: u32, second: &[u8], 
 // `table 66 late 2`
 pub fn put_table_line(out: &mut [u8], at: usize, bytes: u32, late: u8) -> usize
     requires { ⌜ at + longestLine ≤ length (now out) ⌝ }
-    ensures { λ r. ⌜ Put (now (out .entry)) at (tableLine bytes late) (now (out .exit)) r ⌝ }
+    ensures { λ r. ⌜ TextPut (now (out .entry)) at (tableLine bytes late) (now (out .exit)) r ⌝ }
 {
     put_pair(out, at, b"table ", bytes, b" late ", late as u32)
 }
@@ -90,7 +90,7 @@ pub fn put_table_line(out: &mut [u8], at: usize, bytes: u32, late: u8) -> usize
 // `finish 0 6`
 pub fn put_finish_line(out: &mut [u8], at: usize, flow: u8, finish: u16) -> usize
     requires { ⌜ at + longestLine ≤ length (now out) ⌝ }
-    ensures { λ r. ⌜ Put (now (out .entry)) at (finishLine flow finish) (now (out .exit)) r ⌝ }
+    ensures { λ r. ⌜ TextPut (now (out .entry)) at (finishLine flow finish) (now (out .exit)) r ⌝ }
 {
     put_pair(out, at, b"finish ", flow as u32, b" ", finish as u32)
 }
@@ -105,7 +105,7 @@ pub fn put_row_line(
     processors: u16,
 ) -> usize
     requires { ⌜ at + longestLine ≤ length (now out) ⌝ }
-    ensures { λ r. ⌜ Put (now (out .entry)) at (rowLine (record { slot = slot; flow = flow; job = job; processors = processors })) (now (out .exit)) r ⌝ }
+    ensures { λ r. ⌜ TextPut (now (out .entry)) at (rowLine (record { slot = slot; flow = flow; job = job; processors = processors })) (now (out .exit)) r ⌝ }
 {
     let after_slot = put_number(out, at, b"slot ", slot as u32);
     let after_flow = put_number(out, after_slot, b" flow ", flow as u32);
@@ -122,7 +122,7 @@ pub fn put_row_line(
 // `refused 12 flow 0 job 255`
 pub fn put_refusal_line(out: &mut [u8], at: usize, number: u8, flow: u8, job: u8) -> usize
     requires { ⌜ at + longestLine ≤ length (now out) ⌝ }
-    ensures { λ r. ⌜ Put (now (out .entry)) at (refusalLine number flow job) (now (out .exit)) r ⌝ }
+    ensures { λ r. ⌜ TextPut (now (out .entry)) at (refusalLine number flow job) (now (out .exit)) r ⌝ }
 {
     let after_number = put_number(out, at, b"refused ", number as u32);
     put_pair(

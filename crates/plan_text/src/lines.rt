@@ -4,8 +4,8 @@ ghost use Prim.Native.Nat.{_+_, _*_, _-_, _≤_, _<_};
 ghost use lib.ListN.{length};
 ghost use Rattle.rules.specs.Table.{rowAt};
 ghost use Rattle.rules.specs.Text.{rowLine};
-ghost use Rattle.plan_text.specs.Put.{Put, longestLine};
-ghost use Rattle.plan_text.specs.Lines.{Stands, AnswerStands, tableLines, tableLineAt, lineCount, lineAt, textOf};
+ghost use Rattle.plan_text.specs.Put.{TextPut, longestLine};
+ghost use Rattle.plan_text.specs.Lines.{TableWithin, AnswerStands, tableLines, tableLineAt, lineCount, lineAt, textOf};
 use book::bytes::read16;
 use book::bytes::wide;
 use rules::PlanAnswer;
@@ -13,7 +13,7 @@ use rules::PlanAnswer;
 // The line of the row that stands at `from`.
 pub fn put_row(out: &mut [u8], at: usize, table: &[u8], from: usize) -> usize
     requires { ⌜ (at + longestLine ≤ length (now out)) × (from + 6 ≤ length (now table)) ⌝ }
-    ensures { λ r. ⌜ Put (now (out .entry)) at (rowLine (rowAt (now (table .entry)) from)) (now (out .exit)) r ⌝ }
+    ensures { λ r. ⌜ TextPut (now (out .entry)) at (rowLine (rowAt (now (table .entry)) from)) (now (out .exit)) r ⌝ }
 {
     let slot = read16(table, from);
     let flow = table[from + 2];
@@ -24,8 +24,8 @@ pub fn put_row(out: &mut [u8], at: usize, table: &[u8], from: usize) -> usize
 
 // Line n of a table of so many bytes.
 pub fn put_table(out: &mut [u8], at: usize, table: &[u8], bytes: u32, late: u8, n: usize) -> usize
-    requires { ⌜ (at + longestLine ≤ length (now out)) × (Stands (now table) bytes) × (n < tableLines (now table) bytes) ⌝ }
-    ensures { λ r. ⌜ Put (now (out .entry)) at (tableLineAt (now (table .entry)) bytes late n) (now (out .exit)) r ⌝ }
+    requires { ⌜ (at + longestLine ≤ length (now out)) × (TableWithin (now table) bytes) × (n < tableLines (now table) bytes) ⌝ }
+    ensures { λ r. ⌜ TextPut (now (out .entry)) at (tableLineAt (now (table .entry)) bytes late n) (now (out .exit)) r ⌝ }
 {
     if n == 0 {
         return super::put_table_line(out, at, bytes, late);
@@ -52,7 +52,7 @@ pub fn line_count(table: &[u8], answer: PlanAnswer) -> usize
 // Line n of an answer.
 pub fn put_line(out: &mut [u8], at: usize, table: &[u8], answer: PlanAnswer, n: usize) -> usize
     requires { ⌜ (at + longestLine ≤ length (now out)) × (AnswerStands (now table) answer) × (n < lineCount (now table) answer) ⌝ }
-    ensures { λ r. ⌜ Put (now (out .entry)) at (lineAt (now (table .entry)) answer n) (now (out .exit)) r ⌝ }
+    ensures { λ r. ⌜ TextPut (now (out .entry)) at (lineAt (now (table .entry)) answer n) (now (out .exit)) r ⌝ }
 {
     if answer.number == 0 {
         return put_table(out, at, table, answer.length, answer.late, n);
@@ -63,7 +63,7 @@ pub fn put_line(out: &mut [u8], at: usize, table: &[u8], answer: PlanAnswer, n: 
 // The whole text of an answer.
 pub fn put_text(out: &mut [u8], table: &[u8], answer: PlanAnswer) -> usize
     requires { ⌜ (AnswerStands (now table) answer) × (longestLine * lineCount (now table) answer ≤ length (now out)) ⌝ }
-    ensures { λ r. ⌜ (Put (now (out .entry)) 0 (textOf (now (table .entry)) answer) (now (out .exit)) r) × (r ≤ length (now (out .entry))) ⌝ }
+    ensures { λ r. ⌜ (TextPut (now (out .entry)) 0 (textOf (now (table .entry)) answer) (now (out .exit)) r) × (r ≤ length (now (out .entry))) ⌝ }
 {
     let end = line_count(table, answer);
     let mut at: usize = 0;

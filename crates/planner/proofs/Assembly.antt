@@ -19,7 +19,7 @@ use Rattle.rules.proofs.Laws.Fields.{bytes-length, join-bytes-length, sets-appe
 use Rattle.rules.proofs.Tables.TableBytes.{row-bytes-length, rows-bytes-length}
 use Rattle.rules.proofs.Rows.WorkArea.{sets-between}
 use Rattle.place.specs.Output.{putRow, putRows}
-use Rattle.planner.specs.Head.{headBytes, finishBytes}
+use Rattle.planner.specs.Head.{tableHeadBytes, finishBytes}
 
 -- ---- rows
 -- rows that all fit are their bytes, stored
@@ -35,8 +35,8 @@ put-all-fit out at (r ∷ rs) h =
     ∙ sets-append out at (rowBytes r) (rowsBytes rs))
 
 -- ---- head and finishes
-pub head-length : (n processors flows : ℕ) → length (headBytes n processors flows) ≡ 8
-unfolding headBytes bytesOf
+pub head-length : (n processors flows : ℕ) → length (tableHeadBytes n processors flows) ≡ 8
+unfolding tableHeadBytes bytesOf
 head-length n processors flows = refl
 
 pub finishes-length : (finishes : List ℕ) (n : ℕ) → length (finishBytes finishes n) ≡ 2 * n
@@ -45,8 +45,8 @@ finishes-length finishes n = join-bytes-length (λ f. bytesOf 2 (getD finishes f
 
 -- length, version, processors and flows, stored in turn
 pub head-stores : (s : List ℕ) (n processors flows : ℕ) → flows < 256 →
-    set (sets (set (sets s 0 (bytesOf 4 n)) 4 1) 5 (bytesOf 2 processors)) 7 flows ≡ sets s 0 (headBytes n processors flows)
-unfolding bytesOf headBytes
+    set (sets (set (sets s 0 (bytesOf 4 n)) 4 1) 5 (bytesOf 2 processors)) 7 flows ≡ sets s 0 (tableHeadBytes n processors flows)
+unfolding bytesOf tableHeadBytes
 head-stores s n processors flows h = simp (towards-suc, div-one, mod-eq-of-lt h)
 
 -- no finish, and one finish more
@@ -88,11 +88,11 @@ finishes-of finishes b rows e = join-ext _ _ (flowCount b) 0 (λ k l. let z : 0 
 -- rows, finishes and head, stored in an output that has room, are the table; past it the output is as it was
 pub table-stored : (out finishes : List ℕ) (b : Book) (rows : List Row) → tableLength b rows ≤ length out →
     ((f : ℕ) → f < flowCount b → getD finishes f 0 ≡ finishOf rows f) →
-    sets (sets (putRows out (tableHead b) rows) 8 (finishBytes finishes (flowCount b))) 0 (headBytes (tableLength b rows) (b .processors) (flowCount b))
+    sets (sets (putRows out (tableHead b) rows) 8 (finishBytes finishes (flowCount b))) 0 (tableHeadBytes (tableLength b rows) (b .processors) (flowCount b))
     ≡ tableBytes b rows ++ drop (tableLength b rows) out
-unfolding tableLength tableBytes headBytes
+unfolding tableLength tableBytes tableHeadBytes
 table-stored out finishes b rows l e =
-    let h = headBytes (tableLength b rows) (b .processors) (flowCount b) in
+    let h = tableHeadBytes (tableLength b rows) (b .processors) (flowCount b) in
     let f = finishBytes finishes (flowCount b) in
     let r = rowsBytes rows in
     let lh : length h ≡ 8 = head-length (tableLength b rows) (b .processors) (flowCount b) in

@@ -28,7 +28,7 @@ use Rattle.planner.specs.declared.Whole.{Whole}
 use Rattle.planner.specs.declared.Ended.{Ended}
 use Rattle.planner.specs.declared.Ended.the-variants.{Planned, Infeasible}
 use Rattle.planner.specs.Call.{Leaves, planOf, Counted, Sized}
-use Rattle.planner.specs.Head.{headBytes, finishBytes}
+use Rattle.planner.specs.Head.{tableHeadBytes, finishBytes}
 use Rattle.book.specs.Late.{lateCount}
 use Rattle.place.specs.Output.{putRows}
 use Rattle.place.specs.Order.{InOrder, Asked}
@@ -79,7 +79,7 @@ leaves o answer output area e answer′ output′ area′ p q r = record {
   area-left = r ∙ sym (ap (λ (x : PlanOutcome). x .area) e);
 }
 
-head-same : (m n p q f g : ℕ) → m ≡ n → p ≡ q → f ≡ g → headBytes m p f ≡ headBytes n q g
+head-same : (m n p q f g : ℕ) → m ≡ n → p ≡ q → f ≡ g → tableHeadBytes m p f ≡ tableHeadBytes n q g
 head-same m n p q f g d e h = rw (d, e, h) refl
 
 pub leaves-passing : (s calendar out area : List ℕ) (c : Calendar) → bookFault s ≡ Pass → calendarFault calendar ≡ Pass → c ≡ calendarOf calendar →
@@ -105,13 +105,13 @@ module _ (s : List ℕ) (c : Calendar) (x : Index) (order : List ℕ) (size : �
   -- rows, finishes and head are written
   pub leaves-written : (out₁ out₂ out₃ area′ : List ℕ) (r : Whole) (late : ℕ) → size ≤ length out →
       FirstPlaced (withCalendar c (bookOf s)) (x .flows) out area out₁ area′ r → out₂ ≡ sets out₁ 8 (finishBytes (r .finish) (x .flows)) →
-      out₃ ≡ sets out₂ 0 (headBytes size (x .processors) (x .flows)) → late ≡ lateCount (x .deadlines) (r .finish) (x .flows) →
+      out₃ ≡ sets out₂ 0 (tableHeadBytes size (x .processors) (x .flows)) → late ≡ lateCount (x .deadlines) (r .finish) (x .flows) →
       Leaves (planOf c s out area) (planAccepted late size) out₃ area′
   unfolding plan
   leaves-written out₁ out₂ out₃ area′ r late l f e₂ e₃ d =
       leaves _ _ _ _ (outcome-written b out area rows (z .planned-rows) room) (planAccepted late size) out₃ area′
       (ap₂ planAccepted (d ∙ ap (lateCount (x .deadlines) (r .finish)) q ∙ late-of) (z .size-of))
-      (e₃ ∙ ap (λ (o : List ℕ). sets o 0 (headBytes size (x .processors) (x .flows))) (e₂ ∙ ap (λ (o : List ℕ). sets o 8 (finishBytes (r .finish) (x .flows))) (p .put .output))
+      (e₃ ∙ ap (λ (o : List ℕ). sets o 0 (tableHeadBytes size (x .processors) (x .flows))) (e₂ ∙ ap (λ (o : List ℕ). sets o 8 (finishBytes (r .finish) (x .flows))) (p .put .output))
       ∙ ap₂ (λ (n : ℕ) (h : List ℕ). sets (sets (putRows out (tableHead b) rows) 8 (finishBytes (r .finish) n)) 0 h) q (head-same size (tableLength b rows) (x .processors) (b .processors) (x .flows) (flowCount b) (z .size-of) (a .indexed .processors) q)
       ∙ table-stored out (r .finish) b rows room (p .finish))
       (f .area-used rows all)

@@ -6,8 +6,8 @@ use Rattle.rules.specs.Walks.{joinFrom}
 use Rattle.rules.specs.Fields.{bytesOf}
 
 -- "length of the whole table (4), version = 1 (1), P (2), flows (1)"
-unfoldable pub headBytes : ℕ → ℕ → ℕ → List ℕ
-headBytes bytes processors flows = bytesOf 4 bytes ++ bytesOf 1 1 ++ bytesOf 2 processors ++ bytesOf 1 flows
+unfoldable pub tableHeadBytes : ℕ → ℕ → ℕ → List ℕ
+tableHeadBytes bytes processors flows = bytesOf 4 bytes ++ bytesOf 1 1 ++ bytesOf 2 processors ++ bytesOf 1 flows
 
 -- "the finish of each flow in book order (2 each)"
 unfoldable pub finishBytes : List ℕ → ℕ → List ℕ

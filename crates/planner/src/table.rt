@@ -3,13 +3,13 @@ ghost use mathlib.Core.Path.{_≡_};
 ghost use Prim.Native.Nat.{_+_, _*_, _≤_};
 ghost use lib.ListN.{length};
 ghost use lib.Seq.{sets};
-ghost use Rattle.planner.specs.Head.{headBytes, finishBytes};
+ghost use Rattle.planner.specs.Head.{tableHeadBytes, finishBytes};
 use book::bytes;
 
 // The head of a table: its whole length, version, processors and flows.
 pub fn put_head(out: &mut [u8], size: u32, processors: u16, flows: u8)
     requires { ⌜ 8 ≤ length (now out) ⌝ }
-    ensures { λ _. ⌜ now (out .exit) ≡ sets (now (out .entry)) 0 (headBytes size processors flows) ⌝ }
+    ensures { λ _. ⌜ now (out .exit) ≡ sets (now (out .entry)) 0 (tableHeadBytes size processors flows) ⌝ }
 {
     bytes::write32(out, 0, size);
     out[4] = 1;

@@ -9,7 +9,7 @@ use Rattle.rules.specs.Table.{rowsBytes}
 use Rattle.rules.specs.Dispatch.{listRows}
 use Rattle.book.proofs.Served.{index-deadlines}
 use Rattle.dispatch.specs.Merge.{acceptedRows}
-use Rattle.dispatch.specs.Call.{headBytes}
+use Rattle.dispatch.specs.Call.{listHeadBytes}
 use Rattle.dispatch.proofs.Calls.{list-length-is, list-stores}
 use borrow.Author.Needs.{needs}
 use native.Mathlib.Omega.{arith}
@@ -72,7 +72,7 @@ merge-requires c κs =
     let a = s .args in
     let x = c .before .before .before .before .before .before .before .before .before .before .before .before .before .before .before .before .index-of .result in
     let long : length (x .jobs) ≡ 64 = search (needs, c .before .before .before .before .before .before .before .before .before .before .before .before .before .before .before .before .index-of) in
-    let kept = ap length (c .before .before .before .before .before .before .put-head .ensures) ∙ length-sets (a .out .now) 0 (headBytes (a .size) (x .processors)) in (
+    let kept = ap length (c .before .before .before .before .before .before .put-head .ensures) ∙ length-sets (a .out .now) 0 (listHeadBytes (a .size) (x .processors)) in (
       record { accepted = s .pre .accepted; a-slot = omega arith; cursors = c .before .before .before .before .before .before .before .before .before .before .start-cursors .ensures },
       long,
       s .pre .in-use,
@@ -91,7 +91,7 @@ returns c =
     let rows = acceptedRows (a .book .now) (a .table .now) in
     c .before .before .before .before .merge .ensures
     ∙ ap (λ (o : List ℕ). sets o 7 (rowsBytes (listRows rows))) (c .before .before .before .before .before .before .before .before .before .before .before .put-head .ensures)
-    ∙ ap (λ (p : ℕ). sets (sets (a .out .now) 0 (headBytes (a .size) p)) 7 (rowsBytes (listRows rows))) (c .before .before .before .before .before .before .before .before .before .before .before .before .before .before .before .before .before .before .before .before .before .index-of .ensures .processors)
+    ∙ ap (λ (p : ℕ). sets (sets (a .out .now) 0 (listHeadBytes (a .size) p)) 7 (rowsBytes (listRows rows))) (c .before .before .before .before .before .before .before .before .before .before .before .before .before .before .before .before .before .before .before .before .before .index-of .ensures .processors)
     ∙ list-stores (bookOf (a .book .now)) rows (a .out .now) (a .size) (s .pre .size-is) (s .pre .has-room)
 
 pub write-list-spec : {M : Type 1} → statement M

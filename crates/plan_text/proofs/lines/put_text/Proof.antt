@@ -5,7 +5,7 @@ use borrow.Author.Needs.{needs}
 use native.Mathlib.Omega.{arith}
 use mathlib.Core.Path.{_≡_, refl}
 use lib.ListN.{length}
-use Rattle.plan_text.specs.Put.{Put}
+use Rattle.plan_text.specs.Put.{TextPut}
 use Rattle.plan_text.specs.Lines.{firstLines}
 use Rattle.plan_text.proofs.Pieces.{put-as, put-length}
 use Rattle.plan_text.proofs.LineCases.{line-most, text-none, text-more, text-whole}
@@ -14,7 +14,7 @@ use Rattle.plan_text.proofs.lines.put_text.Tie as tie
 
 abbrev Inv-loop : tie.InvT-loop
 Inv-loop out₀ table answer end at₀ n₀ out at n =
-    (n ≤ end) × (at ≤ 64 * n) × (length out ≡ length out₀) × Put out₀ 0 (firstLines table answer n) out at
+    (n ≤ end) × (at ≤ 64 * n) × (length out ≡ length out₀) × TextPut out₀ 0 (firstLines table answer n) out at
 
 abbrev μ-loop : tie.MeasureT-loop
 μ-loop out₀ table answer end at₀ n₀ out at n =
