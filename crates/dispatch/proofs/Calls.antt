@@ -21,7 +21,7 @@ use Rattle.rules.specs.Reading.{read, readBook, bookOf, bookWith}
 use Rattle.rules.specs.Rows.{Row, usedIn, workUsed, workZero}
 use Rattle.rules.specs.Table.{rowsBytes}
 use Rattle.rules.specs.Check.{tableFault, CheckOutcome, checkOutcome, checkCall}
-use Rattle.rules.specs.Dispatch.{listRows, listLength, listBytes, listOutcome, dispatchChecked, dispatchCall}
+use Rattle.rules.specs.Dispatch.{inListOrder, listLength, listBytes, listOutcome, dispatchChecked, dispatchCall}
 use Rattle.rules.proofs.Laws.Fields.{bytes-length, sets-append}
 use Rattle.rules.proofs.Reading.Passing.{calendar-of-book, read-passes}
 use Rattle.rules.proofs.Reading.SameUse.{with-same, rows-same}
@@ -89,19 +89,19 @@ unfolding listLength
 list-length-is rows = refl
 
 pub list-stores : (b : Book) (rows : List Row) (out : List ℕ) (size : ℕ) → size ≡ listLength rows → size ≤ length out →
-    sets (sets out 0 (listHeadBytes size (b .processors))) 7 (rowsBytes (listRows rows)) ≡ listBytes b rows ++ drop size out
+    sets (sets out 0 (listHeadBytes size (b .processors))) 7 (rowsBytes (inListOrder rows)) ≡ listBytes b rows ++ drop size out
 unfolding listHeadBytes listBytes
 list-stores b rows out size e room =
     let head = bytesOf 4 size ++ bytesOf 1 1 ++ bytesOf 2 (b .processors) in
     let seven : length head ≡ 7 = simp (length-append, bytes-length) in
-    let long : length (head ++ rowsBytes (listRows rows)) ≡ size =
-    length-append head (rowsBytes (listRows rows)) ∙ omega (arith, seven, rows-bytes-length (listRows rows), list-length rows, e ∙ list-length-is rows) in
+    let long : length (head ++ rowsBytes (inListOrder rows)) ≡ size =
+    length-append head (rowsBytes (inListOrder rows)) ∙ omega (arith, seven, rows-bytes-length (inListOrder rows), list-length rows, e ∙ list-length-is rows) in
     let n : 0 + length head ≡ 7 = omega (arith, seven) in
-    ap (λ (k : ℕ). sets (sets out 0 head) k (rowsBytes (listRows rows))) (sym n)
-    ∙ sets-append out 0 head (rowsBytes (listRows rows))
-    ∙ sets-eq (head ++ rowsBytes (listRows rows)) out 0 (omega (arith, long))
-    ∙ ap (λ (k : ℕ). head ++ rowsBytes (listRows rows) ++ drop k out) (let z : 0 + length (head ++ rowsBytes (listRows rows)) ≡ size = omega (arith, long) in z)
-    ∙ ap (λ (k : ℕ). bytesOf 4 k ++ bytesOf 1 1 ++ bytesOf 2 (b .processors) ++ rowsBytes (listRows rows) ++ drop size out) e
+    ap (λ (k : ℕ). sets (sets out 0 head) k (rowsBytes (inListOrder rows))) (sym n)
+    ∙ sets-append out 0 head (rowsBytes (inListOrder rows))
+    ∙ sets-eq (head ++ rowsBytes (inListOrder rows)) out 0 (omega (arith, long))
+    ∙ ap (λ (k : ℕ). head ++ rowsBytes (inListOrder rows) ++ drop k out) (let z : 0 + length (head ++ rowsBytes (inListOrder rows)) ≡ size = omega (arith, long) in z)
+    ∙ ap (λ (k : ℕ). bytesOf 4 k ++ bytesOf 1 1 ++ bytesOf 2 (b .processors) ++ rowsBytes (inListOrder rows) ++ drop size out) e
 
 -- ---- the outcome
 module _ (b : Book) (rows : List Row) (out area left : List ℕ) where

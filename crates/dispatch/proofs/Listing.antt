@@ -13,7 +13,7 @@ use Rattle.rules.specs.Book.{Book, flowCount}
 use Rattle.rules.specs.Reading.{bookOf}
 use Rattle.rules.specs.Rows.{Row}
 use Rattle.rules.specs.Check.{noRow}
-use Rattle.rules.specs.Dispatch.{listRows}
+use Rattle.rules.specs.Dispatch.{inListOrder}
 use Rattle.rules.proofs.Laws.Division.{lt-or-ge}
 use Rattle.rules.proofs.Laws.Walks.{join-last, join-split}
 use Rattle.rules.proofs.Rows.Rising.{_∈_, first-in, in-at, join-in, in-join, Rising, rising-join, rising-unique}
@@ -99,9 +99,9 @@ module _ (book table : List ℕ) (accepted : Accepted book table) where
   flows = flowCount b
 
   -- the slots one after the other are the list
-  pub all-listed : rowsBelow rows flows slots ≡ listRows rows
+  pub all-listed : rowsBelow rows flows slots ≡ inListOrder rows
   all-listed =
-      rising-unique order.Listed listed-asymmetric (rowsBelow rows flows slots) (listRows rows)
+      rising-unique order.Listed listed-asymmetric (rowsBelow rows flows slots) (inListOrder rows)
       (below-rising b rows (rows-rising book table accepted) flows slots)
       (list-rising b rows (rows-rising book table accepted))
       (λ r m. in-list rows r (below-in b rows (rows-rising book table accepted) flows slots r m))
@@ -116,7 +116,7 @@ module _ (book table : List ℕ) (accepted : Accepted book table) where
           (omega (arith, p .slot-in, ap (λ (x : Row). x .slot) (w .2)))
 
   -- up to a slot they are the front of it
-  front : (t : ℕ) → t ≤ slots → listRows rows ≡ rowsBelow rows flows t ++ joinFrom (rowsIn rows flows) (slots - t) t
+  front : (t : ℕ) → t ≤ slots → inListOrder rows ≡ rowsBelow rows flows t ++ joinFrom (rowsIn rows flows) (slots - t) t
   unfolding rowsBelow
   front t l =
       let e : t + (slots - t) ≡ slots = omega arith in
@@ -131,7 +131,7 @@ module _ (book table : List ℕ) (accepted : Accepted book table) where
       omega (arith, ap length (front t l) ∙ length-append (rowsBelow rows flows t) (joinFrom (rowsIn rows flows) (slots - t) t), list-length rows)
 
   -- a front as long as the list is the list
-  pub whole-front : (t : ℕ) → t ≤ slots → length rows ≤ length (rowsBelow rows flows t) → rowsBelow rows flows t ≡ listRows rows
+  pub whole-front : (t : ℕ) → t ≤ slots → length rows ≤ length (rowsBelow rows flows t) → rowsBelow rows flows t ≡ inListOrder rows
   whole-front t l h =
       let e = ap length (front t l) ∙ length-append (rowsBelow rows flows t) (joinFrom (rowsIn rows flows) (slots - t) t) in
       let z : length (joinFrom (rowsIn rows flows) (slots - t) t) ≡ 0 = omega (arith, e, list-length rows) in

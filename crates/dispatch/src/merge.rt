@@ -6,7 +6,7 @@ ghost use lib.Seq.{sets};
 ghost use Rattle.rules.specs.Book.{flowCount};
 ghost use Rattle.rules.specs.Reading.{bookOf};
 ghost use Rattle.rules.specs.Table.{tableHead, rowsBytes};
-ghost use Rattle.rules.specs.Dispatch.{listRows, listLength};
+ghost use Rattle.rules.specs.Dispatch.{inListOrder, listLength};
 ghost use Rattle.book.specs.Promise.{DeadlinesOf};
 ghost use Rattle.dispatch.specs.Merge.{Accepted, acceptedRows, InUse, rowsAt, rowsIn, offsetAfter, Cursors, FirstRow, halved, Ahead, FlowListed, SlotListed};
 use super::run;
@@ -165,7 +165,7 @@ pub fn merge(
     size: usize,
 )
     requires { ⌜ Ahead (now book) (now table) 0 0 (now ats) (now dues) × (length (now jobs) ≡ 64) × InUse (now book) (now table) (now work) × (flows ≡ flowCount (bookOf (now book))) × (size ≡ listLength (acceptedRows (now book) (now table))) × (size ≤ length (now out)) ⌝ }
-    ensures { λ _. ⌜ now (out .exit) ≡ sets (now (out .entry)) 7 (rowsBytes (listRows (acceptedRows (now (book .entry)) (now (table .entry))))) ⌝ }
+    ensures { λ _. ⌜ now (out .exit) ≡ sets (now (out .entry)) 7 (rowsBytes (inListOrder (acceptedRows (now (book .entry)) (now (table .entry))))) ⌝ }
 {
     let mut to: usize = 7;
     let mut slot: u16 = 0;

@@ -86,7 +86,7 @@ use Rattle.rules.specs.Check.{
 use Rattle.rules.specs.Dispatch.{
   listedBefore,
   insertRow,
-  listRows,
+  inListOrder,
   listLength,
   listBytes,
   listOutcome,
@@ -99,7 +99,7 @@ use Rattle.marked.specs.Listings.{bookK, calendarK, flowL}
 use Rattle.marked.specs.Plans.{MarkedChains, MarkedLists, MarkedFinishes, MarkedWindows, MarkedQuotes, MarkedPlans}
 
 pub marked-lists : MarkedLists
-unfolding anyTo listFrom joinFrom field bytesOf firstFault flowIn lowerCap lowerCaps flowOf jobOf hasBit releaseSize releaseAt jobsAt flowStart jobAt flowAt bookOf flowHeadFault jobFault flowFault leftoverFault bookFault calendarOf calendarFault readBook isOpen sumTo servedBefore sumWhere usedIn totalOf doneBefore finishOf isLate lateFlows workUsed workZero rowBytes rowsBytes rowAt tableRows tableHeadFault rowBefore rises lacksPredecessor beforeRelease rowFault totalFault finishFault tableFault checkOutcome checkReading checkCall listedBefore insertRow listRows listLength listBytes listOutcome dispatchChecked dispatchCall
+unfolding anyTo listFrom joinFrom field bytesOf firstFault flowIn lowerCap lowerCaps flowOf jobOf hasBit releaseSize releaseAt jobsAt flowStart jobAt flowAt bookOf flowHeadFault jobFault flowFault leftoverFault bookFault calendarOf calendarFault readBook isOpen sumTo servedBefore sumWhere usedIn totalOf doneBefore finishOf isLate lateFlows workUsed workZero rowBytes rowsBytes rowAt tableRows tableHeadFault rowBefore rises lacksPredecessor beforeRelease rowFault totalFault finishFault tableFault checkOutcome checkReading checkCall listedBefore insertRow inListOrder listLength listBytes listOutcome dispatchChecked dispatchCall
 marked-lists = record { A-listed = refl; A-list-too-long = refl; D-listed = refl; F-not-listed = refl }
 
 pub marked-finishes : MarkedFinishes

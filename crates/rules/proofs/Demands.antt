@@ -18,12 +18,12 @@ pub mod Quotes
 pub mod Appends
 use Rattle.rules.specs.Demands.{Demands}
 use Rattle.rules.proofs.Demands.Refusals.{demand-1}
-use Rattle.rules.proofs.Demands.PlansByTheRules.{plans-by-the-rules}
+use Rattle.rules.proofs.Demands.PlansByTheRules.{plans-by-the-rules, plan-numbers}
 use Rattle.rules.proofs.Demands.AcceptsExactly.{accepts-exactly}
 use Rattle.rules.proofs.Demands.RowsShut.{rows-shut}
 use Rattle.rules.proofs.Demands.Demand3.{demand-3, of-whole-book}
 use Rattle.rules.proofs.Demands.AcceptsPlans.{accepts-plans}
-use Rattle.rules.proofs.Demands.Bounds.{accepted-length, plan-bounds}
+use Rattle.rules.proofs.Demands.Bounds.{bounds}
 use Rattle.rules.proofs.Demands.BooksRead.{books-read}
 use Rattle.rules.proofs.Reading.Versions.{version-1-kept}
 use Rattle.rules.proofs.Reading.Lowered.{caps-lowered}
@@ -42,17 +42,17 @@ demands = record {
   version-1-kept = version-1-kept;
   caps-lowered = caps-lowered;
   plans-by-the-rules = plans-by-the-rules;
-  plan-bounds = plan-bounds;
+  plan-numbers = plan-numbers;
   accepts-exactly = accepts-exactly;
   accepts-plans = accepts-plans;
-  accepted-length = accepted-length;
-  rows-shut = rows-shut;
   planned-or-infeasible = demand-3;
   of-whole-book = of-whole-book;
+  bounds = bounds;
   dispatches = dispatches;
   finishes = finishes;
   write-back = write-back;
   calendars = calendars;
+  rows-shut = rows-shut;
   limit-by-rule = limit-by-rule;
   no-windows = no-windows;
   quotes = quotes;

@@ -57,10 +57,10 @@ abbrev pub numberOf : Verdict → ℕ
 numberOf Pass = 0
 numberOf (Refused n f j) = n
 
-abbrev pub flowNamed : Verdict → ℕ
-flowNamed Pass = none
-flowNamed (Refused n f j) = f
+abbrev pub verdictFlow : Verdict → ℕ
+verdictFlow Pass = none
+verdictFlow (Refused n f j) = f
 
-abbrev pub jobNamed : Verdict → ℕ
-jobNamed Pass = none
-jobNamed (Refused n f j) = j
+abbrev pub verdictJob : Verdict → ℕ
+verdictJob Pass = none
+verdictJob (Refused n f j) = j

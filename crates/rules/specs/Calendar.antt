@@ -40,7 +40,7 @@ passOpen c zero n t = t
 passOpen c (suc m) zero t = t
 passOpen c (suc m) (suc n) t = passOpen c m (if isOpen c t then n else suc n) (t + 1)
 
--- "when that many open slots from slot 0 have passed": the first slot before which n open slots stand, or 8,192 where no slot up to it is one. Since every
+-- "when that many open slots from slot 0 have passed": the first slot before which n open slots stand, or 8,192 where fewer than n stand before it. Since every
 -- window has reopened by slot 4,096, twice the open slots before a deadline are always met (`Demands.Calendar`, `LimitByRule`).
 unfoldable pub slotAfter : Calendar → ℕ → ℕ
 slotAfter c n = passOpen c slots n 0

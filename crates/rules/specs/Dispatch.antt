@@ -29,9 +29,9 @@ insertRow r [] = r ∷ []
 insertRow r (q ∷ qs) = if listedBefore q r then q ∷ insertRow r qs else r ∷ q ∷ qs
 
 -- "the table's rows, ordered by slot, flow, job"
-unfoldable pub listRows : List Row → List Row
-listRows [] = []
-listRows (r ∷ rs) = insertRow r (listRows rs)
+unfoldable pub inListOrder : List Row → List Row
+inListOrder [] = []
+inListOrder (r ∷ rs) = insertRow r (inListOrder rs)
 
 -- ---- the bytes
 -- "length (4), version 1 (1), P (2)"
@@ -43,7 +43,7 @@ listLength rows = listHead + rowLength * length rows
 
 -- "then the table's rows", as in the table
 unfoldable pub listBytes : Book → List Row → List ℕ
-listBytes b rows = bytesOf 4 (listLength rows) ++ bytesOf 1 1 ++ bytesOf 2 (b .processors) ++ rowsBytes (listRows rows)
+listBytes b rows = bytesOf 4 (listLength rows) ++ bytesOf 1 1 ++ bytesOf 2 (b .processors) ++ rowsBytes (inListOrder rows)
 
 -- the rows that stand in a list behind its head
 unfoldable pub rowsInList : List ℕ → List Row

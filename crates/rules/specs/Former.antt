@@ -1,5 +1,5 @@
--- The calls without a calendar: document 01's rules 4 and 6 and its check, with the releases of 02, Req 01. What it shares with the calls as they are now is
--- not said again: chains, units, rows, outcomes. Assumes nothing.
+-- The calls as they were before Req 07, without a calendar: document 01's rules and check with releases (02, Req 01), lowered caps (Req 02) and late flows by
+-- Req 06, and the calls of Req 03 and 05. Only what spoke of slots is said again: rules 4 and 6, the table's faults, the calls. Assumes nothing.
 use Prim.Native.Nat.{ℕ, zero, suc, _*_, _-_}
 use mathlib.Core.Bool.{true}
 use mathlib.Core.List.{List, [], _++_}
@@ -22,19 +22,19 @@ use Rattle.rules.specs.Finish.{FinishOutcome, upToNamed, finishOutcome, 
 
 -- ---- rules 4 and 6
 -- "the processors still free" in slot t for flow f, beside the rows of the flows before; "Placing starts at the release" (02, Req 01)
-unfoldable pub freeFromRelease : Book → ℕ → List Row → ℕ → ℕ
-freeFromRelease b f rows t = if leb (flowOf b f .release) t then b .processors - usedIn rows t else 0
+unfoldable pub formerFree : Book → ℕ → List Row → ℕ → ℕ
+formerFree b f rows t = if leb (flowOf b f .release) t then b .processors - usedIn rows t else 0
 
 -- "A flow not finished after slot 2 × deadline − 1 makes the book infeasible": flow f beside the rows of the flows before
-unfoldable pub formerPlace : Book → ℕ → List Row → Plan
-formerPlace b f rows =
-    settled f (progress (flowOf b f) (freeFromRelease b f rows) (2 * flowOf b f .deadline) .left)
-    (rows ++ flowRows (flowOf b f) f (freeFromRelease b f rows) (2 * flowOf b f .deadline))
+unfoldable pub formerPlaceFlow : Book → ℕ → List Row → Plan
+formerPlaceFlow b f rows =
+    settled f (progress (flowOf b f) (formerFree b f rows) (2 * flowOf b f .deadline) .left)
+    (rows ++ flowRows (flowOf b f) f (formerFree b f rows) (2 * flowOf b f .deadline))
 
 -- "Flows are placed in service order": the first k of them
-unfoldable pub formerPlan : Book → ℕ → Plan
-formerPlan b zero = planned []
-formerPlan b (suc k) = thenPlace (formerPlan b k) (formerPlace b (servedAt b k))
+unfoldable pub formerPlaceFirst : Book → ℕ → Plan
+formerPlaceFirst b zero = planned []
+formerPlaceFirst b (suc k) = thenPlace (formerPlaceFirst b k) (formerPlaceFlow b (servedAt b k))
 
 -- ---- the check: "14, then 15 to 19 in order for each row, then 20, 21"; with every slot open a row has no other fault than 15 to 19
 unfoldable pub formerTableFault : Book → List ℕ → Verdict
@@ -44,37 +44,37 @@ formerTableFault b s =
     andThen firstFault (λ f. firstFault (totalFault b (tableRows b s) f) (jobCount (flowOf b f))) (flowCount b)
     andThen firstFault (finishFault s (tableRows b s)) (flowCount b)
 
--- ---- the calls: by the verdict on the book its fault, or 11, or the outcome by the plan or by the table's first fault
-abbrev pub formerPlanned : Book → List ℕ → List ℕ → Verdict → PlanOutcome
-formerPlanned b out area (Refused n f j) = record { answer = planRefused n f j; output = out; area = area }
-formerPlanned b out area Pass =
+-- ---- the calls: a book with a fault is refused by it; then 11; then the outcome is that of the plan, or of the table's first fault
+abbrev pub formerPlanVerdict : Book → List ℕ → List ℕ → Verdict → PlanOutcome
+formerPlanVerdict b out area (Refused n f j) = record { answer = planRefused n f j; output = out; area = area }
+formerPlanVerdict b out area Pass =
     if ltb (length area) workBytes
     then record { answer = planRefused 11 none none; output = out; area = area }
-    else planOutcome b out area (formerPlan b (flowCount b))
+    else planOutcome b out area (formerPlaceFirst b (flowCount b))
 
 unfoldable pub formerPlanCall : List ℕ → List ℕ → List ℕ → PlanOutcome
-formerPlanCall book out area = formerPlanned (bookOf book) out area (bookFault book)
+formerPlanCall book out area = formerPlanVerdict (bookOf book) out area (bookFault book)
 
-abbrev pub formerChecked : Book → List ℕ → List ℕ → Verdict → CheckOutcome
-formerChecked b table area (Refused n f j) = record { answer = checkRefused n f j; area = area }
-formerChecked b table area Pass =
+abbrev pub formerCheckVerdict : Book → List ℕ → List ℕ → Verdict → CheckOutcome
+formerCheckVerdict b table area (Refused n f j) = record { answer = checkRefused n f j; area = area }
+formerCheckVerdict b table area Pass =
     if ltb (length area) workBytes
     then record { answer = checkRefused 11 none none; area = area }
     else checkOutcome b table area (formerTableFault b table)
 
 unfoldable pub formerCheckCall : List ℕ → List ℕ → List ℕ → CheckOutcome
-formerCheckCall book table area = formerChecked (bookOf book) table area (bookFault book)
+formerCheckCall book table area = formerCheckVerdict (bookOf book) table area (bookFault book)
 
 unfoldable pub formerDispatchCall : List ℕ → List ℕ → List ℕ → List ℕ → DispatchOutcome
 formerDispatchCall book table out area =
     dispatchChecked (bookOf book) (tableRows (bookOf book) table) out area (formerCheckCall book table area)
 
-abbrev pub formerFinished : Book → ℕ → List ℕ → Verdict → FinishOutcome
-formerFinished b f area (Refused n g j) = record { answer = finishRefused n g j; area = area }
-formerFinished b f area Pass =
+abbrev pub formerFinishVerdict : Book → ℕ → List ℕ → Verdict → FinishOutcome
+formerFinishVerdict b f area (Refused n g j) = record { answer = finishRefused n g j; area = area }
+formerFinishVerdict b f area Pass =
     if ltb (length area) workBytes
     then record { answer = finishRefused 11 none none; area = area }
-    else finishOutcome f area (formerPlan b (upToNamed b f))
+    else finishOutcome f area (formerPlaceFirst b (upToNamed b f))
 
 unfoldable pub formerFinishCall : List ℕ → ℕ → List ℕ → FinishOutcome
-formerFinishCall book f area = formerFinished (bookOf book) f area (bookFault book andThen unknownFlow (bookOf book) f)
+formerFinishCall book f area = formerFinishVerdict (bookOf book) f area (bookFault book andThen unknownFlow (bookOf book) f)

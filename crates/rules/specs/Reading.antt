@@ -78,7 +78,7 @@ flowHeadFault s f at =
     else if outside 1 mostJobs (jobsAt s at) then Refused 7 f none
     else Pass
 
--- "5, 8, 9, 10 for each job": the record of job i of flow f, at `at`, is cut short; size out of range; cap out of range, where "only a cap of 0
+-- "5, 8, 9, 10 for each job": the record of job i of flow f, at `at`, is cut short; size out of range; cap out of range, where "Only a cap of 0
 -- is still 9" (02, Req 02); predecessor bit at or above the job's own number
 unfoldable pub jobFault : List ℕ → ℕ → ℕ → ℕ → Verdict
 jobFault s f i at =
@@ -119,9 +119,12 @@ readingOf (Refused n f j) b = unread n f j
 abbrev pub bookWith : List ℕ → List ℕ → Book
 bookWith s calendar = withCalendar (calendarOf calendar) (bookOf s)
 
--- "24 when the calendar breaks its layout, after the book's checks" (02, Req 07)
+-- the verdict on a book and the calendar that goes with it: "24 when the calendar breaks its layout, after the book's checks" (02, Req 07)
+abbrev pub bookVerdict : List ℕ → List ℕ → Verdict
+bookVerdict s calendar = bookFault s andThen calendarFault calendar
+
 unfoldable pub readBook : List ℕ → List ℕ → Reading
-readBook s calendar = readingOf (bookFault s andThen calendarFault calendar) (bookWith s calendar)
+readBook s calendar = readingOf (bookVerdict s calendar) (bookWith s calendar)
 
 -- ---- the encoding of values in a version: "a book of its own", "under a length and flow count that fit"; caps as they stand
 unfoldable pub jobBytes : Job → List ℕ

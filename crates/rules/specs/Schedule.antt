@@ -16,7 +16,7 @@ use Rattle.rules.specs.Table.{tableBytes}
 abbrev pub Schedule : Type 0
 Schedule = ℕ → ℕ → ℕ → ℕ
 
--- some flows of a book, by a test of the flow number
+-- a schedule is of some flows of a book, told by a test of the flow number; all flows pass this one
 abbrev pub everyFlow : ℕ → Bool
 everyFlow f = true
 

@@ -6,7 +6,7 @@ use lib.ListN.{length}
 use lib.Seq.{sets, length-sets}
 use Rattle.rules.specs.Reading.{bookOf}
 use Rattle.rules.specs.Table.{rowsBytes}
-use Rattle.rules.specs.Dispatch.{listRows}
+use Rattle.rules.specs.Dispatch.{inListOrder}
 use Rattle.book.proofs.Served.{index-deadlines}
 use Rattle.dispatch.specs.Merge.{acceptedRows}
 use Rattle.dispatch.specs.Call.{listHeadBytes}
@@ -90,8 +90,8 @@ returns c =
     let a = s .args in
     let rows = acceptedRows (a .book .now) (a .table .now) in
     c .before .before .before .before .merge .ensures
-    ∙ ap (λ (o : List ℕ). sets o 7 (rowsBytes (listRows rows))) (c .before .before .before .before .before .before .before .before .before .before .before .put-head .ensures)
-    ∙ ap (λ (p : ℕ). sets (sets (a .out .now) 0 (listHeadBytes (a .size) p)) 7 (rowsBytes (listRows rows))) (c .before .before .before .before .before .before .before .before .before .before .before .before .before .before .before .before .before .before .before .before .before .index-of .ensures .processors)
+    ∙ ap (λ (o : List ℕ). sets o 7 (rowsBytes (inListOrder rows))) (c .before .before .before .before .before .before .before .before .before .before .before .put-head .ensures)
+    ∙ ap (λ (p : ℕ). sets (sets (a .out .now) 0 (listHeadBytes (a .size) p)) 7 (rowsBytes (inListOrder rows))) (c .before .before .before .before .before .before .before .before .before .before .before .before .before .before .before .before .before .before .before .before .before .index-of .ensures .processors)
     ∙ list-stores (bookOf (a .book .now)) rows (a .out .now) (a .size) (s .pre .size-is) (s .pre .has-room)
 
 pub write-list-spec : {M : Type 1} → statement M

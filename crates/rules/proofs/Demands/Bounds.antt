@@ -1,22 +1,17 @@
--- What a plan and an accepted table can take: each row gives at least one processor, and the rows of a job give its size, so there are no more rows than
--- processor-slots. The planner's tables are accepted, so it holds of them too. Assumes nothing.
-use mathlib.Core.Path.{_≡_, ap}
+-- How long chains and tables can be: each row gives at least one processor, and the rows of a job give its size, so a table without a fault has no more rows
+-- than processor-slots. That of a plan has none. Assumes nothing.
+use mathlib.Core.Path.{_≡_}
 use Prim.Native.Nat.{ℕ, _+_, _*_, _≤_}
 use mathlib.Core.List.{List}
 use native.Mathlib.Omega.{arith}
 use lib.ListN.{length}
+use Rattle.rules.specs.declared.Verdict.the-variants.{Pass}
 use Rattle.rules.specs.Walks.{sumTo}
-use Rattle.rules.specs.Limits.{workBytes}
 use Rattle.rules.specs.Book.{Book, InRange, flowCount, jobCount, flowOf, jobOf}
-use Rattle.rules.specs.Reading.{read, readBook}
 use Rattle.rules.specs.Rows.{Row, totalOf}
-use Rattle.rules.specs.Placing.{rowsOf, plan}
-use Rattle.rules.specs.Table.{tableLength}
-use Rattle.rules.specs.Planner.{PlanOutcome, planCall}
-use Rattle.rules.specs.Check.{tableRows}
-use Rattle.rules.specs.Demands.Planner.{PlansByTheRules, sizesOf, PlanBounds}
-use Rattle.rules.specs.Demands.Check.{AcceptsPlans, AcceptedLength}
-use Rattle.rules.specs.Demands.Quote.{tableOf}
+use Rattle.rules.specs.Table.{tableLength, tableBytes}
+use Rattle.rules.specs.Check.{tableRows, tableFault}
+use Rattle.rules.specs.Demands.Lengths.{sizesOf, Bounds}
 use Rattle.rules.proofs.Laws.Sums.{sum-ext}
 use Rattle.rules.proofs.Rows.RowSums.{rows-most, sum-totals}
 use Rattle.rules.proofs.Reading.Passing.{read-in-range}
@@ -26,11 +21,9 @@ use Rattle.rules.proofs.Chains.PseudoJobs.{chain-length}
 use Rattle.rules.proofs.Tables.TablePasses.{RowsPass, table-passes}
 use Rattle.rules.proofs.Tables.TableBytes.{head-passes, tables-length, table-bytes-length}
 use Rattle.rules.proofs.Tables.AcceptedRows.{passing-is-row}
-use Rattle.rules.proofs.Calls.CallCases.{PlanCase, short-11, stopped-12, long-13, written-0, call-case}
-use Rattle.rules.proofs.Calls.WrittenPlans.{written-table}
-use Rattle.rules.proofs.Demands.AcceptsExactly.{call-accepts}
-use Rattle.rules.proofs.Demands.AcceptsPlans.{accepts-plans}
-use Rattle.rules.proofs.Demands.PlansByTheRules.{plans-by-the-rules}
+use Rattle.rules.proofs.Demands.AcceptsExactly.{call-accepts, rows-accepted}
+use Rattle.rules.proofs.Placing.PlannedTable.{planned-rows-are-schedule-rows}
+use Rattle.rules.proofs.Placing.PlannedValid.{planned-valid, planned-in-slots}
 
 -- rows that pass the check are no more than all sizes added
 module _ (b : Book) (range : InRange b) (rows : List Row) (pass : RowsPass b rows) where
@@ -46,40 +39,20 @@ module _ (b : Book) (range : InRange b) (rows : List Row) (pass : RowsPass b row
             (λ f l. sum-ext (λ i. totalOf rows f i) (λ i. jobOf (flowOf b f) i .size) (jobCount (flowOf b f)) (λ i m. pass .totals f i l m)),
       )
 
-pub accepted-length : AcceptedLength
-unfolding AcceptedLength tableLength
-accepted-length book calendar table area b reads z =
-    let p = table-passes b table (call-accepts book calendar table area b reads z .0) in
-    omega (
-      arith,
-      rows-within-sizes b (read-in-range book calendar b reads) (tableRows b table) (p .rows-pass),
-      tables-length b table (head-passes b table (p .head-passes)),
-    )
+-- so a table without a fault is no longer
+table-within : (b : Book) → InRange b → (s : List ℕ) → tableFault b s ≡ Pass → length s ≤ 8 + 2 * flowCount b + 6 * sizesOf b
+unfolding tableLength
+table-within b range s pass =
+    let p = table-passes b s pass in
+    omega (arith, rows-within-sizes b range (tableRows b s) (p .rows-pass), tables-length b s (head-passes b s (p .head-passes)))
 
--- ---- the planner
-room-lent : {b : Book} {out area : List ℕ} {o : PlanOutcome} → PlanCase b out area o → o .answer .number ≡ 0 → workBytes ≤ length area
-room-lent (short-11 h) z = absurd (omega arith)
-room-lent (stopped-12 h f e) z = h
-room-lent (long-13 h rows e l) z = h
-room-lent (written-0 h rows e l) z = h
-
-table-most : (book calendar out area : List ℕ) (b : Book) → readBook book calendar ≡ read b → planCall book calendar out area .answer .number ≡ 0 →
-    planCall book calendar out area .answer .length ≤ 8 + 2 * flowCount b + 6 * sizesOf b
-unfolding AcceptsPlans AcceptedLength PlansByTheRules
-table-most book calendar out area b reads z =
-    let o = planCall book calendar out area in
-    let rows = rowsOf (plan b) in
-    let accepted = accepts-plans book calendar out area area z (room-lent (call-case book calendar out area b reads) z) in
-    omega (
-      arith,
-      accepted-length book calendar (tableOf o) area b reads (ap (λ a. a .number) accepted),
-      ap length (written-table book calendar out area b reads z),
-      table-bytes-length b rows,
-      plans-by-the-rules book calendar out area b reads z .table-length,
-    )
-
-pub plan-bounds : PlanBounds
-plan-bounds = record {
+pub bounds : Bounds
+bounds = record {
   pseudo-jobs = λ book calendar b reads f l. chain-length (flowOf b f) (in-range-sized (used-in-range (read-in-range book calendar b reads) f l));
-  table-most = table-most;
+  table-most = λ book calendar b reads rows e.
+      let range = read-in-range book calendar b reads in
+      let passes = rows-accepted b range rows (planned-rows-are-schedule-rows b range rows e) (planned-valid b range rows e) (planned-in-slots b range rows e) in
+      omega (arith, table-within b range (tableBytes b rows) (passes .0), table-bytes-length b rows);
+  accepted-most = λ book calendar table area b reads z.
+      table-within b (read-in-range book calendar b reads) table (call-accepts book calendar table area b reads z .0);
 }

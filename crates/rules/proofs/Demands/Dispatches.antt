@@ -23,13 +23,13 @@ use Rattle.rules.specs.Placing.{rowsOf, plan}
 use Rattle.rules.specs.Table.{tableBytes}
 use Rattle.rules.specs.Planner.{planCall}
 use Rattle.rules.specs.Check.{noRow, tableRows, tableFault, CheckOutcome, checkOutcome, checkReading, checkCall}
-use Rattle.rules.specs.Dispatch.{listedBefore, listRows, listLength, listBytes, rowsInList, DispatchOutcome, listOutcome, dispatchChecked, dispatchCall}
+use Rattle.rules.specs.Dispatch.{listedBefore, inListOrder, listLength, listBytes, rowsInList, DispatchOutcome, listOutcome, dispatchChecked, dispatchCall}
 use Rattle.rules.specs.Schedule.{scheduleOf}
 use Rattle.rules.specs.Demands.Refusals.{CheckRefusal}
 use Rattle.rules.specs.Demands.Books.{Version1Kept}
 use Rattle.rules.specs.Demands.Planner.{PlansByTheRules}
 use Rattle.rules.specs.Demands.Check.{AcceptsPlans}
-use Rattle.rules.specs.Demands.DispatchList.{DispatchRefusal, timesIn, listOf, ListsRows, Dispatches}
+use Rattle.rules.specs.Demands.DispatchList.{DispatchRefusal, timesIn, listOf, WritesList, Dispatches}
 use Rattle.rules.proofs.Laws.Division.{lt-or-ge}
 use Rattle.rules.proofs.Reading.Passing.{read-passes, read-in-range}
 use Rattle.rules.proofs.Rows.Rising.{_∈_, Rising}
@@ -117,24 +117,24 @@ module _ (b : Book) (rows : List Row) (out area : List ℕ) (o : CheckOutcome) w
 
 -- ---- what the list holds
 module _ (b : Book) (rows : List Row) (out area : List ℕ) (fits : (r : Row) → r ∈ rows → RowFits r) (rising : Rising (Before b) rows) where
-  list-holds : ((t : ℕ) → usedIn rows t < 65536) → ListsRows b rows out (listing b rows out (workUsed slots rows area))
+  list-holds : ((t : ℕ) → usedIn rows t < 65536) → WritesList b rows out (listing b rows out (workUsed slots rows area))
   unfolding usedIn
   list-holds fit = record {
     length-is = refl;
     head = list-head b rows out;
     as-often = λ r. ap (timesIn r) back ∙ list-as-often r rows;
-    once = λ r. subst (λ l. timesIn r l ≤ 1) (sym back) (listed-once r (listRows rows) rises);
+    once = λ r. subst (λ l. timesIn r l ≤ 1) (sym back) (listed-once r (inListOrder rows) rises);
     rising =
         subst (λ l. (k : ℕ) → suc k < length l → listedBefore (getD l k noRow) (getD l (suc k) noRow) ≡ true) (sym back)
-        (listed-next (listRows rows) rises);
+        (listed-next (inListOrder rows) rises);
     past = list-past b rows out;
     sums = λ t l. used-pair slots rows area t l (fit t) ∙ sym (ap (λ rs. usedIn rs t) back ∙ list-sum (λ r. eqb (r .slot) t) rows);
   }
     where
-      back : rowsInList (take (listLength rows) (listBytes b rows ++ drop (listLength rows) out)) ≡ listRows rows
+      back : rowsInList (take (listLength rows) (listBytes b rows ++ drop (listLength rows) out)) ≡ inListOrder rows
       back = ap rowsInList (list-taken b rows out) ∙ list-rows-written b rows fits
 
-      rises : Rising Listed (listRows rows)
+      rises : Rising Listed (inListOrder rows)
       rises = list-rising b rows rising
 
 -- ---- a book that is read
@@ -177,9 +177,9 @@ module _ (book calendar : List ℕ) (b : Book) (reads : readBook book calendar �
   call-rising : call .answer .number ≡ 0 → Rising (Before b) rows
   call-rising z = passing-rising b range rows (call-passes z .rows-pass)
 
-  call-holds : ((r : Row) → r ∈ rows → RowFits r) → call .answer .number ≡ 0 → ListsRows b rows out call
+  call-holds : ((r : Row) → r ∈ rows → RowFits r) → call .answer .number ≡ 0 → WritesList b rows out call
   call-holds fits z =
-      subst (ListsRows b rows out) (sym (call-lists z .1))
+      subst (WritesList b rows out) (sym (call-lists z .1))
       (list-holds b rows out area fits (call-rising z)
       (λ t. omega (arith, passing-use b range rows (call-passes z .rows-pass) t, range .processors-most)))
 
@@ -220,7 +220,7 @@ nothing-lost book calendar table other out out′ area area′ bytes bytes′ z 
     (outcome-zero (bookOf book) (tableRows (bookOf book) table) out area (checkCall book calendar table area) z .0) in
     let equal : listBytes b rows ≡ listBytes b rows′ =
     sym (call-list book calendar b reads table out area z) ∙ same ∙ call-list book calendar b reads other out′ area′ z′ in
-    let listed : listRows rows ≡ listRows rows′ =
+    let listed : inListOrder rows ≡ inListOrder rows′ =
     sym (list-rows-written b rows (table-rows-fit b table bytes)) ∙ ap rowsInList equal ∙ list-rows-written b rows′ (table-rows-fit b other bytes′) in
     let one : rows ≡ rows′ =
     list-injective b rows rows′ (call-rising book calendar b reads table out area z) (call-rising book calendar b reads other out′ area′ z′) listed in
@@ -229,7 +229,7 @@ nothing-lost book calendar table other out out′ area area′ bytes bytes′ z 
 -- ---- the list of a plan
 lists-plan : (book calendar out area list other : List ℕ) (b : Book) → readBook book calendar ≡ read b → planCall book calendar out area .answer .number ≡ 0 →
     listLength (rowsOf (plan b)) ≤ length list → workBytes ≤ length other →
-    ListsRows b (rowsOf (plan b)) list
+    WritesList b (rowsOf (plan b)) list
     (dispatchCall book calendar (take (planCall book calendar out area .answer .length) (planCall book calendar out area .output)) list other)
 unfolding PlansByTheRules AcceptsPlans
 lists-plan book calendar out area list other b reads z fit long =
@@ -246,7 +246,7 @@ lists-plan book calendar out area list other b reads z fit long =
     subst (λ rs. (r : Row) → r ∈ rs → RowFits r) (sym same) (row-fits b range (scheduleOf rows) valid within) in
     let zero = ap (λ a. a .number) (accepts-plans book calendar out area other z long) in
     let enough = call-long-enough book calendar b reads table list other zero (subst (λ rs. listLength rs ≤ length list) (sym back) fit) in
-    subst (λ rs. ListsRows b rs list (dispatchCall book calendar table list other)) back
+    subst (λ rs. WritesList b rs list (dispatchCall book calendar table list other)) back
     (call-holds book calendar b reads table list other (subst (λ rs. (r : Row) → r ∈ rs → RowFits r) (sym back) fits) (ap (λ a. a .number) enough))
 
 -- ---- books that are used alike: Req 01 and Req 02

@@ -268,7 +268,7 @@ module _ (book calendar : List ℕ) (b : Book) (reads : readBook book calendar �
     unfolding finishOutcome
     as-cut out area (short-11 h) fit =
         rw (outcome-short b f area h)
-        (record { same-number = refl; same-finish = λ z. absurd (omega arith); same-flow = λ z. absurd (omega arith); same-area = refl })
+        (record { same-number = refl; same-finish = λ z. absurd (omega arith); same-flow = λ z. absurd (omega arith); no-flow = λ z. refl; no-job = refl; same-area = refl })
     as-cut out area (stopped-12 h g e) fit =
         let below = infeasible-proves cutBook cut-range g e .0 in
         rw (outcome-ended b f area h, ending-cut, e)
@@ -276,6 +276,8 @@ module _ (book calendar : List ℕ) (b : Book) (reads : readBook book calendar �
           same-number = refl;
           same-finish = λ z. absurd (omega arith);
           same-flow = λ z. (kept-among b many g below, sym (number-kept b many g below));
+          no-flow = λ z. absurd (omega arith);
+          no-job = refl;
           same-area = refl;
         })
     as-cut out area (long-13 h rows e q) fit = absurd (fit refl)
@@ -285,6 +287,8 @@ module _ (book calendar : List ℕ) (b : Book) (reads : readBook book calendar �
           same-number = refl;
           same-finish = λ z. finish-in-cut out rows e;
           same-flow = λ z. absurd (omega arith);
+          no-flow = λ z. refl;
+          no-job = refl;
           same-area = work-renumbered (kept b many) slots rows area;
         })
 
@@ -352,9 +356,9 @@ call-answers book calendar area f =
     call-cases book calendar f area (FinishAnswers area) (λ n g j h. early-answers n g j area h)
     (λ e l. refused-answers 23 none none area (inr (omega arith, omega arith)) refl) (outcome-answers (bookWith book calendar) f area)
 
-only-then : (book calendar area : List ℕ) (f : ℕ) → finishCall book calendar f area .answer .number ≡ 23 →
+only-23 : (book calendar area : List ℕ) (f : ℕ) → finishCall book calendar f area .answer .number ≡ 23 →
     (bookFault book ≡ Pass) × (flowCount (bookOf book) ≤ f)
-only-then book calendar area f =
+only-23 book calendar area f =
     call-cases book calendar f area (λ o. o .answer .number ≡ 23 → (bookFault book ≡ Pass) × (flowCount (bookOf book) ≤ f))
     (λ n g j h z. absurd (true≢false (sym h ∙ ap byEleven z))) (λ e l z. (e, l))
     (λ z. absurd (omega (arith, z, outcome-most (bookWith book calendar) f area)))
@@ -396,7 +400,7 @@ finishes = record {
   refusal = λ book calendar area f. call-answers book calendar area f .refusal;
   book-first = λ book calendar area f. call-book-refused book calendar f area;
   not-in-book = λ book calendar area f. call-unknown book calendar f area;
-  only-then = only-then;
+  only-23 = only-23;
   calendar-next = λ book calendar area f. call-calendar-refused book calendar f area;
   area-short = λ book calendar area f b reads l h. finish-read book calendar b reads f l area ∙ outcome-short b f area h;
   answers = answers;

@@ -24,7 +24,7 @@ use Rattle.rules.specs.Planner.{planOutcome, planReading, planCall}
 use Rattle.rules.specs.Check.{tableRows, tableHeadFault, rowFault, totalFault, finishFault, tableFault, checkOutcome, checkReading, checkCall}
 use Rattle.rules.specs.Dispatch.{dispatchChecked, dispatchCall}
 use Rattle.rules.specs.Finish.{upToNamed, finishOutcome, finishReading, unknownFlow, inputFault, finishCall}
-use Rattle.rules.specs.Former.{freeFromRelease, formerPlace, formerPlan, formerTableFault, formerPlanned, formerPlanCall, formerChecked, formerCheckCall, formerDispatchCall, formerFinished, formerFinishCall}
+use Rattle.rules.specs.Former.{formerFree, formerPlaceFlow, formerPlaceFirst, formerTableFault, formerPlanVerdict, formerPlanCall, formerCheckVerdict, formerCheckCall, formerDispatchCall, formerFinishVerdict, formerFinishCall}
 use Rattle.rules.specs.Demands.Refusals.{byEleven}
 use Rattle.rules.specs.Demands.Calendar.{NoWindows}
 use Rattle.rules.proofs.Laws.Faults.{both-pass}
@@ -80,21 +80,21 @@ never-25 book table area = go (readBook book noWindows) refl
 -- ---- placing and check
 module _ (b : Book) (range : InRange b) (without : b .calendar ≡ []) where
   -- the processors that are free for a flow
-  free-same : (f : ℕ) (rows : List Row) → freeProcessors b f rows ≡ freeFromRelease b f rows
-  unfolding freeProcessors freeFromRelease usable
+  free-same : (f : ℕ) (rows : List Row) → freeProcessors b f rows ≡ formerFree b f rows
+  unfolding freeProcessors formerFree usable
   free-same f rows =
       λ x t. ap (λ (c : Bool). if c && leb (flowOf b f .release) t then b .processors - usedIn rows t else 0) (always-open b t without) x
 
-  place-same : (f : ℕ) (rows : List Row) → f < flowCount b → placeFlow b f rows ≡ formerPlace b f rows
-  unfolding placeFlow formerPlace
+  place-same : (f : ℕ) (rows : List Row) → f < flowCount b → placeFlow b f rows ≡ formerPlaceFlow b f rows
+  unfolding placeFlow formerPlaceFlow
   place-same f rows l = rw (free-same f rows, limit-without b (flowOf b f) without (used-in-range range f l .deadline-most)) refl
 
-  plan-same : (k : ℕ) → k ≤ flowCount b → placeFirst b k ≡ formerPlan b k
-  unfolding placeFirst formerPlan
+  plan-same : (k : ℕ) → k ≤ flowCount b → placeFirst b k ≡ formerPlaceFirst b k
+  unfolding placeFirst formerPlaceFirst
   plan-same zero l = refl
   plan-same (suc k) l =
       ap (λ p. thenPlace p (placeFlow b (servedAt b k))) (plan-same k (omega arith))
-      ∙ ap (thenPlace (formerPlan b k)) (λ x rows. place-same (servedAt b k) rows (service-below b k l) x)
+      ∙ ap (thenPlace (formerPlaceFirst b k)) (λ x rows. place-same (servedAt b k) rows (service-below b k l) x)
 
   fault-same : (s : List ℕ) → tableFault b s ≡ formerTableFault b s
   unfolding tableFault formerTableFault
@@ -112,7 +112,7 @@ module _ (book : List ℕ) where
   unfolding planCall planReading formerPlanCall plan
   plan-met out area = ap (planReading out area) (reads-without book) ∙ go (bookFault book) refl
     where
-      go : (v : Verdict) → bookFault book ≡ v → planReading out area (readingOf v b) ≡ formerPlanned b out area v
+      go : (v : Verdict) → bookFault book ≡ v → planReading out area (readingOf v b) ≡ formerPlanVerdict b out area v
       go (Refused n f j) e = refl
       go Pass e =
           ap (λ p. if ltb (length area) workBytes then record { answer = planRefused 11 none none; output = out; area = area } else planOutcome b out area p)
@@ -122,7 +122,7 @@ module _ (book : List ℕ) where
   unfolding checkCall checkReading formerCheckCall
   check-met table area = ap (checkReading table area) (reads-without book) ∙ go (bookFault book) refl
     where
-      go : (v : Verdict) → bookFault book ≡ v → checkReading table area (readingOf v b) ≡ formerChecked b table area v
+      go : (v : Verdict) → bookFault book ≡ v → checkReading table area (readingOf v b) ≡ formerCheckVerdict b table area v
       go (Refused n f j) e = refl
       go Pass e =
           ap (λ v. if ltb (length area) workBytes then record { answer = checkRefused 11 none none; area = area } else checkOutcome b table area v)
@@ -140,7 +140,7 @@ module _ (book : List ℕ) where
   unfolding finishCall finishReading formerFinishCall
   finish-met area f = ap (finishReading f area) (input-without f) ∙ go (bookFault book andThen unknownFlow b f) refl
     where
-      go : (v : Verdict) → (bookFault book andThen unknownFlow b f) ≡ v → finishReading f area (readingOf v b) ≡ formerFinished b f area v
+      go : (v : Verdict) → (bookFault book andThen unknownFlow b f) ≡ v → finishReading f area (readingOf v b) ≡ formerFinishVerdict b f area v
       go (Refused n g j) e = refl
       go Pass e =
           let both = both-pass (bookFault book) (unknownFlow b f) e in
@@ -160,6 +160,6 @@ no-windows = record {
   open-before = open-all;
   from-release = λ b w t e. rw (always-open b t e) refl;
   twice = λ b w e. ap (λ (c : Calendar). 2 * openBefore c (w .deadline)) e ∙ ap (λ (n : ℕ). 2 * n) (open-all (w .deadline));
-  last-slot = limit-without;
+  slots-twice = limit-without;
   never-25 = never-25;
 }

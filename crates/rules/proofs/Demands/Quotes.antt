@@ -13,12 +13,12 @@ use Rattle.rules.specs.Walks.{sumTo, countTo}
 use Rattle.rules.specs.Calendar.{isOpen, openBefore}
 use Rattle.rules.specs.Book.{Flow, Book, flowCount, jobCount, flowOf, usable, twiceDeadline, InRange}
 use Rattle.rules.specs.Ideal.{path}
-use Rattle.rules.specs.Service.{servedAt, position}
+use Rattle.rules.specs.Service.{servedAt, position, upTo}
 use Rattle.rules.specs.Rows.{Row, usedIn, finishOf}
 use Rattle.rules.specs.Placing.{progress, slotsFor, planned, placeFirst, rowsOf, plan}
 use Rattle.rules.specs.Schedule.{Schedule, Valid, EndsBy, scheduleOf}
 use Rattle.rules.specs.Quote.{workOf, workUpTo, quote}
-use Rattle.rules.specs.Demands.Planner.{PlansByTheRules, upTo}
+use Rattle.rules.specs.Demands.Planner.{PlansByTheRules}
 use Rattle.rules.specs.Demands.Quote.{WithinQuote, Quotes}
 use Rattle.rules.proofs.Laws.Division.{lt-or-ge}
 use Rattle.rules.proofs.Laws.Sums.{sum-ext}
@@ -140,9 +140,9 @@ module _ (b : Book) (range : InRange b) where
         open-mono (b .calendar) (le-of-lt (range-at b range n l .release-below)),
       )
 
-  within-twice : (f : ℕ) → f < flowCount b → (σ : Schedule) → Valid b (upTo b f) σ →
+  quote-within-twice : (f : ℕ) → f < flowCount b → (σ : Schedule) → Valid b (upTo b f) σ →
       ((g : ℕ) → g < flowCount b → upTo b f g ≡ true → EndsBy σ g (flowOf b g .deadline)) → quote b f ≤ twiceDeadline b (flowOf b f)
-  within-twice f l =
+  quote-within-twice f l =
       subst (λ f. (σ : Schedule) → Valid b (upTo b f) σ → ((g : ℕ) → g < flowCount b → upTo b f g ≡ true → EndsBy σ g (flowOf b g .deadline)) → quote b f ≤ twiceDeadline b (flowOf b f))
       (served-position b f l) (served-within-twice (position b f) (position-below b f l))
 
@@ -160,5 +160,5 @@ quotes = record {
   work-up-to = λ b. sum-up-to b (λ g. workOf (flowOf b g));
   work-is-sizes = λ book calendar b reads f l.
       (unfold flowWork in work-of-sizes (flowOf b f) (in-range-sized (used-in-range (read-in-range book calendar b reads) f l)));
-  within-twice = λ book calendar b reads. within-twice b (read-in-range book calendar b reads);
+  quote-within-twice = λ book calendar b reads. quote-within-twice b (read-in-range book calendar b reads);
 }

@@ -18,12 +18,12 @@ use Rattle.rules.specs.Answers.{none, _andThen_, firstFault, planRefused
 use Rattle.rules.specs.Limits.{outside, mostProcessors, mostFlows, mostDeadline, mostJobs, mostSize, mostCap, mostWindows, slots, workBytes}
 use Rattle.rules.specs.Calendar.{isOpen, calendarHead, windowLength, windowFault, calendarFault}
 use Rattle.rules.specs.Book.{Book, flowCount, jobCount, flowOf, jobOf}
-use Rattle.rules.specs.Reading.{bookHead, versionOf, flowHead, jobRecord, releaseAt, jobsAt, flowStart, jobStart, flowHeadFault, jobFault, flowFault, leftoverFault, bookFault, bookWith, Reading, read, unread, readingOf, readBook}
+use Rattle.rules.specs.Reading.{bookHead, versionOf, flowHead, jobRecord, releaseAt, jobsAt, flowStart, jobStart, flowHeadFault, jobFault, flowFault, leftoverFault, bookFault, bookWith, Reading, read, unread, readingOf, readBook, bookVerdict}
 use Rattle.rules.specs.Rows.{Row, usedIn, totalOf, finishOf, workZero}
 use Rattle.rules.specs.Table.{tableHead, rowLength, finishIn}
 use Rattle.rules.specs.Planner.{PlanOutcome, planReading, planCall}
 use Rattle.rules.specs.Check.{tableRows, tableHeadFault, noRow, rises, lacksPredecessor, beforeRelease, rowFault, totalFault, finishFault, tableFault, CheckOutcome, checkOutcome, checkReading, checkCall}
-use Rattle.rules.specs.Demands.Refusals.{byEleven, AreaAfterRefusal, PlannerRefusal, CheckRefusal, Demand1, bookVerdict, PlanSays, CheckSays}
+use Rattle.rules.specs.Demands.Refusals.{byEleven, AreaAfterRefusal, PlannerRefusal, CheckRefusal, Demand1, PlanSays, CheckSays}
 use Rattle.rules.proofs.Laws.Walks.{or-cases}
 use Rattle.rules.proofs.Laws.Faults.{not-pass}
 use Rattle.rules.proofs.Calls.CallCases.{check-cases, PlanCase, short-11, stopped-12, long-13, written-0, reading-case}

@@ -47,7 +47,7 @@ module _ (b : Book) (opened : ℕ → Bool) (rows : List Row) (k f j : ℕ) wher
       (after-said (not (rises b rows k)) (ltb (jobOf (flowOf b (r .flow)) (r .job) .cap) (r .processors))
       (ltb (b .processors) (usedIn (take k rows) (r .slot) + r .processors)) (beforeRelease b r || lacksPredecessor b (take k rows) r) (r .flow) (r .job) f j) in
       let inside = in-book-of b r (range .0) in (
-        record { slot-in = inside .0; flow-in = inside .1; job-in = inside .2; some = inside .3 },
+        record { slot-in = inside .0; flow-in = inside .1; job-in = inside .2; processors-some = inside .3 },
         not-true (opened (r .slot)) (w .0),
         w .1,
         w .2,
@@ -80,7 +80,7 @@ module _ (b : Book) (s : List ℕ) where
       of-row p =
           let w = fault-met (rowFault b (isOpen (b .calendar)) (tableRows b s)) (length (tableRows b s)) 25 f j p in
           let said = row-said b (isOpen (b .calendar)) (tableRows b s) (w .0) f j (w .3) in
-          (w .0, record { in-table = w .1; before-pass = w .2; passes-15 = said .0; shut = said .1 }, said .2, said .3)
+          (w .0, record { is-row = w .1; before-pass = w .2; passes-15 = said .0; shut = said .1 }, said .2, said .3)
 
       of-totals : totalsFault b s ≡ Refused 25 f j → Found
       of-totals p =
@@ -115,9 +115,9 @@ module _ (b : Book) (s : List ℕ) where
       let p = row .passes-15 in
       rw (
         head,
-        fault-stop (rowFault b opened rows) (length rows) k (Refused 25 (rowIn b s k .flow) (rowIn b s k .job)) (row .in-table) (not-pass 25 _ _)
+        fault-stop (rowFault b opened rows) (length rows) k (Refused 25 (rowIn b s k .flow) (rowIn b s k .job)) (row .is-row) (not-pass 25 _ _)
             (all-pass (rowFault b opened rows) k (row .before-pass))
-            (shut-is-25 b opened rows k (p .slot-in) (p .flow-in) (p .job-in) (p .some) (row .shut)),
+            (shut-is-25 b opened rows k (p .slot-in) (p .flow-in) (p .job-in) (p .processors-some) (row .shut)),
       ) refl
 
 pub rows-shut : RowsShut

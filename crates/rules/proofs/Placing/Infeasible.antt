@@ -14,11 +14,11 @@ use borrow.Author.Tests.{eq-eqb}
 use Rattle.rules.specs.Walks.{sumTo}
 use Rattle.rules.specs.Calendar.{isOpen, openBefore}
 use Rattle.rules.specs.Book.{Book, flowCount, jobCount, flowOf, usable, twiceDeadline, InRange}
-use Rattle.rules.specs.Service.{servedBefore, servedAt}
+use Rattle.rules.specs.Service.{servedBefore, servedAt, upTo}
 use Rattle.rules.specs.Rows.{Row, usedIn}
-use Rattle.rules.specs.Schedule.{Schedule, IsJob, inUse, Valid, EndsBy}
 use Rattle.rules.specs.Placing.{slotsFor, planned, placeFirst}
-use Rattle.rules.specs.Demands.Planner.{upTo, NoneOnTime}
+use Rattle.rules.specs.Schedule.{Schedule, IsJob, inUse, Valid, EndsBy}
+use Rattle.rules.specs.Demands.Planner.{NoneOnTime}
 use Rattle.rules.proofs.Laws.Sums.{sum-quiet, sum-distinct}
 use Rattle.rules.proofs.Laws.Walks.{last-or}
 use Rattle.rules.proofs.Chains.PseudoJobs.{chain-live}

@@ -16,7 +16,7 @@ use Rattle.rules.specs.Walks.{if_then_else_, bit}
 use Rattle.rules.specs.Book.{Book}
 use Rattle.rules.specs.Rows.{Row, sumWhere}
 use Rattle.rules.specs.Check.{noRow}
-use Rattle.rules.specs.Dispatch.{listedBefore, insertRow, listRows}
+use Rattle.rules.specs.Dispatch.{listedBefore, insertRow, inListOrder}
 use Rattle.rules.specs.Demands.DispatchList.{sameRow, timesIn}
 use Rattle.rules.proofs.Laws.Division.{lt-or-ge}
 use Rattle.rules.proofs.Rows.Rising.{_∈_, first-in, Rising, rising-at, rising-unique, Inserts, insert-rising}
@@ -69,15 +69,15 @@ module _ (count : List Row → ℕ) (one : Row → ℕ) (adds : (r : Row) (rs : 
       go true ih = omega (arith, adds q (insertRow r qs), adds q qs)
       go false ih = adds r (q ∷ qs)
 
-  list-count : (rows : List Row) → count (listRows rows) ≡ count rows
-  unfolding listRows
+  list-count : (rows : List Row) → count (inListOrder rows) ≡ count rows
+  unfolding inListOrder
   list-count [] = refl
-  list-count (r ∷ rs) = omega (arith, insert-count r (listRows rs), list-count rs, adds r rs)
+  list-count (r ∷ rs) = omega (arith, insert-count r (inListOrder rs), list-count rs, adds r rs)
 
-pub list-length : (rows : List Row) → length (listRows rows) ≡ length rows
+pub list-length : (rows : List Row) → length (inListOrder rows) ≡ length rows
 list-length = list-count length (λ r. 1) (λ r rs. omega arith)
 
-pub list-sum : (q : Row → Bool) (rows : List Row) → sumWhere q (listRows rows) ≡ sumWhere q rows
+pub list-sum : (q : Row → Bool) (rows : List Row) → sumWhere q (inListOrder rows) ≡ sumWhere q rows
 unfolding sumWhere
 list-sum q = list-count (sumWhere q) (counted q) (λ r rs. refl)
 
@@ -85,7 +85,7 @@ times-more : (r q : Row) (qs : List Row) → timesIn r (q ∷ qs) ≡ bit (sameR
 unfolding timesIn
 times-more r q qs = refl
 
-pub list-as-often : (r : Row) (rows : List Row) → timesIn r (listRows rows) ≡ timesIn r rows
+pub list-as-often : (r : Row) (rows : List Row) → timesIn r (inListOrder rows) ≡ timesIn r rows
 list-as-often r = list-count (timesIn r) (λ q. bit (sameRow q r)) (times-more r)
 
 -- ---- elements: a row is among rows where it is there at least once
@@ -123,11 +123,11 @@ in-times r (q ∷ qs) m = go (List·Memᴰ·cases-cons m) (in-times r qs)
 as-often-in : (r : Row) (xs ys : List Row) → timesIn r xs ≡ timesIn r ys → r ∈ xs → r ∈ ys
 as-often-in r xs ys e m = times-in r ys (omega (arith, in-times r xs m))
 
-pub list-in : (rows : List Row) (r : Row) → r ∈ listRows rows → r ∈ rows
-list-in rows r = as-often-in r (listRows rows) rows (list-as-often r rows)
+pub list-in : (rows : List Row) (r : Row) → r ∈ inListOrder rows → r ∈ rows
+list-in rows r = as-often-in r (inListOrder rows) rows (list-as-often r rows)
 
-pub in-list : (rows : List Row) (r : Row) → r ∈ rows → r ∈ listRows rows
-in-list rows r = as-often-in r rows (listRows rows) (sym (list-as-often r rows))
+pub in-list : (rows : List Row) (r : Row) → r ∈ rows → r ∈ inListOrder rows
+in-list rows r = as-often-in r rows (inListOrder rows) (sym (list-as-often r rows))
 
 -- ---- rising order
 inserts : Inserts listedBefore insertRow
@@ -135,15 +135,15 @@ unfolding insertRow
 inserts = record { first = λ r. refl; next = λ r q qs. refl }
 
 -- rows that rise in the table's order, listed
-pub list-rising : (b : Book) (rows : List Row) → Rising (Before b) rows → Rising Listed (listRows rows)
-unfolding Rising listRows
+pub list-rising : (b : Book) (rows : List Row) → Rising (Before b) rows → Rising Listed (inListOrder rows)
+unfolding Rising inListOrder
 list-rising b [] h = tt
 list-rising b (r ∷ rs) h =
-    insert-rising inserts Listed listed-trans listed-before before-listed r (listRows rs)
+    insert-rising inserts Listed listed-trans listed-before before-listed r (inListOrder rs)
     (λ q m. ⊎-elim inr inl (differ-listed r q (before-differs b r q (h .0 q (list-in rs q m))))) (list-rising b rs (h .1))
 
 -- equal lists are of the same rows, since these have one order in a table
-pub list-injective : (b : Book) (xs ys : List Row) → Rising (Before b) xs → Rising (Before b) ys → listRows xs ≡ listRows ys → xs ≡ ys
+pub list-injective : (b : Book) (xs ys : List Row) → Rising (Before b) xs → Rising (Before b) ys → inListOrder xs ≡ inListOrder ys → xs ≡ ys
 list-injective b xs ys p q e =
     rising-unique (Before b) (before-asymmetric b) xs ys p q
     (λ r m. list-in ys r (subst (λ l. r ∈ l) e (in-list xs r m)))

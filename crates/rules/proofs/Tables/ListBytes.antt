@@ -9,7 +9,7 @@ use Rattle.rules.specs.Fields.{bytesOf}
 use Rattle.rules.specs.Book.{Book}
 use Rattle.rules.specs.Rows.{Row}
 use Rattle.rules.specs.Table.{rowLength, rowsBytes}
-use Rattle.rules.specs.Dispatch.{listRows, listHead, listLength, listBytes, rowsInList}
+use Rattle.rules.specs.Dispatch.{inListOrder, listHead, listLength, listBytes, rowsInList}
 use Rattle.rules.proofs.Rows.Rising.{_∈_}
 use Rattle.rules.proofs.Laws.Fields.{bytes-length, stands-whole, stands-after}
 use Rattle.rules.proofs.Tables.TableBytes.{RowFits, rows-bytes-length, rows-written}
@@ -24,17 +24,17 @@ module _ (b : Book) (rows : List Row) where
 
   pub list-bytes-length : length (listBytes b rows) ≡ listLength rows
   unfolding listBytes listLength
-  list-bytes-length = length-append head (rowsBytes (listRows rows)) ∙ omega (arith, head-length, rows-bytes-length (listRows rows), list-length rows)
+  list-bytes-length = length-append head (rowsBytes (inListOrder rows)) ∙ omega (arith, head-length, rows-bytes-length (inListOrder rows), list-length rows)
 
   -- the rows are read back
-  pub list-rows-written : ((r : Row) → r ∈ rows → RowFits r) → rowsInList (listBytes b rows) ≡ listRows rows
+  pub list-rows-written : ((r : Row) → r ∈ rows → RowFits r) → rowsInList (listBytes b rows) ≡ inListOrder rows
   unfolding rowsInList listBytes listLength
   list-rows-written fits =
       let s = listBytes b rows in
-      let count : (length s - listHead) / rowLength ≡ length (listRows rows) = omega (arith, list-bytes-length, list-length rows) in
+      let count : (length s - listHead) / rowLength ≡ length (inListOrder rows) = omega (arith, list-bytes-length, list-length rows) in
       rw count
-      (rows-written s listHead 0 (listRows rows) (λ r m. fits r (list-in rows r m))
-      (stands-after s 0 listHead head (rowsBytes (listRows rows)) head-length (stands-whole s)))
+      (rows-written s listHead 0 (inListOrder rows) (λ r m. fits r (list-in rows r m))
+      (stands-after s 0 listHead head (rowsBytes (inListOrder rows)) head-length (stands-whole s)))
 
   -- ---- in an output
   module _ (out : List ℕ) where
@@ -50,5 +50,5 @@ module _ (b : Book) (rows : List Row) where
     pub list-head : take listHead written ≡ head
     unfolding listBytes
     list-head =
-        rw (append-assoc head (rowsBytes (listRows rows)) (drop (listLength rows) out))
-        (take-at head (rowsBytes (listRows rows) ++ drop (listLength rows) out) listHead head-length)
+        rw (append-assoc head (rowsBytes (inListOrder rows)) (drop (listLength rows) out))
+        (take-at head (rowsBytes (inListOrder rows) ++ drop (listLength rows) out) listHead head-length)

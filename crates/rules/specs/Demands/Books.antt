@@ -1,4 +1,5 @@
--- Which books pass, and what a version 1 book and a cap above P mean, in every call. Assumes nothing.
+-- What passes is in range, and every encoding of values in range passes; what a version 1 book and a cap above P mean to planner and check (to the other two
+-- calls: `Dispatches`, `Finishes`). Assumes nothing.
 use mathlib.Core.Path.{_≡_}
 use Prim.Native.Nat.{ℕ, _≤_, _<_}
 use mathlib.Core.List.{List}

@@ -20,13 +20,13 @@ use Rattle.rules.specs.Schedule.{Schedule, IsJob, Valid}
 
 -- ---- service windows of the cluster (02, Req 07)
 
--- what a calendar that breaks its layout is turned down by, and what one that does not asks of schedules
+-- how a faulty calendar is refused, and what a good one asks of schedules
 pub record Calendars : Type 0 where
   -- a calendar is turned down by 24 alone, "with 255 and 255"
   pub by-24 : (calendar : List ℕ) (n f j : ℕ) → calendarFault calendar ≡ Refused n f j → (n ≡ 24) × ((f ≡ none) × (j ≡ none))
   -- "after the book's checks": a faulty book is refused as it is, whatever the calendar
   pub book-first : (book calendar : List ℕ) (n f j : ℕ) → bookFault book ≡ Refused n f j → readBook book calendar ≡ unread n f j
-  -- "and before 11": whatever output and work area are lent, which stay as they were
+  -- "and before 11": whatever output and work area are lent, which stay as they were (the finish of one flow: `Finishes.calendar-next`, after 23)
   pub plan-24 : (book calendar out area : List ℕ) → bookFault book ≡ Pass → calendarFault calendar ≡ Refused 24 none none →
       planCall book calendar out area ≡ record { answer = planRefused 24 none none; output = out; area = area }
   pub check-24 : (book calendar table area : List ℕ) → bookFault book ≡ Pass → calendarFault calendar ≡ Refused 24 none none →
@@ -61,13 +61,13 @@ pub record NoWindows : Type 0 where
   pub check-met : (book table area : List ℕ) → checkCall book noWindows table area ≡ formerCheckCall book table area
   pub dispatch-met : (book table out area : List ℕ) → dispatchCall book noWindows table out area ≡ formerDispatchCall book table out area
   pub finish-met : (book area : List ℕ) (f : ℕ) → finishCall book noWindows f area ≡ formerFinishCall book f area
-  -- it is never turned down, and the book is read as by itself
+  -- the calendar without windows is never turned down, and the book is read as by itself
   pub reads : (book : List ℕ) → readBook book noWindows ≡ readingOf (bookFault book) (bookOf book)
   pub every-slot-open : (t : ℕ) → isOpen [] t ≡ true
   pub open-before : (t : ℕ) → openBefore [] t ≡ t
   -- a flow may use the slots from its release on; "Twice the deadline" is 2 × deadline, and rule 6's last slot is 2 × deadline − 1
   pub from-release : (b : Book) (w : Flow) (t : ℕ) → b .calendar ≡ [] → usable b w t ≡ leb (w .release) t
   pub twice : (b : Book) (w : Flow) → b .calendar ≡ [] → twiceDeadline b w ≡ 2 * w .deadline
-  pub last-slot : (b : Book) (w : Flow) → b .calendar ≡ [] → w .deadline ≤ mostDeadline → slotsFor b w ≡ 2 * w .deadline
+  pub slots-twice : (b : Book) (w : Flow) → b .calendar ≡ [] → w .deadline ≤ mostDeadline → slotsFor b w ≡ 2 * w .deadline
   -- 25 is never said
   pub never-25 : (book table area : List ℕ) → checkCall book noWindows table area .answer .number ≡ 25 → ⊥

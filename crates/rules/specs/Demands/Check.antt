@@ -1,6 +1,6 @@
 -- Demand 2 of the table check: what it accepts, and that it accepts the plans. Assumes nothing.
 use mathlib.Core.Path.{_≡_}
-use Prim.Native.Nat.{ℕ, _≤_, _+_, _*_, _<_}
+use Prim.Native.Nat.{ℕ, _≤_, _<_}
 use mathlib.Core.Bool.{false}
 use mathlib.Core.List.{List}
 use lib.ListN.{length, take, getD}
@@ -15,7 +15,6 @@ use Rattle.rules.specs.Rows.{lateFlows, Row, workUsed}
 use Rattle.rules.specs.Planner.{planCall}
 use Rattle.rules.specs.Check.{checkCall, tableRows, noRow, rowFault, tableHeadFault}
 use Rattle.rules.specs.Schedule.{Schedule, everyFlow, Valid, InSlots, scheduleRows, scheduleTable}
-use Rattle.rules.specs.Demands.Planner.{sizesOf}
 
 -- ---- demand 2, second half: "The table check accepts exactly the tables that are valid schedules of the book, written in the stated order
 -- under the right head and finishes."
@@ -33,7 +32,7 @@ pub record AcceptsExactly : Type 0 where
       checkCall book calendar table area .answer .number ≡ 0 → IsScheduleTable b table (checkCall book calendar table area .answer .late)
   pub every-schedule : (book calendar table area : List ℕ) (b : Book) (late : ℕ) → readBook book calendar ≡ read b → workBytes ≤ length area →
       IsScheduleTable b table late → checkCall book calendar table area .answer ≡ checkAccepted late
-  -- "After acceptance each pair holds the processors in use in that slot.", and bytes past the caller's size are untouched
+  -- "After acceptance each pair holds the processors in use in that slot." "Bytes past 16,384 are untouched."
   pub area-used : (book calendar table area : List ℕ) (b : Book) → readBook book calendar ≡ read b → checkCall book calendar table area .answer .number ≡ 0 →
       checkCall book calendar table area .area ≡ workUsed slots (tableRows b table) area
 
@@ -55,11 +54,11 @@ pub record PassesFifteen (b : Book) (r : Row) : Type 0 where
   pub slot-in : r .slot < slots
   pub flow-in : r .flow < flowCount b
   pub job-in : r .job < jobCount (flowOf b (r .flow))
-  pub some : 0 < r .processors
+  pub processors-some : 0 < r .processors
 
 -- the first row with a fault is row k: it uses a shut slot and passes 15
 pub record ShutRow (b : Book) (table : List ℕ) (k : ℕ) : Type 0 where
-  pub in-table : k < length (tableRows b table)
+  pub is-row : k < length (tableRows b table)
   pub before-pass : (j : ℕ) → j < k → rowFault b (isOpen (b .calendar)) (tableRows b table) j ≡ Pass
   pub passes-15 : PassesFifteen b (rowIn b table k)
   pub shut : isOpen (b .calendar) (rowIn b table k .slot) ≡ false
@@ -71,9 +70,3 @@ pub record RowsShut : Type 0 where
   pub every-shut : (book calendar table area : List ℕ) (b : Book) (k : ℕ) → readBook book calendar ≡ read b → workBytes ≤ length area →
       tableHeadFault b table ≡ Pass → ShutRow b table k →
       checkCall book calendar table area .answer ≡ checkRefused 25 (rowIn b table k .flow) (rowIn b table k .job)
-
--- ---- a table that is accepted has a row for each processor-slot at most
-unfoldable pub AcceptedLength : Type 0
-AcceptedLength =
-    (book calendar table area : List ℕ) (b : Book) → readBook book calendar ≡ read b → checkCall book calendar table area .answer .number ≡ 0 →
-    length table ≤ 8 + 2 * flowCount b + 6 * sizesOf b

@@ -26,10 +26,11 @@ pub record DispatchRefusal (out area : List ℕ) (o : DispatchOutcome) : Type 0 
   pub output-kept : o .output ≡ out
   pub area-left : AreaAfterRefusal (o .answer .number) area (o .area)
 
--- how often a row is among rows
+-- the rows are equal
 abbrev pub sameRow : Row → Row → Bool
 sameRow q r = eqb (q .slot) (r .slot) && eqb (q .flow) (r .flow) && eqb (q .job) (r .job) && eqb (q .processors) (r .processors)
 
+-- how often a row is among rows
 unfoldable pub timesIn : Row → List Row → ℕ
 timesIn r [] = 0
 timesIn r (q ∷ qs) = bit (sameRow q r) + timesIn r qs
@@ -42,7 +43,7 @@ abbrev pub rowsListed : DispatchOutcome → List Row
 rowsListed o = rowsInList (listOf o)
 
 -- what an accepted call leaves, read off its bytes, for a table with these rows
-pub record ListsRows (b : Book) (rows : List Row) (out : List ℕ) (o : DispatchOutcome) : Type 0 where
+pub record WritesList (b : Book) (rows : List Row) (out : List ℕ) (o : DispatchOutcome) : Type 0 where
   pub length-is : o .answer .length ≡ listLength rows
   -- "length (4), version 1 (1), P (2)"
   pub head : take listHead (o .output) ≡ bytesOf 4 (listLength rows) ++ bytesOf 1 1 ++ bytesOf 2 (b .processors)
@@ -73,8 +74,8 @@ pub record Dispatches : Type 0 where
       DispatchRefusal out area (dispatchCall book calendar table out area)
   -- "the table's rows, ordered by slot, flow, job"
   pub lists-table : (book calendar table out area : List ℕ) (b : Book) → readBook book calendar ≡ read b → AllBytes table →
-      dispatchCall book calendar table out area .answer .number ≡ 0 → ListsRows b (tableRows b table) out (dispatchCall book calendar table out area)
-  -- "the work area ends as the check leaves it", whole, bytes past the caller's size too
+      dispatchCall book calendar table out area .answer .number ≡ 0 → WritesList b (tableRows b table) out (dispatchCall book calendar table out area)
+  -- "the work area ends as the check leaves it", whole, the bytes past 16,384 too
   pub area-as-check : (book calendar table out area : List ℕ) → dispatchCall book calendar table out area .answer .number ≡ 0 →
       dispatchCall book calendar table out area .area ≡ checkCall book calendar table area .area
   -- "Nothing is lost by it: two different accepted tables of one book never give equal lists."
@@ -84,7 +85,7 @@ pub record Dispatches : Type 0 where
   -- the list of a table that the planner wrote has every row of the plan
   pub lists-plan : (book calendar out area list other : List ℕ) (b : Book) → readBook book calendar ≡ read b → planCall book calendar out area .answer .number ≡ 0 →
       listLength (rowsOf (plan b)) ≤ length list → workBytes ≤ length other →
-      ListsRows b (rowsOf (plan b)) list (dispatchCall book calendar (take (planCall book calendar out area .answer .length) (planCall book calendar out area .output)) list other)
+      WritesList b (rowsOf (plan b)) list (dispatchCall book calendar (take (planCall book calendar out area .answer .length) (planCall book calendar out area .output)) list other)
   -- as for planner and check: a version 1 book means release 0 (Req 01), and caps above P count as P (Req 02)
   pub version-1-kept : (book calendar : List ℕ) (b : Book) → readBook book calendar ≡ read b → versionOf book ≡ 1 → (table out area : List ℕ) →
       dispatchCall book calendar table out area ≡ dispatchCall (bookBytes 2 b) calendar table out area

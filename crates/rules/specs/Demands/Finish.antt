@@ -12,6 +12,7 @@ use Rattle.rules.specs.Limits.{slots, workBytes}
 use Rattle.rules.specs.Calendar.{calendarFault}
 use Rattle.rules.specs.Book.{Book, flowCount, lowered}
 use Rattle.rules.specs.Reading.{versionOf, bookOf, bookFault, read, readBook, bookBytes}
+use Rattle.rules.specs.Service.{upTo}
 use Rattle.rules.specs.Rows.{workZero}
 use Rattle.rules.specs.Placing.{rowsOf, plan}
 use Rattle.rules.specs.Table.{tableBytes, finishIn}
@@ -19,7 +20,7 @@ use Rattle.rules.specs.Planner.{PlanOutcome, planCall}
 use Rattle.rules.specs.Finish.{upToNamed, FinishOutcome, finishCall}
 use Rattle.rules.specs.Cut.{amongFirst, cut, numberInCut}
 use Rattle.rules.specs.Demands.Refusals.{byEleven}
-use Rattle.rules.specs.Demands.Planner.{WithinTwice, upTo, NoneOnTime}
+use Rattle.rules.specs.Demands.Planner.{WithinTwice, NoneOnTime}
 
 -- ---- the finish of one flow (02, Req 05)
 
@@ -44,10 +45,13 @@ pub record AsForCut (b : Book) (f : ℕ) (p : PlanOutcome) (o : FinishOutcome) :
   -- "it is that 12", with the flow's number in the whole book: a flow that was kept, and the one refused in the cut book
   pub same-flow : p .answer .number ≡ 12 →
       (amongFirst b (upToNamed b f) (o .answer .flow) ≡ true) × (p .answer .flow ≡ numberInCut b (upToNamed b f) (o .answer .flow))
+  -- "An accepted call returns number 0 and place 255, 255."; 12 with "that flow, 255"
+  pub no-flow : p .answer .number ≡ 0 → o .answer .flow ≡ none
+  pub no-job : o .answer .job ≡ none
   -- "The work area ends as it would for the book cut after that flow in service order."
   pub same-area : o .area ≡ p .area
 
--- what an infeasible flow proves: it is that flow or one before it, and demand 3's second half
+-- 12 with flow g: g is the flow asked for or one before it, and no schedule of the flows up to g is on time
 pub record RefusedFlow (b : Book) (f g : ℕ) : Type 0 where
   pub in-book : g < flowCount b
   pub up-to-named : upTo b f g ≡ true
@@ -64,7 +68,7 @@ pub record Finishes : Type 0 where
   -- "23 when the flow number is not in the book, after every check of the book and before 11, with 255 and 255", and only then
   pub not-in-book : (book calendar area : List ℕ) (f : ℕ) → bookFault book ≡ Pass → flowCount (bookOf book) ≤ f →
       finishCall book calendar f area ≡ record { answer = finishRefused 23 none none; area = area }
-  pub only-then : (book calendar area : List ℕ) (f : ℕ) → finishCall book calendar f area .answer .number ≡ 23 → (bookFault book ≡ Pass) × (flowCount (bookOf book) ≤ f)
+  pub only-23 : (book calendar area : List ℕ) (f : ℕ) → finishCall book calendar f area .answer .number ≡ 23 → (bookFault book ≡ Pass) × (flowCount (bookOf book) ≤ f)
   -- "24 .. after the book's checks and 23 and before 11" (02, Req 07)
   pub calendar-next : (book calendar area : List ℕ) (f n g j : ℕ) → bookFault book ≡ Pass → f < flowCount (bookOf book) → calendarFault calendar ≡ Refused n g j →
       finishCall book calendar f area ≡ record { answer = finishRefused n g j; area = area }

@@ -26,7 +26,7 @@ pub record LateMeans (b : Book) (σ : Schedule) (f finish : ℕ) : Type 0 where
   -- with a deadline of 1 it is always late
   pub deadline-1-late : flowOf b f .deadline ≡ 1 → isLate (flowOf b f) finish ≡ true
 
--- "in planner and check alike": of every plan, and of every valid schedule, whoever made it, by the rows that their late flows are counted by
+-- "in planner and check alike": of every plan, and of every valid schedule in a table's slots, whoever made it
 pub record WriteBack : Type 0 where
   pub of-plans : (book calendar : List ℕ) (b : Book) → readBook book calendar ≡ read b → (rows : List Row) → plan b ≡ planned rows → (f : ℕ) → f < flowCount b →
       LateMeans b (scheduleOf rows) f (finishOf rows f)

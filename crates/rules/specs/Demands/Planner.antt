@@ -2,21 +2,18 @@
 -- refusal proves that none is on time. Assumes nothing.
 use mathlib.Core.Path.{_≡_}
 use mathlib.Core.Logic.{_⊎_}
-use Prim.Native.Nat.{ℕ, _≤_, _<_, _+_, _*_}
-use mathlib.Core.Bool.{Bool, true, _||_}
+use Prim.Native.Nat.{ℕ, _≤_, _<_}
+use mathlib.Core.Bool.{true}
 use mathlib.Core.List.{List, _++_}
 use lib.ListN.{length, drop}
-use lib.Dec.{eqb}
-use Rattle.rules.specs.Walks.{sumTo}
-use Rattle.rules.specs.Answers.{none}
+use Rattle.rules.specs.Answers.{none, planAccepted, planRefused}
 use Rattle.rules.specs.Limits.{workBytes, slots}
 use Rattle.rules.specs.Calendar.{openBefore}
-use Rattle.rules.specs.Book.{Book, flowCount, flowOf, twiceDeadline, jobCount, jobOf}
+use Rattle.rules.specs.Book.{Book, flowCount, flowOf, twiceDeadline}
 use Rattle.rules.specs.Reading.{versionOf, read, readBook, bookBytes}
-use Rattle.rules.specs.PseudoJobs.{chain}
-use Rattle.rules.specs.Service.{servedBefore}
+use Rattle.rules.specs.Service.{upTo}
 use Rattle.rules.specs.Rows.{Row, finishOf, lateFlows, workUsed}
-use Rattle.rules.specs.Placing.{planned, rowsOf, plan}
+use Rattle.rules.specs.Placing.{planned, rowsOf, plan, infeasible}
 use Rattle.rules.specs.Table.{tableLength, tableBytes}
 use Rattle.rules.specs.Planner.{PlanOutcome, planCall}
 use Rattle.rules.specs.Schedule.{Schedule, everyFlow, Valid, EndsBy, InSlots, scheduleOf}
@@ -33,13 +30,25 @@ pub record WritesPlan (b : Book) (out area : List ℕ) (o : PlanOutcome) : Type 
   pub table : o .output ≡ tableBytes b (rowsOf (plan b)) ++ drop (tableLength b (rowsOf (plan b))) out
   pub late-flows : o .answer .late ≡ lateFlows b (rowsOf (plan b))
   pub table-length : o .answer .length ≡ tableLength b (rowsOf (plan b))
-  -- "After acceptance each pair holds the processors in use in that slot.", and bytes past the caller's size are untouched
+  -- "After acceptance each pair holds the processors in use in that slot." "Bytes past 16,384 are untouched."
   pub work-area : o .area ≡ workUsed slots (rowsOf (plan b)) area
 
 unfoldable pub PlansByTheRules : Type 0
 PlansByTheRules =
     (book calendar out area : List ℕ) (b : Book) → readBook book calendar ≡ read b → planCall book calendar out area .answer .number ≡ 0 →
     WritesPlan b out area (planCall book calendar out area)
+
+-- "The planner goes on with 12, 13.": which number it is, where the book passes and the work area is long enough
+pub record PlanNumbers : Type 0 where
+  -- "infeasible by rule 6", and only then
+  pub infeasible-12 : (book calendar out area : List ℕ) (b : Book) → readBook book calendar ≡ read b → workBytes ≤ length area → (f : ℕ) → plan b ≡ infeasible f →
+      planCall book calendar out area .answer ≡ planRefused 12 f none
+  -- "table longer than the lent output"
+  pub longer-13 : (book calendar out area : List ℕ) (b : Book) → readBook book calendar ≡ read b → workBytes ≤ length area → (rows : List Row) →
+      plan b ≡ planned rows → length out < tableLength b rows → planCall book calendar out area .answer ≡ planRefused 13 none none
+  -- otherwise it is accepted
+  pub fits-0 : (book calendar out area : List ℕ) (b : Book) → readBook book calendar ≡ read b → workBytes ≤ length area → (rows : List Row) →
+      plan b ≡ planned rows → tableLength b rows ≤ length out → planCall book calendar out area .answer ≡ planAccepted (lateFlows b rows) (tableLength b rows)
 
 -- ---- demand 3: "Whatever book passes its checks, at whatever point in the deadline order it is cut, and whatever output and work area the
 -- planner is lent, this holds."
@@ -59,10 +68,6 @@ pub record PlannedWell (b : Book) (rows : List Row) : Type 0 where
   pub within-twice : (f : ℕ) → f < flowCount b → WithinTwice b f (finishOf rows f)
   -- no plan needs a slot above 8,191, whatever the calendar (02, Req 07)
   pub in-slots : InSlots (scheduleOf rows)
-
--- "that flow and those before it" in service order
-abbrev pub upTo : Book → ℕ → ℕ → Bool
-upTo b f g = eqb g f || servedBefore b g f
 
 -- "no whole-slot schedule of that flow and those before it, whoever made it, keeps the same rules and ends each of them by its own deadline";
 -- "a refusal that means no schedule beginning at the releases could be on time" (02, Req 01); "On-time schedules in the claim about refusals use open
@@ -95,21 +100,8 @@ Demand3 =
     (book calendar : List ℕ) (b : Book) → readBook book calendar ≡ read b → (k : ℕ) → k ≤ flowCount b → (out area : List ℕ) → workBytes ≤ length area →
     PlannerOwes (cut b k) out (planCall (bookBytes (versionOf book) (cut b k)) calendar out area)
 
--- the same of the caller's own bytes, whichever version they have: they are the book cut after all its flows
+-- the same of the caller's own bytes, whichever version they have; their values are those of the book cut after all its flows
 pub record OfWholeBook : Type 0 where
   pub cut-after-all : (b : Book) → cut b (flowCount b) ≡ b
   pub owes : (book calendar : List ℕ) (b : Book) → readBook book calendar ≡ read b → (out area : List ℕ) → workBytes ≤ length area →
       PlannerOwes b out (planCall book calendar out area)
-
--- ---- how much a plan can take
--- the sizes of all jobs of a book, added
-unfoldable pub sizesOf : Book → ℕ
-sizesOf b = sumTo (λ f. sumTo (λ i. jobOf (flowOf b f) i .size) (jobCount (flowOf b f))) (flowCount b)
-
-pub record PlanBounds : Type 0 where
-  -- a flow of n jobs has at most 2 × n pseudo-jobs
-  pub pseudo-jobs : (book calendar : List ℕ) (b : Book) → readBook book calendar ≡ read b → (f : ℕ) → f < flowCount b →
-      length (chain (flowOf b f)) ≤ 2 * jobCount (flowOf b f)
-  -- a row for each processor-slot at most
-  pub table-most : (book calendar out area : List ℕ) (b : Book) → readBook book calendar ≡ read b → planCall book calendar out area .answer .number ≡ 0 →
-      planCall book calendar out area .answer .length ≤ 8 + 2 * flowCount b + 6 * sizesOf b

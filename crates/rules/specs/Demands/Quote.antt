@@ -9,7 +9,7 @@ use Rattle.rules.specs.Limits.{workBytes}
 use Rattle.rules.specs.Calendar.{openBefore}
 use Rattle.rules.specs.Book.{Flow, Book, flowCount, jobCount, flowOf, jobOf, twiceDeadline}
 use Rattle.rules.specs.Reading.{read, readBook}
-use Rattle.rules.specs.Service.{servedBefore}
+use Rattle.rules.specs.Service.{servedBefore, upTo}
 use Rattle.rules.specs.Rows.{finishOf}
 use Rattle.rules.specs.Placing.{rowsOf, plan}
 use Rattle.rules.specs.Table.{finishIn}
@@ -18,7 +18,6 @@ use Rattle.rules.specs.Check.{tableRows}
 use Rattle.rules.specs.Finish.{finishCall}
 use Rattle.rules.specs.Schedule.{Schedule, Valid, EndsBy}
 use Rattle.rules.specs.Quote.{workOf, quote, appended, workUpTo}
-use Rattle.rules.specs.Demands.Planner.{upTo}
 
 -- ---- a closer finish to quote (02, Req 08): "Twice the deadline is a poor figure for the pulpit."
 
@@ -43,7 +42,7 @@ pub record Quotes : Type 0 where
   -- "the work of all flows up to and including it in service order"
   pub work-up-to : (b : Book) (f : ℕ) → f < flowCount b → workUpTo b f ≡ sumTo (λ g. if upTo b f g then workOf (flowOf b g) else 0) (flowCount b)
   -- where some schedule of the flow and those before it is on time, the quote is at least as close as twice the deadline
-  pub within-twice : (book calendar : List ℕ) (b : Book) → readBook book calendar ≡ read b → (f : ℕ) → f < flowCount b → (σ : Schedule) → Valid b (upTo b f) σ →
+  pub quote-within-twice : (book calendar : List ℕ) (b : Book) → readBook book calendar ≡ read b → (f : ℕ) → f < flowCount b → (σ : Schedule) → Valid b (upTo b f) σ →
       ((g : ℕ) → g < flowCount b → upTo b f g ≡ true → EndsBy σ g (flowOf b g .deadline)) → quote b f ≤ twiceDeadline b (flowOf b f)
 
 -- two books beside one calendar: the second has "flows appended at the end of the book, all later in service order than those before them"

@@ -9,11 +9,10 @@ use lib.Dec.{leb, eqb}
 use Rattle.rules.specs.declared.Verdict.{Verdict}
 use Rattle.rules.specs.declared.PlanAnswer.{PlanAnswer}
 use Rattle.rules.specs.declared.CheckAnswer.{CheckAnswer}
-use Rattle.rules.specs.Answers.{_andThen_, numberOf, flowNamed, jobNamed, none, planRefused, checkRefused}
+use Rattle.rules.specs.Answers.{numberOf, verdictFlow, verdictJob, none, planRefused, checkRefused}
 use Rattle.rules.specs.Limits.{slots, workBytes}
-use Rattle.rules.specs.Calendar.{calendarFault}
 use Rattle.rules.specs.Book.{Book}
-use Rattle.rules.specs.Reading.{bookFault, readBook, read}
+use Rattle.rules.specs.Reading.{readBook, read, bookVerdict}
 use Rattle.rules.specs.Rows.{workZero}
 use Rattle.rules.specs.Planner.{PlanOutcome, planCall}
 use Rattle.rules.specs.Check.{CheckOutcome, checkCall, tableFault}
@@ -43,21 +42,17 @@ pub record CheckRefusal (area : List ℕ) (o : CheckOutcome) : Type 0 where
   pub late-zero : o .answer .late ≡ 0
   pub area-left : AreaAfterRefusal (o .answer .number) area (o .area)
 
--- "The promises use that definition" of an enum's number and values: an answer with this number and place says this verdict
+-- number, flow and job of an answer are those of this verdict ("The promises use that definition")
 pub record Says (v : Verdict) (number flow job : ℕ) : Type 0 where
   pub number-is : number ≡ numberOf v
-  pub flow-is : flow ≡ flowNamed v
-  pub job-is : job ≡ jobNamed v
+  pub flow-is : flow ≡ verdictFlow v
+  pub job-is : job ≡ verdictJob v
 
 abbrev pub PlanSays : Verdict → PlanAnswer → Type 0
 PlanSays v a = Says v (a .number) (a .flow) (a .job)
 
 abbrev pub CheckSays : Verdict → CheckAnswer → Type 0
 CheckSays v a = Says v (a .number) (a .flow) (a .job)
-
--- the verdict on a book and the calendar that goes with it: the book's first fault, else "24 .. after the book's checks" (02, Req 07)
-abbrev pub bookVerdict : List ℕ → List ℕ → Verdict
-bookVerdict book calendar = bookFault book andThen calendarFault calendar
 
 pub record Demand1 : Type 0 where
   -- a book or a calendar that does not pass is turned down by its first fault, whatever else is lent
@@ -77,11 +72,12 @@ pub record Demand1 : Type 0 where
   pub planner-number : (book calendar out area : List ℕ) →
       (planCall book calendar out area .answer .number ≤ 13) ⊎
       ((planCall book calendar out area .answer .number ≡ 22) ⊎ (planCall book calendar out area .answer .number ≡ 24))
-  pub planner-refusal : (book calendar out area : List ℕ) → 0 < planCall book calendar out area .answer .number →
-      PlannerRefusal out area (planCall book calendar out area)
   pub check-number : (book calendar table area : List ℕ) →
       (checkCall book calendar table area .answer .number ≤ 11) ⊎
       (((14 ≤ checkCall book calendar table area .answer .number) × (checkCall book calendar table area .answer .number ≤ 22)) ⊎
       ((24 ≤ checkCall book calendar table area .answer .number) × (checkCall book calendar table area .answer .number ≤ 25)))
+  -- what every refusal returns and leaves
+  pub planner-refusal : (book calendar out area : List ℕ) → 0 < planCall book calendar out area .answer .number →
+      PlannerRefusal out area (planCall book calendar out area)
   pub check-refusal : (book calendar table area : List ℕ) → 0 < checkCall book calendar table area .answer .number →
       CheckRefusal area (checkCall book calendar table area)
