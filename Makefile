@@ -18,6 +18,7 @@ bench:
 # This library beside that of an earlier commit: make bench-between BEFORE=COMMIT. The calls of one from before Req 07 take no calendar.
 SHARED = cc -shared -Wl,-u,flowplan_plan -Wl,-u,flowplan_check
 bench-between:
+	@test -n "$(BEFORE)" || { echo "make bench-between BEFORE=COMMIT"; exit 2; }
 	rt staticlib flowplan
 	$(SHARED) target/staticlib/libflowplan.a -o target/after.so
 	before=$$(mktemp -d) && git clone -q . $$before && cd $$before && git checkout -q $(BEFORE) && rt staticlib flowplan && \

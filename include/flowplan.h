@@ -1,5 +1,6 @@
 /*
- * flowplan.h: flow planner, table check, dispatch list and finish of one flow.
+ * flowplan.h: flow planner, table check, dispatch list and finish of one flow. For
+ * C99 or later and C++11 or later.
  *
  * Version of this header, FLOWPLAN_HEADER_VERSION; what the library was built with
  * is told by flowplan_version. "Req 01" and so on are the change requests to the
@@ -51,8 +52,8 @@
  *   windows                              1    0 to 32
  *   then for each window, in which the whole cluster is shut
  *     first slot shut                    2    in the first window 0 or more, in the
- *                                             others above the slot at which the one
- *                                             before it opened again
+ *                                             others above the slot at which the
+ *                                             one before it opened again
  *     first slot open again              2    above the first slot shut, at most
  *                                             4,096
  *   It goes with the book. Shut slots are passed over: no row may stand in one. A
@@ -248,7 +249,7 @@ enum flowplan_number { FLOWPLAN_NUMBERS(FLOWPLAN_NAME) };
 #define FLOWPLAN_SENTENCE(name, number, sentence) \
     case name:                                    \
         return sentence;
-static inline const char *flowplan_text(uint8_t number)
+static inline const char *flowplan_text(uint32_t number)
 {
     switch (number) {
         FLOWPLAN_NUMBERS(FLOWPLAN_SENTENCE)
@@ -289,10 +290,11 @@ struct flowplan_check_answer {
  *       or 24: as it was. Refused by another number: its first FLOWPLAN_WORK_BYTES
  *       bytes are zero.
  */
-struct flowplan_check_answer flowplan_check(const uint8_t *book, size_t book_len,
-                                            const uint8_t *calendar, size_t calendar_len,
-                                            const uint8_t *table, size_t table_len,
-                                            uint8_t *work, size_t work_len);
+struct flowplan_check_answer flowplan_check(
+    const uint8_t *book, size_t book_len,
+    const uint8_t *calendar, size_t calendar_len,
+    const uint8_t *table, size_t table_len,
+    uint8_t *work, size_t work_len);
 
 /* ---- End of table check ------------------------------------------------ */
 
@@ -325,10 +327,11 @@ struct flowplan_plan_answer {
  *         22 or 24: as it was. Refused by 12 or 13: its first FLOWPLAN_WORK_BYTES
  *         bytes are zero.
  */
-struct flowplan_plan_answer flowplan_plan(const uint8_t *book, size_t book_len,
-                                          const uint8_t *calendar, size_t calendar_len,
-                                          uint8_t *output, size_t output_len,
-                                          uint8_t *work, size_t work_len);
+struct flowplan_plan_answer flowplan_plan(
+    const uint8_t *book, size_t book_len,
+    const uint8_t *calendar, size_t calendar_len,
+    uint8_t *output, size_t output_len,
+    uint8_t *work, size_t work_len);
 
 /* ---- End of planner ---------------------------------------------------- */
 
@@ -357,11 +360,12 @@ struct flowplan_list_answer {
  *         22 or 24: as it was. Refused by another number: its first
  *         FLOWPLAN_WORK_BYTES bytes are zero.
  */
-struct flowplan_list_answer flowplan_dispatch(const uint8_t *book, size_t book_len,
-                                              const uint8_t *calendar, size_t calendar_len,
-                                              const uint8_t *table, size_t table_len,
-                                              uint8_t *output, size_t output_len,
-                                              uint8_t *work, size_t work_len);
+struct flowplan_list_answer flowplan_dispatch(
+    const uint8_t *book, size_t book_len,
+    const uint8_t *calendar, size_t calendar_len,
+    const uint8_t *table, size_t table_len,
+    uint8_t *output, size_t output_len,
+    uint8_t *work, size_t work_len);
 
 /* ---- End of dispatch list ---------------------------------------------- */
 
@@ -376,9 +380,9 @@ struct flowplan_finish_answer {
 
 /*
  * The finish of one flow, and no table. Book and calendar are checked in full, but
- * flows are placed only up to the one named, in service order. The finish is the one
- * that the planner's table shows, or would show without the flows after this
- * one. Before it stand at most twice as many open slots as before the deadline.
+ * flows are placed only up to the one named, in service order. The finish is that
+ * of the planner's table, or of the one without the flows after this one. Before
+ * it stand at most twice as many open slots as before the deadline.
  *
  * Where the flow named or one before it in service order is infeasible, the
  * answer is 12 with that flow's number in the book. An infeasible flow after the
@@ -391,10 +395,11 @@ struct flowplan_finish_answer {
  *       service order. Refused by 1 to 11 or 22 to 24: as it was. Refused by 12:
  *       its first FLOWPLAN_WORK_BYTES bytes are zero.
  */
-struct flowplan_finish_answer flowplan_finish(const uint8_t *book, size_t book_len,
-                                              const uint8_t *calendar, size_t calendar_len,
-                                              uint32_t flow,
-                                              uint8_t *work, size_t work_len);
+struct flowplan_finish_answer flowplan_finish(
+    const uint8_t *book, size_t book_len,
+    const uint8_t *calendar, size_t calendar_len,
+    uint32_t flow,
+    uint8_t *work, size_t work_len);
 
 /* ---- End of finish of one flow ----------------------------------------- */
 

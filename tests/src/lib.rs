@@ -1,6 +1,6 @@
 //! A second planner, a second table check, a second dispatch list, a second finish of
-//! one flow and the quote of one, made apart from the proved ones and from the rules
-//! alone, with generators of books, calendars and tables, for differential tests and as
+//! one flow and the quote of one, made apart from the code of the proved ones,
+//! with generators of books, calendars and tables, for differential tests and as
 //! a baseline of speed.
 
 pub mod answer;
