@@ -2,6 +2,7 @@
 pub mod Caps
 pub mod Passing
 pub mod RoundTrip
+pub mod Encodings
 pub mod Versions
 pub mod ServiceOrder
 pub mod CutBook

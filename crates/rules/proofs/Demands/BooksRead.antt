@@ -1,5 +1,5 @@
--- Which books pass: what is read is in range; values in range, written, are read back; and 9 is a cap of 0 alone, since a cap fills its field and 9 comes from
--- the third test of a job. Assumes nothing.
+-- Which books pass: what is read is in range; values in range, written, are read back; what passes is the encoding of what is read; and 9 is a cap of 0 alone,
+-- since a cap fills its field and 9 comes from the third test of a job. Assumes nothing.
 use mathlib.Core.Path.{_≡_, sym, ap, _∙_, subst, refl}
 use mathlib.Core.Logic.{⊎-elim}
 use Prim.Native.Nat.{ℕ, _+_, _<_, _^_}
@@ -14,12 +14,13 @@ use Rattle.rules.specs.Answers.{none, firstFault}
 use Rattle.rules.specs.Limits.{outside, mostSize, mostDeadline, mostJobs, mostProcessors, mostFlows}
 use Rattle.rules.specs.Calendar.{calendarBytes}
 use Rattle.rules.specs.Book.{Book, InRange, flowIn, jobOf}
-use Rattle.rules.specs.Reading.{jobsAt, flowStart, jobStart, jobAt, bookOf, flowHeadFault, jobFault, flowFault, leftoverFault, bookFault, read, readBook, bookBytes, jobRecord, versionOf, flowHead, bookHead, releaseAt}
+use Rattle.rules.specs.Reading.{jobsAt, flowStart, jobStart, jobAt, bookOf, flowHeadFault, jobFault, flowFault, leftoverFault, bookFault, read, readBook, bookBytes, jobRecord, versionOf, flowHead, bookHead, releaseAt, flowsBytes}
 use Rattle.rules.specs.Demands.Books.{BooksRead}
 use Rattle.rules.proofs.Laws.Faults.{not-pass, then-met, fault-met, test-skipped, test-said, hold-skipped}
-use Rattle.rules.proofs.Reading.Passing.{flow-in-book, job-of-flow, read-in-range}
+use Rattle.rules.proofs.Reading.Passing.{flow-in-book, job-of-flow, read-in-range, read-passes, book-passes, calendar-passes}
 use Rattle.rules.proofs.Reading.RoundTrip.{Writable, writable-two, writable-one, read-written, calendar-read, calendar-written-passes}
 use Rattle.rules.proofs.Reading.Lowered.{only-zero}
+use Rattle.rules.proofs.Reading.Encodings.{book-encoded, calendar-encoded}
 
 module _ (s : List ℕ) (bytes : AllBytes s) (f i : ℕ) where
   -- where 9 is said of a job, its cap is 0
@@ -65,11 +66,23 @@ module _ (s : List ℕ) (bytes : AllBytes s) (f i : ℕ) where
       ⊎-elim flows-said (λ p. hold-skipped (eqb (flowStart s (byte s 7)) (length s)) 5 none none 9 f i refl (p .1))
       (then-met (firstFault (λ g. flowFault s g (flowStart s g)) (byte s 7)) (leftoverFault s) 9 f i (flows .1))
 
+-- the bytes of a book do not speak of its calendar
+only-encodings : (book calendar : List ℕ) (b : Book) → AllBytes book → AllBytes calendar → readBook book calendar ≡ read b →
+    (book ≡ bookBytes (versionOf book) b) × (calendar ≡ calendarBytes (b .calendar))
+unfolding bookBytes flowsBytes flowIn
+only-encodings book calendar b bytes also reads =
+    let w = read-passes book calendar b reads in
+    rw (w .is-book) (
+      book-encoded book bytes (book-passes book (w .book-passes)),
+      calendar-encoded calendar also (calendar-passes calendar (w .calendar-passes)),
+    )
+
 pub books-read : BooksRead
 books-read = record {
   in-range = read-in-range;
   version-2 = λ b r. read-back 2 b r (writable-two b r);
   version-1 = λ b r z. read-back 1 b r (writable-one b z);
+  only-encodings = only-encodings;
   cap-zero = λ book f i bytes. cap-zero book bytes f i;
 }
   where

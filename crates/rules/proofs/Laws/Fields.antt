@@ -1,10 +1,10 @@
 -- Laws of big-endian fields, over the width. Assumes nothing.
 use mathlib.Core.Path.{_≡_, refl, sym, ap, ap₂, _∙_}
+use mathlib.Core.Logic.{_⊎_, inl, inr}
 use Prim.Native.Nat.{ℕ, zero, suc, _+_, _*_, _-_, _/_, _%_, _^_, _≤_, _<_}
+use mathlib.Core.List.{List, [], _∷_, _++_}
 use native.Mathlib.Nat.{add-zero, zero-add, add-suc, add-assoc, mul-assoc, add-mul, pow-suc, pow-zero, mul-one, mod-one, mod-eq-of-lt, mod-lt, div-eq-of-lt, mul-add-div-right, mul-add-mod-self-right, one-le-pow, div-div-eq-div-mul, div-add-mod', not-suc-le-zero, le-of-suc-le-suc}
 use native.Mathlib.Omega.{arith}
-use mathlib.Core.Logic.{_⊎_, inl, inr}
-use mathlib.Core.List.{List, [], _∷_, _++_}
 use lib.ListN.{length, set, length-append, List·getD-append}
 use lib.Seq.{getD-append-add, ext-getD, sets}
 use Rattle.rules.specs.Walks.{sumTo, joinFrom}
@@ -164,6 +164,16 @@ stands-append s at n t u e g h k l = go (lt-or-ge k (length t))
         let there : length t + j ≡ k = omega arith in
         ap (byte s) (sym here) ∙ h j (omega (arith, length-append t u)) ∙ sym (getD-append-add t u j 0) ∙ ap (byte (t ++ u)) there
 
+-- several lists, each where those before it end
+pub joined-stands : (s : List ℕ) (at : ℕ) (g : ℕ → List ℕ) (n : ℕ) → ((k : ℕ) → k < n → StandsAt s (at + sumTo (λ j. length (g j)) k) (g k)) →
+    StandsAt s at (joinFrom g n 0)
+unfolding joinFrom
+joined-stands s at g zero h = stands-empty s at
+joined-stands s at g (suc n) h =
+    rw (join-last g n)
+    (stands-append s at (sumTo (λ j. length (g j)) n) (joinFrom g n 0) (g n) (join-length-zero g n)
+    (joined-stands s at g n (λ k l. h k (omega arith))) (h n (omega arith)))
+
 -- the bytes of a number, where the field has what n bytes can hold of it
 pub field-stands : (n x : ℕ) (s : List ℕ) (at : ℕ) → AllBytes s → field n s at ≡ x % 256 ^ n → StandsAt s at (bytesOf n x)
 unfolding bytesOf
@@ -191,20 +201,16 @@ stands-equal s t e h = ext-getD 0 s t e (λ k l. ap (byte s) (sym (zero-add k)) 
 pub join-bytes-length : (g : ℕ → List ℕ) (c n : ℕ) → ((k : ℕ) → k < n → length (g k) ≡ c) → length (joinFrom g n 0) ≡ c * n
 join-bytes-length g c n h = join-length-zero g n ∙ sum-ext (λ k. length (g k)) (λ k. c) n h ∙ sum-const c n
 
+bytes-before : (g : ℕ → List ℕ) (c n : ℕ) → ((k : ℕ) → k < n → length (g k) ≡ c) → (k : ℕ) → k < n → sumTo (λ j. length (g j)) k ≡ c * k
+bytes-before g c n e k l = sum-ext (λ j. length (g j)) (λ j. c) k (λ j m. e j (omega arith)) ∙ sum-const c k
+
 pub join-stands : (s : List ℕ) (at : ℕ) (g : ℕ → List ℕ) (c n : ℕ) → ((k : ℕ) → k < n → length (g k) ≡ c) →
     ((k : ℕ) → k < n → StandsAt s (at + c * k) (g k)) → StandsAt s at (joinFrom g n 0)
-unfolding joinFrom
-join-stands s at g c zero e h = stands-empty s at
-join-stands s at g c (suc n) e h =
-    rw (join-last g n)
-    (stands-append s at (c * n) (joinFrom g n 0) (g n) (join-bytes-length g c n (λ k l. e k (omega arith)))
-    (join-stands s at g c n (λ k l. e k (omega arith)) (λ k l. h k (omega arith))) (h n (omega arith)))
+join-stands s at g c n e h = joined-stands s at g n (λ k l. rw (bytes-before g c n e k l) (h k l))
 
 pub stands-join-at : (s : List ℕ) (at : ℕ) (g : ℕ → List ℕ) (c n : ℕ) → ((k : ℕ) → k < n → length (g k) ≡ c) →
     StandsAt s at (joinFrom g n 0) → (k : ℕ) → k < n → StandsAt s (at + c * k) (g k)
-stands-join-at s at g c n e h k l =
-    let width : sumTo (λ j. length (g j)) k ≡ c * k = sum-ext (λ j. length (g j)) (λ j. c) k (λ j m. e j (omega arith)) ∙ sum-const c k in
-    rw width at (stands-join s at g n h k l)
+stands-join-at s at g c n e h k l = rw (bytes-before g c n e k l) at (stands-join s at g n h k l)
 
 -- ---- stores one after the other are one run of stores
 pub sets-append {ℓ} : {A : Type ℓ} (l : List A) (at : ℕ) (a b : List A) → sets (sets l at a) (at + length a) b ≡ sets l at (a ++ b)

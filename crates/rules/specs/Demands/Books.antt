@@ -1,4 +1,4 @@
--- What passes is in range, and every encoding of values in range passes; what a version 1 book and a cap above P mean to planner and check (to the other two
+-- Which books pass: the encodings of values in range, and no other bytes; what a version 1 book and a cap above P mean to planner and check (to the other two
 -- calls: `Dispatches`, `Finishes`). Assumes nothing.
 use mathlib.Core.Path.{_≡_}
 use Prim.Native.Nat.{ℕ, _≤_, _<_}
@@ -19,6 +19,9 @@ pub record BooksRead : Type 0 where
   -- and every book in range, encoded beside its calendar, is read as itself: in version 2, and in version 1 where every release is 0
   pub version-2 : (b : Book) → InRange b → readBook (bookBytes 2 b) (calendarBytes (b .calendar)) ≡ read b
   pub version-1 : (b : Book) → InRange b → ((f : ℕ) → f < flowCount b → flowIn b f .release ≡ 0) → readBook (bookBytes 1 b) (calendarBytes (b .calendar)) ≡ read b
+  -- and nothing else passes: the bytes are the encoding of what is read
+  pub only-encodings : (book calendar : List ℕ) (b : Book) → AllBytes book → AllBytes calendar → readBook book calendar ≡ read b →
+      (book ≡ bookBytes (versionOf book) b) × (calendar ≡ calendarBytes (b .calendar))
   -- "Only a cap of 0 is still 9" (02, Req 02)
   pub cap-zero : (book : List ℕ) (f i : ℕ) → AllBytes book → bookFault book ≡ Refused 9 f i → jobOf (flowIn (bookOf book) f) i .cap ≡ 0
 
