@@ -11,6 +11,7 @@ pub mod Demand3Values
 pub mod Demand3
 pub mod Dispatches
 pub mod Finishes
+pub mod SameBooks
 pub mod WriteBack
 pub mod Calendars
 pub mod NoWindows
@@ -25,8 +26,7 @@ use Rattle.rules.proofs.Demands.Demand3.{demand-3, of-whole-book}
 use Rattle.rules.proofs.Demands.AcceptsPlans.{accepts-plans}
 use Rattle.rules.proofs.Demands.Bounds.{bounds}
 use Rattle.rules.proofs.Demands.BooksRead.{books-read}
-use Rattle.rules.proofs.Reading.Versions.{version-1-kept}
-use Rattle.rules.proofs.Reading.Lowered.{caps-lowered}
+use Rattle.rules.proofs.Demands.SameBooks.{version-1-kept, caps-lowered}
 use Rattle.rules.proofs.Demands.Dispatches.{dispatches}
 use Rattle.rules.proofs.Demands.Finishes.{finishes}
 use Rattle.rules.proofs.Demands.WriteBack.{write-back}

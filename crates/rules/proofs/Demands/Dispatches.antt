@@ -16,8 +16,8 @@ use Rattle.rules.specs.Fields.{AllBytes}
 use Rattle.rules.specs.Answers.{none, listAccepted, listRefused}
 use Rattle.rules.specs.Limits.{slots, workBytes}
 use Rattle.rules.specs.Calendar.{calendarOf}
-use Rattle.rules.specs.Book.{Book, lowered, InRange}
-use Rattle.rules.specs.Reading.{versionOf, read, bookOf, bookWith, readBook, bookBytes}
+use Rattle.rules.specs.Book.{Book, InRange}
+use Rattle.rules.specs.Reading.{read, bookOf, bookWith, readBook}
 use Rattle.rules.specs.Rows.{Row, usedIn, workUsed, workZero}
 use Rattle.rules.specs.Placing.{rowsOf, plan}
 use Rattle.rules.specs.Table.{tableBytes}
@@ -26,7 +26,6 @@ use Rattle.rules.specs.Check.{noRow, tableRows, tableFault, CheckOutcome
 use Rattle.rules.specs.Dispatch.{listedBefore, inListOrder, listLength, listBytes, rowsInList, DispatchOutcome, listOutcome, dispatchChecked, dispatchCall}
 use Rattle.rules.specs.Schedule.{scheduleOf}
 use Rattle.rules.specs.Demands.Refusals.{CheckRefusal}
-use Rattle.rules.specs.Demands.Books.{Version1Kept}
 use Rattle.rules.specs.Demands.Planner.{PlansByTheRules}
 use Rattle.rules.specs.Demands.Check.{AcceptsPlans}
 use Rattle.rules.specs.Demands.DispatchList.{DispatchRefusal, timesIn, listOf, WritesList, Dispatches}
@@ -47,9 +46,7 @@ use Rattle.rules.proofs.Demands.AcceptsExactly.{row-fits, call-accepts}
 use Rattle.rules.proofs.Demands.AcceptsPlans.{accepts-plans}
 use Rattle.rules.proofs.Demands.PlansByTheRules.{plans-by-the-rules}
 use Rattle.rules.proofs.Calls.WrittenPlans.{written-rows}
-use Rattle.rules.proofs.Reading.Versions.{version-2-reads, version-1-kept}
 use Rattle.rules.proofs.Reading.SameUse.{with-same, dispatch-same}
-use Rattle.rules.proofs.Reading.Lowered.{same-use, caps-lowered}
 
 -- ---- the three outcomes of a call
 -- the list, over an area left by the check
@@ -157,7 +154,7 @@ module _ (book calendar : List ℕ) (b : Book) (reads : readBook book calendar �
   range : InRange b
   range = read-in-range book calendar b reads
 
-  dispatch-read : call ≡ dispatchChecked b rows out area checked
+  pub dispatch-read : call ≡ dispatchChecked b rows out area checked
   unfolding dispatchCall
   dispatch-read =
       sym (dispatch-same (bookWith book calendar) (bookOf book) (with-same (calendarOf calendar) (bookOf book)) table out area checked)
@@ -249,24 +246,6 @@ lists-plan book calendar out area list other b reads z fit long =
     subst (λ rs. WritesList b rs list (dispatchCall book calendar table list other)) back
     (call-holds book calendar b reads table list other (subst (λ rs. (r : Row) → r ∈ rs → RowFits r) (sym back) fits) (ap (λ a. a .number) enough))
 
--- ---- books that are used alike: Req 01 and Req 02
-dispatch-version-1 : (book calendar : List ℕ) (b : Book) → readBook book calendar ≡ read b → versionOf book ≡ 1 → (table out area : List ℕ) →
-    dispatchCall book calendar table out area ≡ dispatchCall (bookBytes 2 b) calendar table out area
-unfolding Version1Kept
-dispatch-version-1 book calendar b reads one table out area =
-    dispatch-read book calendar b reads table out area
-    ∙ ap (dispatchChecked b (tableRows b table) out area) (version-1-kept book calendar b reads one .same-check table area)
-    ∙ sym (dispatch-read (bookBytes 2 b) calendar b (version-2-reads book calendar b reads) table out area)
-
-dispatch-lowered : (book calendar : List ℕ) (b : Book) → readBook book calendar ≡ read b → (table out area : List ℕ) →
-    dispatchCall book calendar table out area ≡ dispatchCall (bookBytes (versionOf book) (lowered b)) calendar table out area
-dispatch-lowered book calendar b reads table out area =
-    let w = caps-lowered .as-lowered book calendar b reads in
-    dispatch-read book calendar b reads table out area
-    ∙ ap (dispatchChecked b (tableRows b table) out area) (w .same-check table area)
-    ∙ dispatch-same b (lowered b) (same-use b .flows) table out area (checkCall (bookBytes (versionOf book) (lowered b)) calendar table area)
-    ∙ sym (dispatch-read (bookBytes (versionOf book) (lowered b)) calendar (lowered b) (w .lowered-reads) table out area)
-
 pub dispatches : Dispatches
 unfolding dispatchCall
 dispatches = record {
@@ -279,6 +258,4 @@ dispatches = record {
   area-as-check = area-as-check;
   nothing-lost = nothing-lost;
   lists-plan = lists-plan;
-  version-1-kept = dispatch-version-1;
-  caps-lowered = dispatch-lowered;
 }

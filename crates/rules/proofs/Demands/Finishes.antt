@@ -4,11 +4,11 @@
 -- them. Assumes nothing.
 use mathlib.Core.Path.{_≡_, refl, sym, ap, subst, _∙_}
 use mathlib.Core.Logic.{_⊎_, inl, inr, ⊎-elim}
-use mathlib.Core.Bool.{true, _||_, true≢false}
 use Prim.Native.Nat.{ℕ, _≤_, _<_}
+use mathlib.Core.Bool.{true, true≢false, _||_}
+use mathlib.Core.List.{List, _++_, map}
 use native.Mathlib.Nat.{lt-suc-self}
 use native.Mathlib.Omega.{arith}
-use mathlib.Core.List.{List, _++_, map}
 use lib.ListN.{length, drop}
 use lib.Dec.{eqb}
 use borrow.Author.Tests.{lt-ltb, le-ltb, lt-leb, le-leb}
@@ -17,25 +17,23 @@ use Rattle.rules.specs.declared.Verdict.the-variants.{Pass, Refused}
 use Rattle.rules.specs.Answers.{none, finishAccepted, finishRefused}
 use Rattle.rules.specs.Limits.{slots, workBytes}
 use Rattle.rules.specs.Calendar.{calendarFault}
-use Rattle.rules.specs.Book.{Book, flowCount, lowered, InRange}
+use Rattle.rules.specs.Book.{Book, flowCount, InRange}
 use Rattle.rules.specs.Reading.{versionOf, bookOf, bookFault, bookWith, read, readBook, bookBytes}
+use Rattle.rules.specs.Service.{servedAt, position}
 use Rattle.rules.specs.Rows.{Row, finishOf}
 use Rattle.rules.specs.Placing.{Plan, planned, infeasible, placeFirst, rowsOf, plan}
 use Rattle.rules.specs.Table.{tableLength, tableBytes, finishIn}
 use Rattle.rules.specs.Planner.{PlanOutcome, planCall}
-use Rattle.rules.specs.Cut.{cut, numberInCut}
-use Rattle.rules.specs.Service.{servedAt, position}
 use Rattle.rules.specs.Finish.{upToNamed, FinishOutcome, finishOutcome, finishReading, unknownFlow, inputFault, finishCall}
+use Rattle.rules.specs.Cut.{cut, numberInCut}
 use Rattle.rules.specs.Demands.Refusals.{byEleven}
 use Rattle.rules.specs.Demands.Planner.{PlansByTheRules, WithinTwice}
 use Rattle.rules.specs.Demands.Finish.{finishByEleven, FinishRefusal, planOfCut, AsForCut, RefusedFlow, Finishes}
 use Rattle.rules.proofs.Laws.Division.{lt-or-ge}
 use Rattle.rules.proofs.Reading.Passing.{ReadWith, read-passes, read-in-range}
-use Rattle.rules.proofs.Reading.Versions.{version-2-reads}
 use Rattle.rules.proofs.Reading.CutBook.{kept, kept-among, among-kept, number-kept, position-among, cut-in-range}
 use Rattle.rules.proofs.Reading.Position.{position-below, served-position}
 use Rattle.rules.proofs.Reading.SameUse.{SameUse, finish-reading-same}
-use Rattle.rules.proofs.Reading.Lowered.{same-use, caps-lowered}
 use Rattle.rules.proofs.Placing.PlannedRows.{placing-stops, placed-up-to, finish-settled}
 use Rattle.rules.proofs.Placing.PlannedValid.{first-finish-within-twice}
 use Rattle.rules.proofs.Placing.Infeasible.{up-to-at, stopped-proves}
@@ -372,8 +370,8 @@ answers book calendar area f b reads l h = rw (finish-read book calendar b reads
     go (planned rows) = inl refl
     go (infeasible g) = inr refl
 
--- ---- books that are used alike: Req 01 and Req 02
-finish-same : (book other calendar : List ℕ) (b c : Book) → readBook book calendar ≡ read b → readBook other calendar ≡ read c → SameUse b c →
+-- ---- books that are used alike
+pub finish-same : (book other calendar : List ℕ) (b c : Book) → readBook book calendar ≡ read b → readBook other calendar ≡ read c → SameUse b c →
     (f : ℕ) (area : List ℕ) → finishCall book calendar f area ≡ finishCall other calendar f area
 finish-same book other calendar b c reads reads′ same f area =
     ⊎-elim
@@ -381,18 +379,6 @@ finish-same book other calendar b c reads reads′ same f area =
     ∙ sym (finish-read other calendar c reads′ f (omega (arith, l, same .flows .count)) area))
     (λ l. finish-unknown book calendar b reads f l area
     ∙ sym (finish-unknown other calendar c reads′ f (omega (arith, l, same .flows .count)) area)) (lt-or-ge f (flowCount b))
-
-finish-version-1 : (book calendar : List ℕ) (b : Book) → readBook book calendar ≡ read b → (f : ℕ) (area : List ℕ) →
-    finishCall book calendar f area ≡ finishCall (bookBytes 2 b) calendar f area
-finish-version-1 book calendar b reads =
-    finish-same book (bookBytes 2 b) calendar b b reads (version-2-reads book calendar b reads)
-    (record { flows = record { processors = refl; count = refl; flow = λ f. refl }; calendar = refl })
-
-finish-lowered : (book calendar : List ℕ) (b : Book) → readBook book calendar ≡ read b → (f : ℕ) (area : List ℕ) →
-    finishCall book calendar f area ≡ finishCall (bookBytes (versionOf book) (lowered b)) calendar f area
-finish-lowered book calendar b reads =
-    finish-same book (bookBytes (versionOf book) (lowered b)) calendar b (lowered b) reads (caps-lowered .as-lowered book calendar b reads .lowered-reads)
-    (same-use b)
 
 pub finishes : Finishes
 finishes = record {
@@ -411,6 +397,4 @@ finishes = record {
   cut-infeasible = λ book calendar area out other f b reads l. cut-infeasible book calendar b reads f l area out other;
   refused-flow = λ book calendar area f b reads. refused-flow book calendar b reads f area;
   within-twice = λ book calendar area f b reads. within-twice book calendar b reads f area;
-  version-1-kept = λ book calendar b reads one. finish-version-1 book calendar b reads;
-  caps-lowered = finish-lowered;
 }

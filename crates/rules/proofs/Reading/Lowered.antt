@@ -12,16 +12,13 @@ use Rattle.rules.specs.Walks.{if_then_else_}
 use Rattle.rules.specs.Fields.{field, AllBytes}
 use Rattle.rules.specs.Limits.{outside, mostProcessors, mostSize, mostCap}
 use Rattle.rules.specs.Book.{Book, flowCount, noFlow, flowIn, lowerCap, lowerCaps, flowOf, lowered, jobOf, InRange}
-use Rattle.rules.specs.Reading.{versionOf, jobRecord, jobFault}
-use Rattle.rules.specs.Planner.{planCall}
-use Rattle.rules.specs.Check.{checkCall}
-use Rattle.rules.specs.Demands.Books.{CapsLowered}
+use Rattle.rules.specs.Reading.{versionOf, jobRecord, jobFault, readBook, read, bookBytes}
 use Rattle.rules.proofs.Reading.Caps.{job-lowered, lowered-in-range, caps-kept}
 use Rattle.rules.proofs.Laws.Fields.{field-lt}
 use Rattle.rules.proofs.Reading.Passing.{read-in-range}
 use Rattle.rules.proofs.Reading.RoundTrip.{Writable}
 use Rattle.rules.proofs.Reading.Versions.{read-writable, read-beside}
-use Rattle.rules.proofs.Reading.SameUse.{SameUse, plan-reading-same, check-reading-same}
+use Rattle.rules.proofs.Reading.SameUse.{SameUse}
 
 -- ---- the book with its caps lowered
 module _ (b : Book) where
@@ -73,6 +70,13 @@ module _ (b : Book) where
     release-fits = λ f l. rw (flow-in-lowered f) (can .release-fits f (omega (arith, count-of-lowered)));
   }
 
+-- a book that is read is read with its caps lowered too
+pub lowered-reads : (book calendar : List ℕ) (b : Book) → readBook book calendar ≡ read b →
+    readBook (bookBytes (versionOf book) (lowered b)) calendar ≡ read (lowered b)
+lowered-reads book calendar b e =
+    read-beside book calendar b e (versionOf book) (lowered b) (lowered-book-in-range b (read-in-range book calendar b e))
+    (lowered-writable b (versionOf book) (read-writable book calendar b e)) (sym (same-use b .calendar))
+
 -- ---- Req 02
 -- "Only a cap of 0 is still 9": two bytes hold no more than 65,535
 pub only-zero : (s : List ℕ) (at : ℕ) → AllBytes s → outside 1 mostCap (field 2 s at) ≡ eqb (field 2 s at) 0
@@ -92,17 +96,3 @@ pub job-fault-before : (s : List ℕ) (f i at : ℕ) → field 2 s 5 ≤ mostPro
     else Pass)
 unfolding jobFault
 job-fault-before s f i at p l = rw (le-ltb mostCap (field 2 s (at + 4)) (omega arith), le-ltb (field 2 s 5) (field 2 s (at + 4)) l) refl
-
-pub caps-lowered : CapsLowered
-unfolding planCall checkCall flowOf
-caps-lowered = record {
-  as-lowered = λ book calendar b e.
-      let reads = read-beside book calendar b e (versionOf book) (lowered b) (lowered-book-in-range b (read-in-range book calendar b e))
-      (lowered-writable b (versionOf book) (read-writable book calendar b e)) (sym (same-use b .calendar)) in
-      record {
-        lowered-reads = reads;
-        same-plan = λ out area. rw (e, reads) (plan-reading-same b (lowered b) (same-use b) out area);
-        same-check = λ table area. rw (e, reads) (check-reading-same b (lowered b) (same-use b) table area);
-      };
-  untouched = λ b l f. caps-kept (b .processors) (flowIn b f) (l f);
-}

@@ -18,9 +18,6 @@ use Rattle.rules.specs.Limits.{outside, mostDeadline, mostJobs}
 use Rattle.rules.specs.Calendar.{calendarOf}
 use Rattle.rules.specs.Book.{Book, flowCount, flowIn, lowerCaps, flowOf, InRange}
 use Rattle.rules.specs.Reading.{versionOf, releaseSize, releaseAt, jobsAt, flowStart, flowHeadFault, bookWith, read, readBook, bookBytes}
-use Rattle.rules.specs.Planner.{planCall}
-use Rattle.rules.specs.Check.{checkCall}
-use Rattle.rules.specs.Demands.Books.{Version1Kept}
 use Rattle.rules.proofs.Reading.Passing.{Known, flow-count, flow-in-book, release-of-flow, book-passes, read-passes, read-in-range}
 use Rattle.rules.proofs.Reading.RoundTrip.{Writable, writable-two, read-written}
 
@@ -83,15 +80,3 @@ module _ (book calendar : List ℕ) (b : Book) (e : readBook book calendar ≡ r
   -- the version 2 book with these values reads alike
   pub version-2-reads : readBook (bookBytes 2 b) calendar ≡ read b
   version-2-reads = let r = read-in-range book calendar b e in read-beside 2 b r (writable-two b r) refl
-
-  pub same-reading : readBook book calendar ≡ readBook (bookBytes 2 b) calendar
-  same-reading = e ∙ sym version-2-reads
-
--- a version 1 book has every former result: that of the version 2 book with every release 0
-pub version-1-kept : Version1Kept
-unfolding Version1Kept planCall checkCall
-version-1-kept book calendar b e one = record {
-  release-zero = read-release-zero book calendar b e one;
-  same-plan = λ out area. rw (same-reading book calendar b e) refl;
-  same-check = λ table area. rw (same-reading book calendar b e) refl;
-}

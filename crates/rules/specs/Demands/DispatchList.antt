@@ -9,8 +9,8 @@ use Rattle.rules.specs.Walks.{bit}
 use Rattle.rules.specs.Fields.{AllBytes, field, bytesOf}
 use Rattle.rules.specs.Answers.{none, listAccepted, listRefused}
 use Rattle.rules.specs.Limits.{slots, workBytes}
-use Rattle.rules.specs.Book.{Book, lowered}
-use Rattle.rules.specs.Reading.{versionOf, read, readBook, bookBytes}
+use Rattle.rules.specs.Book.{Book}
+use Rattle.rules.specs.Reading.{read, readBook}
 use Rattle.rules.specs.Rows.{Row, usedIn}
 use Rattle.rules.specs.Placing.{rowsOf, plan}
 use Rattle.rules.specs.Planner.{planCall}
@@ -86,8 +86,3 @@ pub record Dispatches : Type 0 where
   pub lists-plan : (book calendar out area list other : List ℕ) (b : Book) → readBook book calendar ≡ read b → planCall book calendar out area .answer .number ≡ 0 →
       listLength (rowsOf (plan b)) ≤ length list → workBytes ≤ length other →
       WritesList b (rowsOf (plan b)) list (dispatchCall book calendar (take (planCall book calendar out area .answer .length) (planCall book calendar out area .output)) list other)
-  -- as for planner and check: a version 1 book means release 0 (Req 01), and caps above P count as P (Req 02)
-  pub version-1-kept : (book calendar : List ℕ) (b : Book) → readBook book calendar ≡ read b → versionOf book ≡ 1 → (table out area : List ℕ) →
-      dispatchCall book calendar table out area ≡ dispatchCall (bookBytes 2 b) calendar table out area
-  pub caps-lowered : (book calendar : List ℕ) (b : Book) → readBook book calendar ≡ read b → (table out area : List ℕ) →
-      dispatchCall book calendar table out area ≡ dispatchCall (bookBytes (versionOf book) (lowered b)) calendar table out area

@@ -10,7 +10,7 @@ use Rattle.rules.specs.declared.Verdict.the-variants.{Pass, Refused}
 use Rattle.rules.specs.Answers.{none, finishAccepted, finishRefused}
 use Rattle.rules.specs.Limits.{slots, workBytes}
 use Rattle.rules.specs.Calendar.{calendarFault}
-use Rattle.rules.specs.Book.{Book, flowCount, lowered}
+use Rattle.rules.specs.Book.{Book, flowCount}
 use Rattle.rules.specs.Reading.{versionOf, bookOf, bookFault, read, readBook, bookBytes}
 use Rattle.rules.specs.Service.{upTo}
 use Rattle.rules.specs.Rows.{workZero}
@@ -95,8 +95,3 @@ pub record Finishes : Type 0 where
   -- "each ends within twice its deadline"
   pub within-twice : (book calendar area : List ℕ) (f : ℕ) (b : Book) → readBook book calendar ≡ read b → finishCall book calendar f area .answer .number ≡ 0 →
       WithinTwice b f (finishCall book calendar f area .answer .finish)
-  -- as for the other calls: a version 1 book means release 0 (Req 01), and caps above P count as P (Req 02)
-  pub version-1-kept : (book calendar : List ℕ) (b : Book) → readBook book calendar ≡ read b → versionOf book ≡ 1 → (f : ℕ) (area : List ℕ) →
-      finishCall book calendar f area ≡ finishCall (bookBytes 2 b) calendar f area
-  pub caps-lowered : (book calendar : List ℕ) (b : Book) → readBook book calendar ≡ read b → (f : ℕ) (area : List ℕ) →
-      finishCall book calendar f area ≡ finishCall (bookBytes (versionOf book) (lowered b)) calendar f area
