@@ -66,11 +66,14 @@ windowAt s k = record { shut = field 2 s (calendarHead + windowLength * k); reop
 unfoldable pub calendarOf : List ℕ → Calendar
 calendarOf s = listFrom (windowAt s) (byte s 5) 0
 
--- the encoding of windows
+-- the encoding of a window, and of a calendar
+unfoldable pub windowBytes : Window → List ℕ
+windowBytes v = bytesOf 2 (v .shut) ++ bytesOf 2 (v .reopening)
+
 unfoldable pub calendarBytes : Calendar → List ℕ
 calendarBytes c =
     bytesOf 4 (calendarHead + windowLength * length c) ++ bytesOf 1 1 ++ bytesOf 1 (length c)
-    ++ joinFrom (λ k. bytesOf 2 (windowOf c k .shut) ++ bytesOf 2 (windowOf c k .reopening)) (length c) 0
+    ++ joinFrom (λ k. windowBytes (windowOf c k)) (length c) 0
 
 -- the bytes of a calendar without windows: `00000006 01 00`
 abbrev pub noWindows : List ℕ

@@ -7,12 +7,12 @@ use native.Mathlib.Omega.{arith}
 use lib.ListN.{length, length-append}
 use Rattle.rules.specs.Walks.{joinFrom, sumTo}
 use Rattle.rules.specs.Fields.{byte, field, bytesOf, AllBytes}
-use Rattle.rules.specs.Calendar.{Calendar, windowOf, calendarOf, calendarHead, windowLength, windowAt, calendarBytes}
+use Rattle.rules.specs.Calendar.{Calendar, windowOf, calendarOf, calendarHead, windowLength, windowAt, calendarBytes, windowBytes}
 use Rattle.rules.specs.Book.{Flow, Book, flowCount, jobCount, flowIn, jobOf}
 use Rattle.rules.specs.Reading.{versionOf, releaseSize, flowHead, jobRecord, releaseAt, jobsAt, flowStart, jobStart, jobAt, flowAt, jobBytes, flowBytes, bookHead, bookOf, flowsBytes, bookBytes}
-use Rattle.rules.proofs.Laws.Fields.{bytes-length, StandsAt, stands-append, field-read, byte-read, join-stands, stands-equal, joined-stands, join-bytes-length}
+use Rattle.rules.proofs.Laws.Fields.{bytes-length, StandsAt, stands-append, field-read, byte-read, join-stands, stands-equal, joined-stands}
 use Rattle.rules.proofs.Reading.Passing.{deadline-of-flow, release-of-flow, job-count, job-of-flow, BookPasses, CalendarPasses, flow-count, flow-in-book, window-count, window-in-calendar}
-use Rattle.rules.proofs.Reading.RoundTrip.{job-length, flow-length, flowsBefore, flows-length, book-length}
+use Rattle.rules.proofs.Reading.RoundTrip.{job-length, flow-length, flowsBefore, flows-length, book-length, window-length, calendar-length}
 
 module _ (s : List ℕ) (bytes : AllBytes s) where
   -- ---- a book
@@ -125,16 +125,10 @@ module _ (s : List ℕ) (bytes : AllBytes s) where
     windows-read : length c ≡ byte s 5
     windows-read = window-count s
 
-    abbrev windowBytes : ℕ → List ℕ
-    windowBytes k = bytesOf 2 (windowOf c k .shut) ++ bytesOf 2 (windowOf c k .reopening)
-
-    window-length : (k : ℕ) → k < length c → length (windowBytes k) ≡ windowLength
-    window-length k l = simp (length-append, bytes-length)
-
-    window-encoded : (k : ℕ) → k < length c → StandsAt s (calendarHead + windowLength * k) (windowBytes k)
+    window-encoded : (k : ℕ) → k < length c → StandsAt s (calendarHead + windowLength * k) (windowBytes (windowOf c k))
     window-encoded k l =
         rw (window-in-calendar s k (omega (arith, windows-read)))
-        (unfold windowAt in
+        (unfold windowAt windowBytes in
         stands-append s at 2 (bytesOf 2 (field 2 s at)) (bytesOf 2 (field 2 s (at + 2))) (bytes-length 2 (field 2 s at))
         (field-read 2 s at bytes) (field-read 2 s (at + 2) bytes))
       where
@@ -145,14 +139,14 @@ module _ (s : List ℕ) (bytes : AllBytes s) where
     unfolding calendarBytes
     calendar-encoded =
         stands-equal s (calendarBytes c)
-        (simp (length-append, bytes-length) (omega (arith, passes .calendar-bytes, windows-read, join-bytes-length windowBytes windowLength (length c) window-length)))
-        (stands-append s 0 6 (size ++ bytesOf 1 1 ++ count) (joinFrom windowBytes (length c) 0) (simp (length-append, bytes-length))
+        (omega (arith, passes .calendar-bytes, windows-read, calendar-length c))
+        (stands-append s 0 6 (size ++ bytesOf 1 1 ++ count) (joinFrom (λ k. windowBytes (windowOf c k)) (length c) 0) (simp (length-append, bytes-length))
         (stands-append s 0 5 (size ++ bytesOf 1 1) count (simp (length-append, bytes-length))
         (stands-append s 0 4 size (bytesOf 1 1) (bytes-length 4 _)
         (subst (λ (n : ℕ). StandsAt s 0 (bytesOf 4 n)) (omega (arith, passes .calendar-length, passes .calendar-bytes, windows-read)) (field-read 4 s 0 bytes))
         (subst (λ (n : ℕ). StandsAt s 4 (bytesOf 1 n)) (passes .calendar-version) (byte-read s 4 bytes)))
         (subst (λ (n : ℕ). StandsAt s 5 (bytesOf 1 n)) (sym windows-read) (byte-read s 5 bytes)))
-        (join-stands s calendarHead windowBytes windowLength (length c) window-length window-encoded))
+        (join-stands s calendarHead (λ k. windowBytes (windowOf c k)) windowLength (length c) (λ k l. window-length (windowOf c k)) window-encoded))
       where
         size : List ℕ
         size = bytesOf 4 (calendarHead + windowLength * length c)

@@ -14,13 +14,13 @@ use Rattle.rules.specs.declared.Verdict.the-variants.{Pass}
 use Rattle.rules.specs.Walks.{if_then_else_, sumTo, listFrom, joinFrom}
 use Rattle.rules.specs.Fields.{byte, field, bytesOf, AllBytes}
 use Rattle.rules.specs.Limits.{mostJobs, mostCap, mostWindows, mostReopening}
-use Rattle.rules.specs.Calendar.{Calendar, calendarOf, calendarFault, CalendarInRange, windowOf, calendarBytes, calendarHead, windowLength, windowAt, beginsEarly, windowFault, noWindow}
+use Rattle.rules.specs.Calendar.{Calendar, calendarOf, calendarFault, CalendarInRange, windowOf, calendarBytes, calendarHead, windowLength, windowAt, beginsEarly, windowFault, noWindow, Window, windowBytes}
 use Rattle.rules.specs.Book.{Job, Flow, Book, withCalendar, flowCount, jobCount, noFlow, noJob, flowIn, jobOf, JobInRange, FlowInRange, InRange}
 use Rattle.rules.specs.Reading.{bookHead, versionOf, releaseSize, flowHead, jobRecord, releaseAt, jobsAt, flowStart, jobStart, jobAt, flowAt, bookOf, bookFault, readBook, jobBytes, flowBytes, flowsBytes, bookBytes}
 use Rattle.rules.specs.Reading.Reading.{read}
 use Rattle.rules.proofs.Laws.Sums.{sum-ext, sum-const, sum-le, sum-up}
 use Rattle.rules.proofs.Laws.Walks.{list-of, join-length-zero, any-false}
-use Rattle.rules.proofs.Laws.Fields.{bytes-length, StandsAt, stands-whole, stands-first, stands-after, stands-join, field-written, byte-written, bytes-of, bytes-append, bytes-join}
+use Rattle.rules.proofs.Laws.Fields.{bytes-length, StandsAt, stands-whole, stands-first, stands-after, stands-join, field-written, byte-written, bytes-of, bytes-append, bytes-join, join-bytes-length, stands-join-at}
 use Rattle.rules.proofs.Reading.Passing.{Known, FlowPasses, flow-no-fault, book-no-fault, pass-reads}
 
 -- ---- lengths
@@ -344,20 +344,22 @@ read-written v b calendar r can passes same =
     ∙ ap (λ (c : Calendar). read (withCalendar c b)) same
 
 -- ---- a calendar
-module _ (c : Calendar) (r : CalendarInRange c) where
-  abbrev windowBytes : ℕ → List ℕ
-  windowBytes k = bytesOf 2 (windowOf c k .shut) ++ bytesOf 2 (windowOf c k .reopening)
+pub window-length : (v : Window) → length (windowBytes v) ≡ windowLength
+unfolding windowBytes
+window-length v = simp (length-append, bytes-length)
 
+pub calendar-length : (c : Calendar) → length (calendarBytes c) ≡ calendarHead + windowLength * length c
+unfolding calendarBytes
+calendar-length c =
+    simp (length-append, bytes-length)
+    (omega (arith, join-bytes-length (λ k. windowBytes (windowOf c k)) windowLength (length c) (λ k l. window-length (windowOf c k))))
+
+module _ (c : Calendar) (r : CalendarInRange c) where
   abbrev encoded : List ℕ
   encoded = calendarBytes c
 
-  windows-length : (n : ℕ) → sumTo (λ k. length (windowBytes k)) n ≡ windowLength * n
-  windows-length n =
-      sum-ext (λ k. length (windowBytes k)) (λ k. windowLength) n (λ k l. simp (length-append, bytes-length)) ∙ sum-const windowLength n
-
-  calendar-length : length encoded ≡ calendarHead + windowLength * length c
-  unfolding calendarBytes
-  calendar-length = simp (length-append, bytes-length) (omega (arith, join-length-zero windowBytes (length c), windows-length (length c)))
+  abbrev windows : List ℕ
+  windows = joinFrom (λ k. windowBytes (windowOf c k)) (length c) 0
 
   abbrev calendarSize : List ℕ
   calendarSize = bytesOf 4 (calendarHead + windowLength * length c)
@@ -367,13 +369,13 @@ module _ (c : Calendar) (r : CalendarInRange c) where
 
   calendar-front : StandsAt encoded 0 (calendarSize ++ bytesOf 1 1 ++ windowCount)
   unfolding calendarBytes
-  calendar-front = stands-first encoded 0 (calendarSize ++ bytesOf 1 1 ++ windowCount) (joinFrom windowBytes (length c) 0) (stands-whole encoded)
+  calendar-front = stands-first encoded 0 (calendarSize ++ bytesOf 1 1 ++ windowCount) windows (stands-whole encoded)
 
   size-read : field 4 encoded 0 ≡ length encoded
   size-read =
       field-written 4 (calendarHead + windowLength * length c) encoded 0 (omega (arith, r .windows-most))
       (stands-first encoded 0 calendarSize (bytesOf 1 1) (stands-first encoded 0 (calendarSize ++ bytesOf 1 1) windowCount calendar-front))
-      ∙ sym calendar-length
+      ∙ sym (calendar-length c)
 
   version-one : byte encoded 4 ≡ 1
   version-one =
@@ -386,15 +388,14 @@ module _ (c : Calendar) (r : CalendarInRange c) where
       (stands-after encoded 0 5 (calendarSize ++ bytesOf 1 1) windowCount (simp (length-append, bytes-length)) calendar-front)
 
   -- window k stands where the reading looks for it
-  window-stands : (k : ℕ) → k < length c → StandsAt encoded (calendarHead + windowLength * k) (windowBytes k)
+  window-stands : (k : ℕ) → k < length c → StandsAt encoded (calendarHead + windowLength * k) (windowBytes (windowOf c k))
   unfolding calendarBytes
-  window-stands k l =
-      rw (windows-length k) at
-      (stands-join encoded calendarHead windowBytes (length c)
-      (stands-after encoded 0 calendarHead (calendarSize ++ bytesOf 1 1 ++ windowCount) (joinFrom windowBytes (length c) 0) (simp (length-append, bytes-length)) (stands-whole encoded)) k l)
+  window-stands =
+      stands-join-at encoded calendarHead (λ k. windowBytes (windowOf c k)) windowLength (length c) (λ k l. window-length (windowOf c k))
+      (stands-after encoded 0 calendarHead (calendarSize ++ bytesOf 1 1 ++ windowCount) windows (simp (length-append, bytes-length)) (stands-whole encoded))
 
   window-read : (k : ℕ) → k < length c → windowAt encoded k ≡ windowOf c k
-  unfolding windowAt
+  unfolding windowAt windowBytes
   window-read k l = λ x. record { shut = shut-read x; reopening = reopening-read x }
     where
       at : ℕ
@@ -431,10 +432,10 @@ module _ (c : Calendar) (r : CalendarInRange c) where
   unfolding calendarFault
   calendar-written-passes =
       rw (
-        le-ltb (length encoded) calendarHead (omega (arith, calendar-length)),
+        le-ltb (length encoded) calendarHead (omega (arith, calendar-length c)),
         eq-eqb (field 4 encoded 0) (length encoded) size-read,
         eq-eqb (byte encoded 4) 1 version-one,
         le-ltb mostWindows (byte encoded 5) (omega (arith, count-read, r .windows-most)),
-        eq-eqb (length encoded) (calendarHead + windowLength * byte encoded 5) (omega (arith, calendar-length, count-read)),
+        eq-eqb (length encoded) (calendarHead + windowLength * byte encoded 5) (omega (arith, calendar-length c, count-read)),
         any-false (windowFault encoded) (byte encoded 5) windows-fine,
       ) refl
