@@ -14,7 +14,6 @@ bench:
 	cd tests && cargo run --release --offline --quiet --bin bench_plan
 	cd tests && cargo run --release --offline --quiet --bin bench_dispatch
 	cd tests && cargo run --release --offline --quiet --bin bench_finish
-	cd tests && cargo run --release --offline --quiet --bin bench_line
 
 # This library beside that of an earlier commit: make bench-between BEFORE=COMMIT. The calls of one from before Req 07 take no calendar.
 SHARED = cc -shared -Wl,-u,flowplan_plan -Wl,-u,flowplan_check

@@ -1,6 +1,6 @@
 /*
- * flowplan.h: flow planner, table check, dispatch list and finish of one flow, each
- * for two callers. For C99 or later and C++11 or later.
+ * flowplan.h: flow planner, table check, dispatch list and finish of one flow. For
+ * C99 or later and C++11 or later.
  *
  * Version of this header, FLOWPLAN_HEADER_VERSION; what the library was built with
  * is told by flowplan_version. "Req 01" and so on are the change requests to the
@@ -22,28 +22,9 @@
  *      call answers as before
  *   8  flowplan_version, flowplan_text, limits as macros, refusal names
  *      FLOWPLAN_REFUSED_..; layouts, numbers and answers are as they were
- *   9  Req 09, a second caller with less memory: flowplan_line_plan,
- *      flowplan_line_check, flowplan_line_dispatch and flowplan_line_finish, with
- *      the limits FLOWPLAN_LINE_..; a smaller FLOWPLAN_CHECK_STACK. The calls of
- *      before are the mill's; their limits and answers are as they were
  *
  * Every call takes every sequence of bytes, comes to an end on each, allocates
  * nothing and keeps nothing between calls.
- *
- * Callers
- *   The mill's dispatcher calls flowplan_plan and so on, the pickling line's
- *   flowplan_line_plan and so on, with the same parameters and answers. They differ
- *   by five limits, which the numbers 4, 6, 24, 11 and 15 read:
- *                                        mill     line
- *     flows at most                        64       16
- *     deadline at most                  4,096      512
- *     a window reopens at most at       4,096      512
- *     bytes of the work area           16,384    2,048
- *     last slot of a row                8,191    1,023
- *   All else holds for both. A book and a calendar within the limits of the line
- *   get the same table, list and finish from both, each with a work area of its own
- *   and an output of the same length. A table with a row after slot 1,023 can be
- *   accepted by the mill's check alone.
  *
  * Fields are unsigned and big-endian. Flows and jobs count from 0.
  *
@@ -51,9 +32,9 @@
  *   length of the whole book in bytes    4
  *   version = 1 or 2                     1
  *   processors P                         2    1 to 4,096
- *   flows                                1    0 to the caller's limit
+ *   flows                                1    0 to 64
  *   then for each flow
- *     deadline in slots                  2    1 to the caller's limit
+ *     deadline in slots                  2    1 to 4,096
  *     release in slots                   2    only in version 2: the first
  *                                             slot that the flow may use, below
  *                                             its deadline; in version 1 it is 0
@@ -74,7 +55,7 @@
  *                                             others above the slot at which the
  *                                             one before it opened again
  *     first slot open again              2    above the first slot shut, at most
- *                                             the caller's limit
+ *                                             4,096
  *   It goes with the book. Shut slots are passed over: no row may stand in one. A
  *   calendar without windows is FLOWPLAN_NO_WINDOWS; no bytes at all are a fault.
  *
@@ -85,8 +66,7 @@
  *   flows                                1    as in the book
  *   finish of each flow, book order      2    last used slot plus 1
  *   then rows of 6 bytes, one for each slot and job with a processor
- *     slot                               2    the flow's release to the caller's
- *                                             last slot, open
+ *     slot                               2    the flow's release to 8,191, open
  *     flow                               1
  *     job                                1
  *     processors                         2    1 to the job's cap, at most P
@@ -94,7 +74,7 @@
  *   rising. Service order is by deadline, equal deadlines by place in the book.
  *
  * Late flows
- *   Results are written back and reach the stands one slot after a flow's
+ *   Results are written back and reach the mill one slot after a flow's
  *   finish, so a flow is late when its finish plus 1 is greater than its
  *   deadline, both in slots, shut or open.
  *
@@ -114,18 +94,17 @@
  *   tables of one book that the check accepts have different lists.
  *
  * Work area
- *   At least the caller's size, which is FLOWPLAN_WORK_BYTES for the mill and
- *   FLOWPLAN_LINE_WORK_BYTES for the line: two bytes for each of the slots 0 to
- *   8,191, or 0 to 1,023. After acceptance each pair, big-endian as every field,
- *   holds the processors in use in that slot: by all flows, or where the finish of
- *   one was asked for, by that flow and those before it in service order; 0 in a
- *   shut slot. What is left after a refusal stands at FLOWPLAN_NUMBERS. Bytes past
- *   the caller's size are never touched.
+ *   At least FLOWPLAN_WORK_BYTES, two bytes for each of the slots 0 to 8,191.
+ *   After acceptance each pair, big-endian as every field, holds the processors in
+ *   use in that slot: by all flows, or where the finish of one was asked for, by
+ *   that flow and those before it in service order; 0 in a shut slot. What is left
+ *   after a refusal stands at FLOWPLAN_NUMBERS. Bytes past FLOWPLAN_WORK_BYTES are
+ *   never touched.
  *
  * Stack
- *   A call of either caller needs at most FLOWPLAN_CHECK_STACK,
- *   FLOWPLAN_PLAN_STACK, FLOWPLAN_DISPATCH_STACK or FLOWPLAN_FINISH_STACK bytes of
- *   stack (tested on x86-64 Linux, on full, small and refused input).
+ *   A call needs at most FLOWPLAN_CHECK_STACK, FLOWPLAN_PLAN_STACK,
+ *   FLOWPLAN_DISPATCH_STACK or FLOWPLAN_FINISH_STACK bytes of stack (tested on
+ *   x86-64 Linux, on full, small and refused input).
  *
  * Buffers
  *   A buffer may start at any address. Those that a call only reads (book,
@@ -149,12 +128,9 @@ extern "C" {
 #endif
 
 /* What changed from version to version stands at the top. */
-#define FLOWPLAN_HEADER_VERSION 9
+#define FLOWPLAN_HEADER_VERSION 8
 
-/*
- * The most that a field may be, as the layouts above have it; flows, deadline and
- * reopening for the mill.
- */
+/* The most that a field may be, as the layouts above have it. */
 #define FLOWPLAN_MOST_PROCESSORS 4096
 #define FLOWPLAN_MOST_FLOWS 64
 #define FLOWPLAN_MOST_DEADLINE 4096
@@ -164,26 +140,18 @@ extern "C" {
 #define FLOWPLAN_MOST_WINDOWS 32
 #define FLOWPLAN_MOST_REOPENING 4096 /* first slot open again */
 
-/* Bytes of the mill's work area that are used, and the slots they stand for. */
+/* Bytes of the work area that are used, and the slots that they stand for. */
 #define FLOWPLAN_WORK_BYTES 16384
 #define FLOWPLAN_SLOTS 8192
 
-/* The same for the line, where it is not as above. */
-#define FLOWPLAN_LINE_FLOWS 16
-#define FLOWPLAN_LINE_DEADLINE 512
-#define FLOWPLAN_LINE_REOPENING 512
-#define FLOWPLAN_LINE_WORK_BYTES 2048
-#define FLOWPLAN_LINE_SLOTS 1024
-
-/* Bytes of stack that a call of either caller needs at most. */
-#define FLOWPLAN_CHECK_STACK 4096
+/* Bytes of stack that a call needs at most. */
+#define FLOWPLAN_CHECK_STACK 16384
 #define FLOWPLAN_PLAN_STACK 20480
 #define FLOWPLAN_DISPATCH_STACK 20480
 #define FLOWPLAN_FINISH_STACK 20480
 
-/* The longest book that passes its checks: version 2, all flows of 64 jobs. */
+/* The longest book that passes its checks: version 2, 64 flows of 64 jobs. */
 #define FLOWPLAN_LONGEST_BOOK 57672
-#define FLOWPLAN_LINE_LONGEST_BOOK 14424
 
 /* The bytes of the longest calendar, of 32 windows. */
 #define FLOWPLAN_LONGEST_CALENDAR 134
@@ -209,7 +177,7 @@ extern "C" {
  * any of its fields is looked at.
  *
  * Refusals by 1 to 11 and 22 to 24 leave the work area as it was; those by 12 to 21
- * and 25 leave its bytes zero up to the caller's size. With number 0 it holds the
+ * and 25 leave its first FLOWPLAN_WORK_BYTES bytes zero. With number 0 it holds the
  * use of each slot, see Work area.
  */
 #define FLOWPLAN_NUMBERS(LINE)                                                     \
@@ -328,25 +296,16 @@ struct flowplan_check_answer flowplan_check(
     const uint8_t *table, size_t table_len,
     uint8_t *work, size_t work_len);
 
-/* The same for the line; FLOWPLAN_LINE_WORK_BYTES for FLOWPLAN_WORK_BYTES. */
-struct flowplan_check_answer flowplan_line_check(
-    const uint8_t *book, size_t book_len,
-    const uint8_t *calendar, size_t calendar_len,
-    const uint8_t *table, size_t table_len,
-    uint8_t *work, size_t work_len);
-
 /* ---- End of table check ------------------------------------------------ */
 
 /* ---- Planner ----------------------------------------------------------- */
 
 /*
  * A table that the planner writes or the check accepts has at most 8 + 2 x flows +
- * 6 x the sum of all sizes bytes, and never above FLOWPLAN_LONGEST_TABLE for the
- * mill and FLOWPLAN_LINE_LONGEST_TABLE for the line. The sum fits 32 bits, 6 times
- * the sum may not.
+ * 6 x the sum of all sizes bytes, and never above FLOWPLAN_LONGEST_TABLE. The sum
+ * fits 32 bits, 6 times the sum may not.
  */
 #define FLOWPLAN_LONGEST_TABLE 201326728
-#define FLOWPLAN_LINE_LONGEST_TABLE 6291496
 
 struct flowplan_plan_answer {
     uint8_t number; /* 0 or the refusal, see enum flowplan_number */
@@ -374,20 +333,12 @@ struct flowplan_plan_answer flowplan_plan(
     uint8_t *output, size_t output_len,
     uint8_t *work, size_t work_len);
 
-/* The same for the line; FLOWPLAN_LINE_WORK_BYTES for FLOWPLAN_WORK_BYTES. */
-struct flowplan_plan_answer flowplan_line_plan(
-    const uint8_t *book, size_t book_len,
-    const uint8_t *calendar, size_t calendar_len,
-    uint8_t *output, size_t output_len,
-    uint8_t *work, size_t work_len);
-
 /* ---- End of planner ---------------------------------------------------- */
 
 /* ---- Dispatch list ----------------------------------------------------- */
 
 /* The longest list: of a table whose rows fill every slot of every job. */
 #define FLOWPLAN_LONGEST_LIST 201326599
-#define FLOWPLAN_LINE_LONGEST_LIST 6291463
 
 struct flowplan_list_answer {
     uint8_t number; /* 0 or the refusal, see enum flowplan_number */
@@ -398,7 +349,7 @@ struct flowplan_list_answer {
 
 /*
  * Checks a table and lists its rows in the order in which a dispatcher works:
- * slot by slot, within a slot by flow number, then by job. What the caller's check
+ * slot by slot, within a slot by flow number, then by job. What flowplan_check
  * refuses is refused with the same number and place, however short the output
  * is; then 13. An output as long as the table is always long enough.
  *
@@ -410,14 +361,6 @@ struct flowplan_list_answer {
  *         FLOWPLAN_WORK_BYTES bytes are zero.
  */
 struct flowplan_list_answer flowplan_dispatch(
-    const uint8_t *book, size_t book_len,
-    const uint8_t *calendar, size_t calendar_len,
-    const uint8_t *table, size_t table_len,
-    uint8_t *output, size_t output_len,
-    uint8_t *work, size_t work_len);
-
-/* The same for the line; FLOWPLAN_LINE_WORK_BYTES for FLOWPLAN_WORK_BYTES. */
-struct flowplan_list_answer flowplan_line_dispatch(
     const uint8_t *book, size_t book_len,
     const uint8_t *calendar, size_t calendar_len,
     const uint8_t *table, size_t table_len,
@@ -453,13 +396,6 @@ struct flowplan_finish_answer {
  *       its first FLOWPLAN_WORK_BYTES bytes are zero.
  */
 struct flowplan_finish_answer flowplan_finish(
-    const uint8_t *book, size_t book_len,
-    const uint8_t *calendar, size_t calendar_len,
-    uint32_t flow,
-    uint8_t *work, size_t work_len);
-
-/* The same for the line; FLOWPLAN_LINE_WORK_BYTES for FLOWPLAN_WORK_BYTES. */
-struct flowplan_finish_answer flowplan_line_finish(
     const uint8_t *book, size_t book_len,
     const uint8_t *calendar, size_t calendar_len,
     uint32_t flow,

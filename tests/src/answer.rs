@@ -4,10 +4,10 @@
 /// Stands in the place of a refusal where there is no flow or job.
 pub const NONE: u8 = 255;
 
-/// Bytes of the work area that the mill uses: two for each of the slots 0 to 8,191.
+/// Bytes of the work area that are used: two for each of the slots 0 to 8,191.
 pub const WORK_BYTES: usize = 16_384;
 
-/// Slots that a table of the mill can name.
+/// Slots that a table can name.
 pub const SLOTS: usize = 8_192;
 
 /// One more than the greatest number that is answered.

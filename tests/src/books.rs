@@ -2,7 +2,6 @@
 //! over every range, of caps and of releases, and damage to books of either
 //! version.
 
-use crate::limits::Limits;
 use crate::quote::work;
 use crate::reader::{
     be16, Book, Flow, Job, Version, BOOK_HEAD, JOB_RECORD, MOST_CAP, MOST_DEADLINE, MOST_FLOWS,
@@ -218,40 +217,6 @@ pub fn in_version(rng: &mut Rng, version: Version, book: Book) -> Book {
         Version::One => book,
         Version::Two => with_releases(rng, book),
     }
-}
-
-/// A drawn book within a caller's limits: of its flows as many as may be, and all slots
-/// nearer together where the last deadline is too late, which then is the limit.
-pub fn fitted(limits: &Limits, mut book: Book) -> Book {
-    book.flows.truncate(limits.flows);
-    let last = book.flows.iter().map(|flow| flow.deadline).max();
-    let last = last.unwrap_or(0);
-    if last > limits.deadline {
-        for flow in &mut book.flows {
-            flow.deadline = (flow.deadline * limits.deadline / last).max(1);
-            flow.release = (flow.release * limits.deadline / last).min(flow.deadline - 1);
-        }
-    }
-    book
-}
-
-/// A book within a caller's limits, at times brought to the edge of one: as many flows as
-/// may be or one more, and a deadline that is the latest or one later.
-pub fn about_limits(limits: &Limits, rng: &mut Rng, book: Book) -> Book {
-    let mut book = fitted(limits, book);
-    if book.flows.is_empty() {
-        return book;
-    }
-    if rng.chance(1, 8) {
-        let again = book.flows.clone();
-        let flows = limits.flows + usize::from(rng.chance(1, 4));
-        book.flows = again.into_iter().cycle().take(flows).collect();
-    }
-    if rng.chance(1, 6) {
-        let flow = rng.index(book.flows.len());
-        book.flows[flow].deadline = limits.deadline + u32::from(rng.chance(1, 4));
-    }
-    book
 }
 
 /// How the jobs of a flow wait for each other.
@@ -750,7 +715,7 @@ fn put32(bytes: &mut [u8], at: usize, value: u64) {
 
 /// Damages the head of a flow in one field, in version 2 also in two, so that
 /// 22 stands beside 6 and 7.
-fn damage_head(limits: &Limits, rng: &mut Rng, version: Version, head: &mut [u8]) {
+fn damage_head(rng: &mut Rng, version: Version, head: &mut [u8]) {
     let (in_deadline, in_release, in_jobs) = match version {
         Version::One => rng.pick(&[(true, false, false), (false, false, true)]),
         Version::Two => rng.pick(&[
@@ -763,8 +728,7 @@ fn damage_head(limits: &Limits, rng: &mut Rng, version: Version, head: &mut [u8]
         ]),
     };
     if in_deadline {
-        let most = u64::from(limits.deadline);
-        put16(head, 0, rng.pick(&[0, most + 1, 65_535, most, 1]));
+        put16(head, 0, rng.pick(&[0, 4_097, 65_535, 4_096, 1]));
     }
     if in_release {
         let deadline = u64::from(be16(head, 0));
@@ -786,8 +750,8 @@ fn damage_head(limits: &Limits, rng: &mut Rng, version: Version, head: &mut [u8]
     }
 }
 
-/// Damages a book in one place, also about a caller's limits.
-pub fn damage_book_once(limits: &Limits, rng: &mut Rng, bytes: &mut Vec<u8>) {
+/// Damages a book in one place.
+pub fn damage_book_once(rng: &mut Rng, bytes: &mut Vec<u8>) {
     let version = version_of(bytes);
     let (heads, records) = marks(bytes);
     match rng.below(17) {
@@ -797,19 +761,13 @@ pub fn damage_book_once(limits: &Limits, rng: &mut Rng, bytes: &mut Vec<u8>) {
             put16(bytes, 5, value);
         }
         2 => {
-            let most = limits.flows as u8;
-            let value = rng.pick(&[most + 1, 255, most, 0, 1, 128]);
+            let value = rng.pick(&[65, 255, 64, 0, 1, 128]);
             put(bytes, 7, &[value]);
         }
         3 if bytes.len() > 7 => bytes[7] = bytes[7].wrapping_add(rng.pick(&[1, 255])),
         4 | 5 if !heads.is_empty() => {
             let at = rng.pick(&heads);
-            damage_head(
-                limits,
-                rng,
-                version,
-                &mut bytes[at..at + version.flow_head()],
-            );
+            damage_head(rng, version, &mut bytes[at..at + version.flow_head()]);
         }
         6 | 7 if !records.is_empty() => {
             let at = rng.pick(&records);
@@ -865,9 +823,9 @@ pub fn damage_book_once(limits: &Limits, rng: &mut Rng, bytes: &mut Vec<u8>) {
 
 /// Damages a book in one to three places; the length field is mostly made to
 /// fit again.
-pub fn damage_book(limits: &Limits, rng: &mut Rng, bytes: &mut Vec<u8>) {
+pub fn damage_book(rng: &mut Rng, bytes: &mut Vec<u8>) {
     for _ in 0..rng.pick(&[1, 1, 1, 2, 3]) {
-        damage_book_once(limits, rng, bytes);
+        damage_book_once(rng, bytes);
     }
     if rng.chance(7, 8) {
         fit_length(bytes);

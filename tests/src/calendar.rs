@@ -2,14 +2,13 @@
 //! and its bytes, read in two ways.
 
 use crate::answer::Refusal;
-use crate::limits::Limits;
 use crate::reader::{be16, be32};
 
 /// Bytes of the calendar's head and of one window.
 pub const CALENDAR_HEAD: usize = 6;
 pub const WINDOW: usize = 4;
 
-/// The most windows, and the last slot at which one may reopen for the mill.
+/// The most windows, and the last slot at which one may reopen.
 pub const MOST_WINDOWS: usize = 32;
 pub const LAST_REOPENING: u32 = 4_096;
 
@@ -87,8 +86,8 @@ impl Calendar {
     }
 }
 
-/// Reads a calendar within a caller's limits, or turns it down by 24.
-pub fn read_calendar(limits: &Limits, bytes: &[u8]) -> Result<Calendar, Refusal> {
+/// Reads a calendar, or turns it down by 24.
+pub fn read_calendar(bytes: &[u8]) -> Result<Calendar, Refusal> {
     let refused = Err(Refusal::of_all(24));
     if bytes.len() < CALENDAR_HEAD || be32(bytes, 0) as usize != bytes.len() || bytes[4] != 1 {
         return refused;
@@ -101,7 +100,7 @@ pub fn read_calendar(limits: &Limits, bytes: &[u8]) -> Result<Calendar, Refusal>
     for number in 0..count {
         let at = CALENDAR_HEAD + WINDOW * number;
         let window = Window::new(be16(bytes, at), be16(bytes, at + 2));
-        if window.again <= window.shut || window.again > limits.reopening {
+        if window.again <= window.shut || window.again > LAST_REOPENING {
             return refused;
         }
         if windows.last().is_some_and(|last| window.shut <= last.again) {
@@ -115,10 +114,7 @@ pub fn read_calendar(limits: &Limits, bytes: &[u8]) -> Result<Calendar, Refusal>
 /// The windows of a calendar where they lie, as pairs of the first slot shut and the
 /// first slot open again; nothing where it breaks its layout. From one window to the
 /// next all slots rise strictly, so a window's end is also a least beginning.
-pub fn windows_in<'a>(
-    limits: &Limits,
-    bytes: &'a [u8],
-) -> Option<impl Iterator<Item = [usize; 2]> + Clone + use<'a>> {
+pub fn windows_in(bytes: &[u8]) -> Option<impl Iterator<Item = [usize; 2]> + Clone + '_> {
     let (head, windows) = bytes.split_first_chunk::<CALENDAR_HEAD>()?;
     let (windows, rest) = windows.as_chunks::<WINDOW>();
     let length = u32::try_from(bytes.len()).ok()?.to_be_bytes();
@@ -136,7 +132,7 @@ pub fn windows_in<'a>(
     // One more than the greatest slot so far; nothing is before the first window.
     let mut least = 0;
     for [shut, again] in pairs.clone() {
-        if shut < least || again <= shut || again > limits.reopening as usize {
+        if shut < least || again <= shut || again > 4_096 {
             return None;
         }
         least = again + 1;

@@ -5,16 +5,15 @@
 use crate::answer::SLOTS;
 use crate::books::fit_length;
 use crate::calendar::{Calendar, Window, CALENDAR_HEAD, LAST_REOPENING, MOST_WINDOWS, WINDOW};
-use crate::limits::{Limits, MILL};
 use crate::reader::{Book, Version, MOST_DEADLINE};
 use crate::rng::Rng;
 
 /// The windows in their order, without those that meet one before them.
-fn apart(limits: &Limits, mut windows: Vec<Window>) -> Calendar {
+fn apart(mut windows: Vec<Window>) -> Calendar {
     windows.sort_by_key(|window| window.shut);
     let mut kept: Vec<Window> = Vec::new();
     for mut window in windows {
-        window.again = window.again.min(limits.reopening);
+        window.again = window.again.min(LAST_REOPENING);
         let after = kept.last().is_none_or(|last| window.shut > last.again);
         if after && window.shut < window.again && kept.len() < MOST_WINDOWS {
             kept.push(window);
@@ -67,25 +66,24 @@ fn near(rng: &mut Rng, book: &Book) -> Window {
     Window::new(shut, shut + length)
 }
 
-/// A valid calendar for the book, within a caller's limits.
-pub fn valid(limits: &Limits, rng: &mut Rng, book: &Book) -> Calendar {
+/// A valid calendar for the book.
+pub fn valid(rng: &mut Rng, book: &Book) -> Calendar {
     let last = book.flows.iter().map(|flow| flow.deadline).max();
-    let last = last.unwrap_or(limits.deadline);
-    let anywhere = (2 * last).min(limits.reopening);
+    let last = last.unwrap_or(MOST_DEADLINE);
+    let anywhere = (2 * last).min(LAST_REOPENING);
     let count = rng.range(1, 4) as usize;
     match rng.below(20) {
         0..=3 => Calendar::default(),
-        4..=9 => apart(limits, (0..count).map(|_| near(rng, book)).collect()),
+        4..=9 => apart((0..count).map(|_| near(rng, book)).collect()),
         10 => {
             // From slot 0 on.
             let again = rng.skewed(1, 40) as u32;
-            apart(limits, vec![Window::new(0, again), near(rng, book)])
+            apart(vec![Window::new(0, again), near(rng, book)])
         }
         11 | 12 => {
             // Up to the last reopening.
-            let last = limits.reopening;
-            let shut = last - rng.skewed(1, u64::from(last) - 96) as u32;
-            apart(limits, vec![near(rng, book), Window::new(shut, last)])
+            let shut = LAST_REOPENING - rng.skewed(1, 4_000) as u32;
+            apart(vec![near(rng, book), Window::new(shut, LAST_REOPENING)])
         }
         13 | 14 => spread(rng, MOST_WINDOWS, anywhere.max(63)),
         15 => {
@@ -93,18 +91,15 @@ pub fn valid(limits: &Limits, rng: &mut Rng, book: &Book) -> Calendar {
             let (step, shut) = rng.pick(&[(2, 1), (3, 2), (3, 1), (9, 1)]);
             let from = rng.skewed(0, 20) as u32;
             let windows = (0..MOST_WINDOWS as u32).map(|k| from + step * k);
-            apart(
-                limits,
-                windows.map(|at| Window::new(at, at + shut)).collect(),
-            )
+            apart(windows.map(|at| Window::new(at, at + shut)).collect())
         }
-        16 => spread(rng, 1, limits.reopening),
+        16 => spread(rng, 1, LAST_REOPENING),
         17 => spread(rng, count, anywhere.max(8)),
         18 if !book.flows.is_empty() => {
             // Every slot before a deadline, or all but the first.
             let deadline = book.flows[rng.index(book.flows.len())].deadline;
             let shut = rng.pick(&[0, 1]);
-            apart(limits, vec![Window::new(shut, deadline.max(shut + 1))])
+            apart(vec![Window::new(shut, deadline.max(shut + 1))])
         }
         _ => {
             let count = rng.range(1, MOST_WINDOWS as u64) as usize;
@@ -122,7 +117,7 @@ pub fn maintenance(rng: &mut Rng, book: &Book) -> Calendar {
         let shut = rng.below(last) as u32;
         Window::new(shut, shut + rng.range(2, 12) as u32)
     });
-    apart(&MILL, windows.collect())
+    apart(windows.collect())
 }
 
 /// The book in the open slots of a calendar: before each deadline and each release
@@ -130,11 +125,11 @@ pub fn maintenance(rng: &mut Rng, book: &Book) -> Calendar {
 /// Its plan is that of the book without windows, with each slot as the open slot of
 /// that number. Of the slots that a release may be, every other flow has the first,
 /// which may be shut, and the others have the last, which is open.
-pub fn stretched(limits: &Limits, book: &Book, calendar: &Calendar) -> Option<Book> {
+pub fn stretched(book: &Book, calendar: &Calendar) -> Option<Book> {
     let mut book = book.clone();
     for (number, flow) in book.flows.iter_mut().enumerate() {
         flow.deadline = calendar.slot_after(flow.deadline);
-        if flow.deadline > limits.deadline {
+        if flow.deadline > MOST_DEADLINE {
             return None;
         }
         flow.release = calendar.slot_after(flow.release);
@@ -147,26 +142,14 @@ pub fn stretched(limits: &Limits, book: &Book, calendar: &Calendar) -> Option<Bo
 }
 
 /// A valid calendar for the book, and the book as it is or stretched by it.
-pub fn with_calendar(limits: &Limits, rng: &mut Rng, book: Book) -> (Book, Calendar) {
-    let calendar = valid(limits, rng, &book);
+pub fn with_calendar(rng: &mut Rng, book: Book) -> (Book, Calendar) {
+    let calendar = valid(rng, &book);
     if rng.chance(2, 3) {
-        if let Some(stretched) = stretched(limits, &book, &calendar) {
+        if let Some(stretched) = stretched(&book, &calendar) {
             return (stretched, calendar);
         }
     }
     (book, calendar)
-}
-
-/// A calendar at the edge of a caller's limit: its last window reopens as late as may be, or
-/// one slot later.
-pub fn about_limit(limits: &Limits, rng: &mut Rng) -> Calendar {
-    let again = limits.reopening + u32::from(rng.chance(1, 2));
-    let shut = again - rng.skewed(1, 200) as u32;
-    let mut windows = vec![[shut, again]];
-    if rng.chance(1, 2) {
-        windows.insert(0, [3, 3 + rng.skewed(1, 100) as u32]);
-    }
-    Calendar::of(&windows)
 }
 
 fn put16(bytes: &mut [u8], at: usize, value: u32) {
@@ -175,9 +158,8 @@ fn put16(bytes: &mut [u8], at: usize, value: u32) {
     }
 }
 
-/// The bytes of a calendar, damaged in one place, also about a caller's limit. They may be
-/// a calendar still.
-pub fn damaged(limits: &Limits, rng: &mut Rng, calendar: &Calendar) -> Vec<u8> {
+/// The bytes of a calendar, damaged in one place. They may be a calendar still.
+pub fn damaged(rng: &mut Rng, calendar: &Calendar) -> Vec<u8> {
     let mut calendar = calendar.clone();
     let windows = &mut calendar.windows;
     if !windows.is_empty() && rng.chance(1, 2) {
@@ -189,10 +171,7 @@ pub fn damaged(limits: &Limits, rng: &mut Rng, calendar: &Calendar) -> Vec<u8> {
             1 => Window::new(again, shut),
             2 => Window::new(before, again),
             3 => Window::new(before.saturating_sub(1), again),
-            4 => {
-                let last = limits.reopening;
-                Window::new(shut, rng.pick(&[last, last + 1, 2 * last, 65_535]))
-            }
+            4 => Window::new(shut, rng.pick(&[4_096, 4_097, 8_192, 65_535])),
             _ => Window::new(before + 1, again),
         };
         return calendar.encode();
@@ -223,9 +202,9 @@ pub fn damaged(limits: &Limits, rng: &mut Rng, calendar: &Calendar) -> Vec<u8> {
 }
 
 /// What is lent as a calendar: mostly its bytes, at times damaged ones.
-pub fn lent(limits: &Limits, rng: &mut Rng, calendar: &Calendar) -> Vec<u8> {
+pub fn lent(rng: &mut Rng, calendar: &Calendar) -> Vec<u8> {
     if rng.chance(1, 24) {
-        damaged(limits, rng, calendar)
+        damaged(rng, calendar)
     } else {
         calendar.encode()
     }
@@ -237,12 +216,11 @@ fn comb(count: u32) -> Calendar {
     Calendar::of(&windows)
 }
 
-/// Calendars that each have one fault for a caller, with what it is.
-pub fn each_fault(limits: &Limits) -> Vec<(&'static str, Vec<u8>)> {
+/// Calendars that each have one fault, with what it is.
+pub fn each_fault() -> Vec<(&'static str, Vec<u8>)> {
     let mut faults: Vec<(&str, Vec<u8>)> = Vec::new();
-    let last = limits.reopening;
     // No windows, one, some, and the most.
-    let some = Calendar::of(&[[2, 5], [6, 9], [100, last]]);
+    let some = Calendar::of(&[[2, 5], [6, 9], [100, 4_096]]);
     let intact = [Calendar::default(), comb(1), some, comb(32)];
     for calendar in &intact {
         let bytes = calendar.encode();
@@ -287,7 +265,7 @@ pub fn each_fault(limits: &Limits) -> Vec<(&'static str, Vec<u8>)> {
                 put16(bytes, at, again);
                 put16(bytes, at + 2, shut);
             });
-            for late in [last + 1, last + 2, 2 * last, 65_535] {
+            for late in [4_097, 4_098, 8_192, 65_535] {
                 changed("reopens too late", &|bytes| put16(bytes, at + 2, late));
             }
             if k > 0 {
@@ -305,10 +283,7 @@ pub fn each_fault(limits: &Limits) -> Vec<(&'static str, Vec<u8>)> {
         Calendar::of(&[[0, 1], [1, 2]]).encode(),
     ));
     faults.push(("out of order", Calendar::of(&[[5, 6], [1, 2]]).encode()));
-    faults.push((
-        "whole and one more",
-        Calendar::of(&[[0, last + 1]]).encode(),
-    ));
+    faults.push(("whole and one more", Calendar::of(&[[0, 4_097]]).encode()));
     faults
 }
 

@@ -1,14 +1,10 @@
 //! What the benchmarks measure: books for the planner and for the finish of one flow,
 //! and books whose plans are the tables of the check and of the dispatch list, each
-//! with its calendar, mostly one without windows, and how often it is measured; and books
-//! that both callers take.
+//! with its calendar, mostly one without windows, and how often it is measured.
 
-use crate::books::{
-    fitted, full_book, largest_book, late_full_book, layered_book, usual_book, Family,
-};
+use crate::books::{full_book, largest_book, late_full_book, layered_book, usual_book, Family};
 use crate::calendar::{Calendar, Window, MOST_WINDOWS};
 use crate::calendars::stretched;
-use crate::limits::{LINE, MILL};
 use crate::marked;
 use crate::reader::{read_book, Book, Flow, Job};
 use crate::rng::Rng;
@@ -45,7 +41,7 @@ fn in_windows(case: Case) -> Case {
     };
     Case {
         name: format!("{}, 32 windows", case.name),
-        book: stretched(&MILL, &case.book, &calendar).expect("deadlines below 4,097"),
+        book: stretched(&case.book, &calendar).expect("deadlines below 4,097"),
         calendar,
         ..case
     }
@@ -178,7 +174,7 @@ pub fn plan_cases() -> Vec<Case> {
 
 /// The books whose plans the check is given.
 pub fn check_cases() -> Vec<Case> {
-    let book_a = read_book(&MILL, &marked::BOOK_A).expect("book A");
+    let book_a = read_book(&marked::BOOK_A).expect("book A");
     let waiting = waiting_book(4, 4, 4, 6);
     let mut small = vec![
         case("  book A", book_a, 31, 1_000),
@@ -228,7 +224,7 @@ pub fn check_cases() -> Vec<Case> {
 
 /// The books whose plans are listed.
 pub fn dispatch_cases() -> Vec<Case> {
-    let book_a = read_book(&MILL, &marked::BOOK_A).expect("book A");
+    let book_a = read_book(&marked::BOOK_A).expect("book A");
     let mut small = vec![
         case("  book A", book_a, 31, 1_000),
         case("  free jobs, 8 flows of 4", layered_book(8, 4, 12), 31, 500),
@@ -279,7 +275,7 @@ pub fn dispatch_cases() -> Vec<Case> {
 
 /// The books whose flows are asked for.
 pub fn finish_cases() -> Vec<Case> {
-    let book_a = read_book(&MILL, &marked::BOOK_A).expect("book A");
+    let book_a = read_book(&marked::BOOK_A).expect("book A");
     let mut small = vec![
         case("book A", book_a, 31, 1_000),
         case("free jobs, 8 flows of 4", layered_book(8, 4, 12), 31, 500),
@@ -309,32 +305,5 @@ pub fn finish_cases() -> Vec<Case> {
             .map(|n| case(format!("{n} slots"), queue_book(*n), 15, 20))
             .collect(),
     ));
-    cases
-}
-
-/// Books within the limits of the line.
-pub fn line_cases() -> Vec<Case> {
-    let book_a = read_book(&LINE, &marked::BOOK_A).expect("book A");
-    let mut rng = Rng::new(11);
-    let mut cases = vec![
-        case("book A", book_a, 31, 1_000),
-        case("free jobs, 8 flows of 4", layered_book(8, 4, 12), 31, 500),
-    ];
-    let mut usual = || loop {
-        let book = drawn_book(&mut rng);
-        if LINE.allow(&book, &Calendar::default()) {
-            return book;
-        }
-    };
-    cases.extend((0..3).map(|_| case("usual book", usual(), 31, 500)));
-    let family: Family = |rng| fitted(&LINE, full_book(rng));
-    let full = planned_book(&mut Rng::new(64), family);
-    cases.extend([
-        case("full book, 16 flows of 64 jobs", full, 31, 20),
-        case("longest table", layered_book(16, 64, 1_024), 5, 1),
-    ]);
-    assert!(cases
-        .iter()
-        .all(|case| LINE.allow(&case.book, &case.calendar)));
     cases
 }

@@ -1,6 +1,5 @@
 //! How near to its deadline a flow ends: the edges of what is late (02, Req 06).
 
-use crate::limits::MILL;
 use crate::reader::{be16, read_book};
 use crate::second_check::{FINISH, TABLE_HEAD};
 
@@ -16,7 +15,7 @@ pub struct Edges {
 impl Edges {
     /// Counts the flows of a table that was accepted for the book.
     pub fn count(&mut self, book: &[u8], table: &[u8]) {
-        let book = read_book(&MILL, book).expect("an accepted book");
+        let book = read_book(book).expect("an accepted book");
         for (number, flow) in book.flows.iter().enumerate() {
             let finish = be16(table, TABLE_HEAD + FINISH * number);
             let beyond = i64::from(finish) - i64::from(flow.deadline);

@@ -7,7 +7,6 @@
 
 use crate::answer::{FinishAnswer, Refusal, NONE, WORK_BYTES};
 use crate::calendar::{limit_in, windows_in};
-use crate::limits::MILL;
 use crate::reader::{
     be16, be32, be64, cap_in_use, predecessors, Version, BOOK_HEAD, JOB_RECORD, MOST_DEADLINE,
     MOST_FLOWS, MOST_JOBS, MOST_PROCESSORS, MOST_SIZE,
@@ -280,7 +279,7 @@ fn finish_by(runs: Runs, book: &[u8], calendar: &[u8], flow: u32, work: &mut [u8
     if flow as usize >= index.count {
         return FinishAnswer::refused(Refusal::of_all(23));
     }
-    let Some(windows) = windows_in(&MILL, calendar) else {
+    let Some(windows) = windows_in(calendar) else {
         return FinishAnswer::refused(Refusal::of_all(24));
     };
     let Some(area) = work.get_mut(..WORK_BYTES) else {

@@ -5,7 +5,6 @@
 
 use crate::answer::{PlanAnswer, Refusal, NONE, SLOTS, WORK_BYTES};
 use crate::calendar::{limit_in, windows_in};
-use crate::limits::MILL;
 use crate::reader::{predecessors, read_book, Book, Flow};
 use crate::second_check::{FINISH, ROW, TABLE_HEAD};
 
@@ -193,11 +192,11 @@ fn place<R: Rows>(
 
 /// Plans a book with its calendar into the lent output.
 pub fn plan(book: &[u8], calendar: &[u8], output: &mut [u8], work: &mut [u8]) -> PlanAnswer {
-    let book = match read_book(&MILL, book) {
+    let book = match read_book(book) {
         Ok(book) => book,
         Err(refusal) => return PlanAnswer::refused(refusal),
     };
-    let Some(windows) = windows_in(&MILL, calendar) else {
+    let Some(windows) = windows_in(calendar) else {
         return PlanAnswer::refused(Refusal::of_all(24));
     };
     if work.len() < WORK_BYTES {

@@ -5,7 +5,6 @@
 use crate::answer::{CheckAnswer, FinishAnswer, ListAnswer, PlanAnswer, Refusal};
 use crate::answer::{NONE, SLOTS, WORK_BYTES};
 use crate::books::encode_table;
-use crate::limits::MILL;
 use crate::reader::{read_book, Book, MOST_FLOWS, MOST_JOBS};
 use crate::second_check::{
     close, first_off, head_fits, index, open, Complete, Index, Ledger, Row, Rows, Tally, Use,
@@ -79,7 +78,7 @@ fn schedule(book: &Book) -> Result<Schedule, u8> {
 
 /// The planner as it was called.
 pub fn plan(book: &[u8], output: &mut [u8], work: &mut [u8]) -> PlanAnswer {
-    let book = match read_book(&MILL, book) {
+    let book = match read_book(book) {
         Ok(book) => book,
         Err(refusal) => return PlanAnswer::refused(refusal),
     };
@@ -90,12 +89,12 @@ pub fn plan(book: &[u8], output: &mut [u8], work: &mut [u8]) -> PlanAnswer {
             second_planner::Outcome::Planned(second_planner::Plan { schedule, table })
         }
     };
-    second_planner::deliver(&MILL, &outcome, output, work)
+    second_planner::deliver(&outcome, output, work)
 }
 
 /// The finish of one flow as it was called.
 pub fn finish(book: &[u8], flow: u32, work: &mut [u8]) -> FinishAnswer {
-    let book = match read_book(&MILL, book) {
+    let book = match read_book(book) {
         Ok(book) => book,
         Err(refusal) => return FinishAnswer::refused(refusal),
     };
@@ -111,7 +110,7 @@ pub fn finish(book: &[u8], flow: u32, work: &mut [u8]) -> FinishAnswer {
         match place(&book, number, &mut used, &mut Vec::new()) {
             None => return FinishAnswer::refused(Refusal::new(12, number as u8, NONE)),
             Some(finish) if number == flow as usize => {
-                put_use(&MILL, &used, work);
+                put_use(&used, work);
                 return FinishAnswer::accepted(finish);
             }
             Some(_) => {}
@@ -122,7 +121,7 @@ pub fn finish(book: &[u8], flow: u32, work: &mut [u8]) -> FinishAnswer {
 
 /// The check as it was called.
 pub fn check(book: &[u8], table: &[u8], work: &mut [u8]) -> CheckAnswer {
-    let book = match index(&MILL, book) {
+    let book = match index(book) {
         Ok(book) => book,
         Err(refusal) => return CheckAnswer::refused(refusal),
     };
@@ -146,6 +145,7 @@ fn walk(book: &Index, table: &[u8], work: &mut [u8; WORK_BYTES]) -> Result<u8, R
         return Err(Refusal::of_all(14));
     }
     let (used, _) = work.as_chunks_mut::<2>();
+    let used: &mut Use = used.try_into().expect("two bytes to a slot");
     let (stated, rows) = table[TABLE_HEAD..].split_at(FINISH * book.flows);
     let (mut rows, _) = rows.as_chunks::<ROW>();
     let mut tally = Tally {

@@ -1,14 +1,15 @@
 //! Flow heads with every kind of field, whole and cut at every byte, under every
-//! version byte, each with the refusal that is owed to a caller; held against any planner
+//! version byte, each with the refusal that is owed; held against any planner
 //! and any check.
 
 use crate::answer::{Refusal, NONE};
 use crate::books::fit_length;
-use crate::limits::Limits;
 use crate::marked::{not_checked, not_planned, table_a, Check, Planner};
 use crate::reader::{Version, JOB_RECORD};
 
 const VERSION_BYTES: [u8; 5] = [0, 1, 2, 3, 255];
+const DEADLINES: [u16; 7] = [0, 1, 2, 3, 4_096, 4_097, 65_535];
+const RELEASES: [u16; 9] = [0, 1, 2, 3, 4_095, 4_096, 4_097, 65_534, 65_535];
 const JOBS: [u8; 6] = [0, 1, 2, 64, 65, 255];
 
 /// The fields of a head.
@@ -30,8 +31,8 @@ impl Head {
     }
 
     /// 6, 22, 7 of a head that is there whole.
-    fn fault(self, most: u16, version: Version) -> Option<u8> {
-        if self.deadline == 0 || self.deadline > most {
+    fn fault(self, version: Version) -> Option<u8> {
+        if self.deadline == 0 || self.deadline > 4_096 {
             Some(6)
         } else if version == Version::Two && self.release >= self.deadline {
             Some(22)
@@ -60,22 +61,19 @@ fn book(version_byte: u8, version: Version, rest: &[u8]) -> Vec<u8> {
 
 /// Every head in the place of flow 1, with the refusal owed to it: cut to each
 /// length, whole with nothing behind it, and whole before a job of size 0.
-fn each(limits: &Limits, mut hold: impl FnMut(&[u8], Refusal)) {
-    let most = limits.deadline as u16;
-    let deadlines = [0, 1, 2, 3, most, most + 1, 65_535];
-    let all_releases = [0, 1, 2, 3, most - 1, most, most + 1, 65_534, 65_535];
+fn each(mut hold: impl FnMut(&[u8], Refusal)) {
     for version_byte in VERSION_BYTES {
         let known = Version::of_byte(version_byte);
         let version = known.unwrap_or(Version::Two);
         let releases = match version {
-            Version::One => &all_releases[..1],
-            Version::Two => &all_releases[..],
+            Version::One => &RELEASES[..1],
+            Version::Two => &RELEASES[..],
         };
         let mut owed = |rest: &[u8], refusal| {
             let refusal = known.map_or(Refusal::of_all(2), |_| refusal);
             hold(&book(version_byte, version, rest), refusal);
         };
-        for deadline in deadlines {
+        for deadline in DEADLINES {
             for &release in releases {
                 for jobs in JOBS {
                     let head = Head {
@@ -87,7 +85,7 @@ fn each(limits: &Limits, mut hold: impl FnMut(&[u8], Refusal)) {
                     for kept in 0..bytes.len() {
                         owed(&bytes[..kept], Refusal::new(5, 1, NONE));
                     }
-                    let in_head = head.fault(most, version);
+                    let in_head = head.fault(version);
                     let in_head = in_head.map(|number| Refusal::new(number, 1, NONE));
                     owed(&bytes, in_head.unwrap_or(Refusal::new(5, 1, 0)));
                     let before_job = [&bytes[..], &[0; JOB_RECORD]].concat();
@@ -98,17 +96,13 @@ fn each(limits: &Limits, mut hold: impl FnMut(&[u8], Refusal)) {
     }
 }
 
-/// Holds the heads against a caller's planner.
-pub fn hold_planner(limits: &Limits, plan: Planner) {
-    each(limits, |book, refusal| {
-        not_planned(plan, book, 100, refusal)
-    });
+/// Holds the heads against a planner.
+pub fn hold_planner(plan: Planner) {
+    each(|book, refusal| not_planned(plan, book, 100, refusal));
 }
 
-/// Holds the heads against a caller's check.
-pub fn hold_check(limits: &Limits, check: Check) {
+/// Holds the heads against a check.
+pub fn hold_check(check: Check) {
     let table = table_a();
-    each(limits, |book, refusal| {
-        not_checked(check, book, &table, refusal)
-    });
+    each(|book, refusal| not_checked(check, book, &table, refusal));
 }

@@ -2,7 +2,6 @@
 //! around and behind it can be compared after the call.
 
 use crate::answer::WORK_BYTES;
-use crate::limits::{Limits, LINE, MILL};
 use crate::rng::Rng;
 
 const GUARD: usize = 64;
@@ -41,20 +40,6 @@ pub fn work_length(rng: &mut Rng) -> usize {
         9..=12 => WORK_BYTES + 1 + rng.index(64),
         13..=14 => WORK_BYTES + 1,
         _ => WORK_BYTES + rng.index(5_000),
-    }
-}
-
-/// A length of a work area about the size of a caller, at times about that of the other.
-pub fn work_length_about(limits: &Limits, rng: &mut Rng) -> usize {
-    let own = limits.work_bytes;
-    let size = rng.pick(&[own, own, LINE.work_bytes, MILL.work_bytes]);
-    match rng.below(16) {
-        0 => rng.pick(&[0, 1, 2, size - 2]),
-        1 | 2 => size - 1,
-        3..=9 => size,
-        10..=12 => size + 1,
-        13 => rng.index(size),
-        _ => size + 1 + rng.index(300),
     }
 }
 

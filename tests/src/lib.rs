@@ -1,7 +1,7 @@
 //! A second planner, a second table check, a second dispatch list, a second finish of
-//! one flow, each for either caller, and the quote of one, made apart from the code of the
-//! proved ones, with generators of books, calendars and tables, for differential tests and
-//! as a baseline of speed.
+//! one flow and the quote of one, made apart from the code of the proved ones,
+//! with generators of books, calendars and tables, for differential tests and as
+//! a baseline of speed.
 
 pub mod answer;
 pub mod books;
@@ -14,10 +14,8 @@ pub mod fast_dispatch;
 pub mod fast_finish;
 pub mod fast_planner;
 pub mod former;
-pub mod header;
 pub mod heads;
 pub mod lent;
-pub mod limits;
 pub mod linked;
 pub mod linked_dispatch;
 pub mod linked_finish;

@@ -1,7 +1,6 @@
 //! How long a table may be by the sizes of its book: each row is at least one of the
 //! processor-slots that the sizes sum to.
 
-use crate::limits::MILL;
 use crate::reader::{read_book, Book};
 use crate::second_check::{FINISH, ROW, TABLE_HEAD};
 
@@ -22,7 +21,7 @@ pub struct Lengths {
 impl Lengths {
     /// A table that was accepted for the book, which must not be longer than may be.
     pub fn count(&mut self, book: &[u8], table: &[u8]) {
-        let book = read_book(&MILL, book).expect("an accepted book");
+        let book = read_book(book).expect("an accepted book");
         let most = most_bytes(&book);
         let length = table.len() as u64;
         assert!(length <= most, "{length} bytes are above {most}");

@@ -6,7 +6,6 @@ use crate::answer::{NUMBERS, WORK_BYTES};
 use crate::books::{self, encode_book};
 use crate::calendars;
 use crate::lent::{Junk, Lent};
-use crate::limits::MILL;
 use crate::marked::{Check, Planner};
 use crate::reader::{be16, read_book, Version, BOOK_HEAD};
 use crate::rng::Rng;
@@ -32,7 +31,7 @@ pub fn lowered(book: &[u8]) -> Vec<u8> {
 /// Where a book passes its checks: its lowered book has the same values but for
 /// the caps above P, and is the book itself where there are none.
 fn hold_values(book: &[u8], lowered: &[u8]) {
-    let Ok(mut values) = read_book(&MILL, book) else {
+    let Ok(mut values) = read_book(book) else {
         return;
     };
     assert_eq!(lowered != book, books::has_cap_above(&values));
@@ -41,7 +40,7 @@ fn hold_values(book: &[u8], lowered: &[u8]) {
             job.cap = values.processors;
         }
     }
-    assert_eq!(read_book(&MILL, lowered), Ok(values));
+    assert_eq!(read_book(lowered), Ok(values));
 }
 
 /// Lengths of a buffer of which a call uses `length` bytes: too short, exact and
@@ -68,18 +67,18 @@ pub fn hold(plan: Planner, check: Check, version: Version, seed: u64, cases: usi
             _ => books::tiny_book,
         };
         let values = books::drawn(&mut rng, version, family);
-        let (values, calendar) = calendars::with_calendar(&MILL, &mut rng, values);
-        let lent = calendars::lent(&MILL, &mut rng, &calendar);
+        let (values, calendar) = calendars::with_calendar(&mut rng, values);
+        let lent = calendars::lent(&mut rng, &calendar);
         let mut book = encode_book(&values);
         let damaged = rng.chance(1, 8);
         if damaged {
-            books::damage_book(&MILL, &mut rng, &mut book);
+            books::damage_book(&mut rng, &mut book);
         }
         let pair = [&book, &lowered(&book)];
         hold_values(pair[0], pair[1]);
         let changed = usize::from(pair[0] != pair[1]);
 
-        let room = match second_planner::outcome(&MILL, &book, &lent) {
+        let room = match second_planner::outcome(&book, &lent) {
             Outcome::Planned(plan) => plan.table.len(),
             _ => 100,
         };
@@ -99,13 +98,13 @@ pub fn hold(plan: Planner, check: Check, version: Version, seed: u64, cases: usi
             by_plan[changed][answers.0.number as usize] += 1;
         }
 
-        let Some(valid) = tables::either_table(&MILL, &mut rng, &values, &calendar) else {
+        let Some(valid) = tables::either_table(&mut rng, &values, &calendar) else {
             continue;
         };
         for case in 0..4 {
             let table = match case {
                 0 => valid.encode(&values),
-                _ => tables::damaged(&MILL, &mut rng, &values, &calendar, &valid),
+                _ => tables::damaged(&mut rng, &values, &calendar, &valid),
             };
             let length = rng.pick(&works);
             let work = Lent::junk(&mut rng, &junk, length);

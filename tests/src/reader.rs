@@ -2,14 +2,13 @@
 //! it down by one of the numbers 1 to 10 and 22 with its place.
 
 use crate::answer::{Refusal, NONE};
-use crate::limits::Limits;
 
 /// Bytes of the book's head and of a job record.
 pub const BOOK_HEAD: usize = 8;
 pub const JOB_RECORD: usize = 14;
 
-/// The most that each field may be, flows and deadline as the mill has them; the least is
-/// 1 (0 for the flows). A cap may be all that its two bytes can say.
+/// The most that each field may be; the least is 1 (0 for the flows). A cap may be
+/// all that its two bytes can say.
 pub const MOST_PROCESSORS: u32 = 4_096;
 pub const MOST_FLOWS: usize = 64;
 pub const MOST_DEADLINE: u32 = 4_096;
@@ -164,9 +163,9 @@ pub fn be64(bytes: &[u8], at: usize) -> u64 {
     u64::from(be32(bytes, at)) << 32 | u64::from(be32(bytes, at + 4))
 }
 
-/// Reads a whole book within a caller's limits. A head or record must be there whole before any of its
+/// Reads a whole book. A head or record must be there whole before any of its
 /// fields is looked at.
-pub fn read_book(limits: &Limits, bytes: &[u8]) -> Result<Book, Refusal> {
+pub fn read_book(bytes: &[u8]) -> Result<Book, Refusal> {
     if bytes.len() < BOOK_HEAD || be32(bytes, 0) as usize != bytes.len() {
         return Err(Refusal::of_all(1));
     }
@@ -178,7 +177,7 @@ pub fn read_book(limits: &Limits, bytes: &[u8]) -> Result<Book, Refusal> {
         return Err(Refusal::of_all(3));
     }
     let flow_count = bytes[7];
-    if flow_count as usize > limits.flows {
+    if flow_count as usize > MOST_FLOWS {
         return Err(Refusal::of_all(4));
     }
     let mut flows = Vec::with_capacity(flow_count as usize);
@@ -192,7 +191,7 @@ pub fn read_book(limits: &Limits, bytes: &[u8]) -> Result<Book, Refusal> {
         let release = version.release(head);
         let job_count = head[head.len() - 1];
         at += head.len();
-        if !(1..=limits.deadline).contains(&deadline) {
+        if !(1..=MOST_DEADLINE).contains(&deadline) {
             return Err(Refusal::new(6, flow, NONE));
         }
         if release >= deadline {

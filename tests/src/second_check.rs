@@ -3,12 +3,11 @@
 //! `check_by_definition` looks back over all earlier rows for each row and is
 //! held against it in the tests.
 
-use crate::answer::{CheckAnswer, Refusal, NONE, SLOTS};
+use crate::answer::{CheckAnswer, Refusal, NONE, SLOTS, WORK_BYTES};
 use crate::calendar::{read_calendar, windows_in, Calendar, LAST_REOPENING};
-use crate::limits::{Limits, MILL};
 use crate::reader::{
-    be16, be32, be64, cap_in_use, read_book, Book, Version, BOOK_HEAD, JOB_RECORD, MOST_FLOWS,
-    MOST_JOBS, MOST_PROCESSORS, MOST_SIZE,
+    be16, be32, be64, cap_in_use, read_book, Book, Version, BOOK_HEAD, JOB_RECORD, MOST_DEADLINE,
+    MOST_FLOWS, MOST_JOBS, MOST_PROCESSORS, MOST_SIZE,
 };
 
 /// Bytes of the table's head, of one finish and of one row.
@@ -36,7 +35,7 @@ pub fn row_at(rows: &[u8]) -> Row {
 
 pub(crate) type Records<'a> = &'a [[u8; JOB_RECORD]];
 pub(crate) type Rows<'a> = &'a [[u8; ROW]];
-pub(crate) type Use = [[u8; 2]];
+pub(crate) type Use = [[u8; 2]; SLOTS];
 
 /// A book that passed 1 to 10 and 22, read where it lies.
 pub(crate) struct Index<'a> {
@@ -99,33 +98,21 @@ pub(crate) struct Tally {
 /// Which slots are shut, up to the last that a window can shut.
 type Shut = [bool; LAST_REOPENING as usize];
 
-/// Checks a table against a book and its calendar for the mill.
+/// Checks a table against a book and its calendar. On acceptance the work area
+/// holds the use of each slot; a refusal after 11 zeroes it.
 pub fn check(book: &[u8], calendar: &[u8], table: &[u8], work: &mut [u8]) -> CheckAnswer {
-    check_within(&MILL, book, calendar, table, work)
-}
-
-/// Checks a table against a book and its calendar within a caller's limits. On acceptance
-/// the work area holds the use of each slot; a refusal after 11 zeroes it.
-#[inline]
-pub fn check_within(
-    limits: &Limits,
-    book: &[u8],
-    calendar: &[u8],
-    table: &[u8],
-    work: &mut [u8],
-) -> CheckAnswer {
-    let book = match index(limits, book) {
+    let book = match index(book) {
         Ok(book) => book,
         Err(refusal) => return CheckAnswer::refused(refusal),
     };
-    let Some(windows) = windows_in(limits, calendar) else {
+    let Some(windows) = windows_in(calendar) else {
         return CheckAnswer::refused(Refusal::of_all(24));
     };
     let mut shut: Shut = [false; LAST_REOPENING as usize];
     for [from, to] in windows {
         shut[from..to].fill(true);
     }
-    let Some(work) = work.get_mut(..limits.work_bytes) else {
+    let Some(work) = work.first_chunk_mut::<WORK_BYTES>() else {
         return CheckAnswer::refused(Refusal::of_all(11));
     };
     work.fill(0);
@@ -139,7 +126,7 @@ pub fn check_within(
 }
 
 /// 1 to 10 and 22, and the index of a book that passes.
-pub(crate) fn index<'a>(limits: &Limits, bytes: &'a [u8]) -> Result<Index<'a>, Refusal> {
+pub(crate) fn index(bytes: &[u8]) -> Result<Index<'_>, Refusal> {
     let Some((head, mut rest)) = bytes.split_first_chunk::<BOOK_HEAD>() else {
         return Err(Refusal::of_all(1));
     };
@@ -154,7 +141,7 @@ pub(crate) fn index<'a>(limits: &Limits, bytes: &'a [u8]) -> Result<Index<'a>, R
         return Err(Refusal::of_all(3));
     }
     let flows = head[7] as usize;
-    if flows > limits.flows {
+    if flows > MOST_FLOWS {
         return Err(Refusal::of_all(4));
     }
     let mut book = Index {
@@ -169,7 +156,7 @@ pub(crate) fn index<'a>(limits: &Limits, bytes: &'a [u8]) -> Result<Index<'a>, R
             return Err(Refusal::new(5, flow as u8, NONE));
         };
         let deadline = be16(head, 0);
-        if !(1..=limits.deadline).contains(&deadline) {
+        if !(1..=MOST_DEADLINE).contains(&deadline) {
             return Err(Refusal::new(6, flow as u8, NONE));
         }
         let release = version.release(head);
@@ -227,11 +214,17 @@ pub(crate) fn head_fits(processors: u32, flows: usize, table: &[u8]) -> bool {
 
 /// 14 to 21 and 25, and the late flows of a table that passes. Rows of a flow stand
 /// together, so ledgers are kept of one flow at a time.
-fn walk(book: &Index, shut: &Shut, table: &[u8], work: &mut [u8]) -> Result<u8, Refusal> {
+fn walk(
+    book: &Index,
+    shut: &Shut,
+    table: &[u8],
+    work: &mut [u8; WORK_BYTES],
+) -> Result<u8, Refusal> {
     if !head_fits(book.processors, book.flows, table) {
         return Err(Refusal::of_all(14));
     }
     let (used, _) = work.as_chunks_mut::<2>();
+    let used: &mut Use = used.try_into().expect("two bytes to a slot");
     let (stated, rows) = table[TABLE_HEAD..].split_at(FINISH * book.flows);
     let (mut rows, _) = rows.as_chunks::<ROW>();
     let mut tally = Tally {
@@ -393,40 +386,29 @@ pub(crate) fn close(book: &Index, tally: &Tally, stated: &[u8]) -> Result<u8, Re
 }
 
 /// The same check with no memory between rows: every sum is taken anew over
-/// the rows so far. Quadratic, for small tables. For the mill.
+/// the rows so far. Quadratic, for small tables.
 pub fn check_by_definition(
     book: &[u8],
     calendar: &[u8],
     table: &[u8],
     work: &mut [u8],
 ) -> CheckAnswer {
-    check_by_definition_within(&MILL, book, calendar, table, work)
-}
-
-/// The same within a caller's limits.
-pub fn check_by_definition_within(
-    limits: &Limits,
-    book: &[u8],
-    calendar: &[u8],
-    table: &[u8],
-    work: &mut [u8],
-) -> CheckAnswer {
-    let book = match read_book(limits, book) {
+    let book = match read_book(book) {
         Ok(book) => book,
         Err(refusal) => return CheckAnswer::refused(refusal),
     };
-    let calendar = match read_calendar(limits, calendar) {
+    let calendar = match read_calendar(calendar) {
         Ok(calendar) => calendar,
         Err(refusal) => return CheckAnswer::refused(refusal),
     };
-    if work.len() < limits.work_bytes {
+    if work.len() < WORK_BYTES {
         return CheckAnswer::refused(Refusal::of_all(11));
     }
-    work[..limits.work_bytes].fill(0);
-    match judge(limits, &book, &calendar, table) {
+    work[..WORK_BYTES].fill(0);
+    match judge(&book, &calendar, table) {
         Err(refusal) => CheckAnswer::refused(refusal),
         Ok((late, rows)) => {
-            for slot in 0..limits.slots {
+            for slot in 0..SLOTS {
                 let in_use = use_of(&rows, slot as u16) as u16;
                 work[2 * slot..2 * slot + 2].copy_from_slice(&in_use.to_be_bytes());
             }
@@ -448,12 +430,7 @@ fn done_before(rows: &[Row], flow: u8, job: u8, slot: u32) -> u32 {
     earlier.map(|row| u32::from(row.take)).sum()
 }
 
-fn judge(
-    limits: &Limits,
-    book: &Book,
-    calendar: &Calendar,
-    table: &[u8],
-) -> Result<(u8, Vec<Row>), Refusal> {
+fn judge(book: &Book, calendar: &Calendar, table: &[u8]) -> Result<(u8, Vec<Row>), Refusal> {
     if !head_fits(book.processors, book.flows.len(), table) {
         return Err(Refusal::of_all(14));
     }
@@ -471,7 +448,7 @@ fn judge(
         let Some(job) = flow.jobs.get(row.job as usize) else {
             return refuse(15);
         };
-        if usize::from(row.slot) >= limits.slots || row.take == 0 {
+        if row.slot > 8_191 || row.take == 0 {
             return refuse(15);
         }
         // "25 when a row uses a shut slot, between 15 and 16" (02, Req 07).

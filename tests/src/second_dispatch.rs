@@ -1,9 +1,8 @@
 //! The dispatch list, written a second time from the request: the second check,
 //! and the rows of an accepted table in the stated order by a sort.
 
-use crate::answer::{ListAnswer, Refusal};
+use crate::answer::{ListAnswer, Refusal, WORK_BYTES};
 use crate::books::encode_list;
-use crate::limits::{Limits, MILL};
 use crate::reader::be16;
 use crate::second_check::{self, row_at, Row, FINISH, ROW, TABLE_HEAD};
 
@@ -25,7 +24,7 @@ pub fn list_of(table: &[u8]) -> Vec<u8> {
     list
 }
 
-/// The dispatch list as the mill calls it.
+/// The dispatch list as it is called.
 pub fn dispatch(
     book: &[u8],
     calendar: &[u8],
@@ -33,26 +32,14 @@ pub fn dispatch(
     output: &mut [u8],
     work: &mut [u8],
 ) -> ListAnswer {
-    dispatch_within(&MILL, book, calendar, table, output, work)
-}
-
-/// The dispatch list as a caller with these limits calls it.
-pub fn dispatch_within(
-    limits: &Limits,
-    book: &[u8],
-    calendar: &[u8],
-    table: &[u8],
-    output: &mut [u8],
-    work: &mut [u8],
-) -> ListAnswer {
-    let checked = second_check::check_within(limits, book, calendar, table, work);
+    let checked = second_check::check(book, calendar, table, work);
     if checked.number != 0 {
         let refusal = Refusal::new(checked.number, checked.flow, checked.job);
         return ListAnswer::refused(refusal);
     }
     let list = list_of(table);
     if list.len() > output.len() {
-        work[..limits.work_bytes].fill(0);
+        work[..WORK_BYTES].fill(0);
         return ListAnswer::refused(Refusal::of_all(13));
     }
     output[..list.len()].copy_from_slice(&list);

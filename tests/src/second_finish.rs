@@ -2,9 +2,8 @@
 //! in full, and the literal planner's flows are placed in service order up to the one
 //! named.
 
-use crate::answer::{FinishAnswer, Refusal, NONE, SLOTS};
+use crate::answer::{FinishAnswer, Refusal, NONE, SLOTS, WORK_BYTES};
 use crate::calendar::{read_calendar, Calendar};
-use crate::limits::{Limits, MILL};
 use crate::reader::{read_book, Book};
 use crate::second_planner::{place, put_use};
 
@@ -20,17 +19,16 @@ pub enum Outcome {
     Finished(u16, Vec<u32>),
 }
 
-/// Reads a book and its calendar within a caller's limits, and places the flows up to the
-/// one named.
-pub fn outcome(limits: &Limits, book: &[u8], calendar: &[u8], flow: u32) -> Outcome {
-    let book = match read_book(limits, book) {
+/// Reads a book and its calendar, and places the flows up to the one named.
+pub fn outcome(book: &[u8], calendar: &[u8], flow: u32) -> Outcome {
+    let book = match read_book(book) {
         Ok(book) => book,
         Err(refusal) => return Outcome::Faulty(refusal),
     };
     if flow as usize >= book.flows.len() {
         return Outcome::Faulty(Refusal::of_all(23));
     }
-    let calendar = match read_calendar(limits, calendar) {
+    let calendar = match read_calendar(calendar) {
         Ok(calendar) => calendar,
         Err(refusal) => return Outcome::Faulty(refusal),
     };
@@ -66,18 +64,18 @@ pub fn outcomes(book: &Book, calendar: &Calendar) -> Vec<Outcome> {
     served.collect()
 }
 
-/// Gives an outcome out into the lent work area, of which the caller's size is used.
-pub fn deliver(limits: &Limits, outcome: &Outcome, work: &mut [u8]) -> FinishAnswer {
+/// Gives an outcome out into the lent work area.
+pub fn deliver(outcome: &Outcome, work: &mut [u8]) -> FinishAnswer {
     if let Outcome::Faulty(refusal) = outcome {
         return FinishAnswer::refused(*refusal);
     }
-    if work.len() < limits.work_bytes {
+    if work.len() < WORK_BYTES {
         return FinishAnswer::refused(Refusal::of_all(11));
     }
-    work[..limits.work_bytes].fill(0);
+    work[..WORK_BYTES].fill(0);
     match outcome {
         Outcome::Finished(finish, used) => {
-            put_use(limits, used, work);
+            put_use(used, work);
             FinishAnswer::accepted(*finish)
         }
         Outcome::Infeasible(flow) => FinishAnswer::refused(Refusal::new(12, *flow, NONE)),
@@ -85,18 +83,7 @@ pub fn deliver(limits: &Limits, outcome: &Outcome, work: &mut [u8]) -> FinishAns
     }
 }
 
-/// The finish as the mill calls it.
+/// The finish as it is called.
 pub fn finish(book: &[u8], calendar: &[u8], flow: u32, work: &mut [u8]) -> FinishAnswer {
-    finish_within(&MILL, book, calendar, flow, work)
-}
-
-/// The finish as a caller with these limits calls it.
-pub fn finish_within(
-    limits: &Limits,
-    book: &[u8],
-    calendar: &[u8],
-    flow: u32,
-    work: &mut [u8],
-) -> FinishAnswer {
-    deliver(limits, &outcome(limits, book, calendar, flow), work)
+    deliver(&outcome(book, calendar, flow), work)
 }

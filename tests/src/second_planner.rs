@@ -2,10 +2,9 @@
 //! unit by unit, with no closed formula. It is the measure of every plan that
 //! is not proved by the joint theorem of the marked ones.
 
-use crate::answer::{PlanAnswer, Refusal, NONE, SLOTS};
+use crate::answer::{PlanAnswer, Refusal, NONE, SLOTS, WORK_BYTES};
 use crate::books::encode_table;
 use crate::calendar::{read_calendar, Calendar};
-use crate::limits::{Limits, MILL};
 use crate::reader::{predecessors, read_book, Book, Flow, Job};
 use crate::second_check::{Row, FINISH, ROW, TABLE_HEAD};
 
@@ -263,14 +262,13 @@ pub struct Plan {
     pub table: Vec<u8>,
 }
 
-/// Reads a book and its calendar within a caller's limits, and plans the book. The plan
-/// reads none of them.
-pub fn outcome(limits: &Limits, book: &[u8], calendar: &[u8]) -> Outcome {
-    let book = match read_book(limits, book) {
+/// Reads a book and its calendar, and plans the book.
+pub fn outcome(book: &[u8], calendar: &[u8]) -> Outcome {
+    let book = match read_book(book) {
         Ok(book) => book,
         Err(refusal) => return Outcome::Faulty(refusal),
     };
-    let calendar = match read_calendar(limits, calendar) {
+    let calendar = match read_calendar(calendar) {
         Ok(calendar) => calendar,
         Err(refusal) => return Outcome::Faulty(refusal),
     };
@@ -285,31 +283,22 @@ pub fn outcome(limits: &Limits, book: &[u8], calendar: &[u8]) -> Outcome {
     }
 }
 
-/// Writes the processors in use in each of the caller's slots into the work area. There
-/// is none in use past them.
-pub fn put_use(limits: &Limits, used: &[u32], work: &mut [u8]) {
-    let (used, past) = used.split_at(limits.slots);
-    assert!(past.iter().all(|&in_use| in_use == 0));
+/// Writes the processors in use in each slot into the work area.
+pub fn put_use(used: &[u32], work: &mut [u8]) {
     for (slot, &in_use) in used.iter().enumerate() {
         work[2 * slot..2 * slot + 2].copy_from_slice(&(in_use as u16).to_be_bytes());
     }
 }
 
-/// Gives an outcome out into the lent output and work area, of which the caller's size is
-/// used.
-pub fn deliver(
-    limits: &Limits,
-    outcome: &Outcome,
-    output: &mut [u8],
-    work: &mut [u8],
-) -> PlanAnswer {
+/// Gives an outcome out into the lent output and work area.
+pub fn deliver(outcome: &Outcome, output: &mut [u8], work: &mut [u8]) -> PlanAnswer {
     if let Outcome::Faulty(refusal) = outcome {
         return PlanAnswer::refused(*refusal);
     }
-    if work.len() < limits.work_bytes {
+    if work.len() < WORK_BYTES {
         return PlanAnswer::refused(Refusal::of_all(11));
     }
-    work[..limits.work_bytes].fill(0);
+    work[..WORK_BYTES].fill(0);
     let plan = match outcome {
         Outcome::Infeasible(flow) => {
             return PlanAnswer::refused(Refusal::new(12, *flow, NONE));
@@ -321,22 +310,11 @@ pub fn deliver(
         return PlanAnswer::refused(Refusal::of_all(13));
     }
     output[..plan.table.len()].copy_from_slice(&plan.table);
-    put_use(limits, &plan.schedule.used, work);
+    put_use(&plan.schedule.used, work);
     PlanAnswer::accepted(plan.schedule.late, plan.table.len() as u32)
 }
 
-/// The planner as the mill calls it.
+/// The planner as it is called.
 pub fn plan(book: &[u8], calendar: &[u8], output: &mut [u8], work: &mut [u8]) -> PlanAnswer {
-    plan_within(&MILL, book, calendar, output, work)
-}
-
-/// The planner as a caller with these limits calls it.
-pub fn plan_within(
-    limits: &Limits,
-    book: &[u8],
-    calendar: &[u8],
-    output: &mut [u8],
-    work: &mut [u8],
-) -> PlanAnswer {
-    deliver(limits, &outcome(limits, book, calendar), output, work)
+    deliver(&outcome(book, calendar), output, work)
 }

@@ -5,7 +5,6 @@
 use crate::books::{self, encode_book, Family};
 use crate::calendar::Calendar;
 use crate::calendars;
-use crate::limits::{Limits, MILL};
 use crate::marked;
 use crate::reader::{Book, Version};
 use crate::rng::Rng;
@@ -34,11 +33,6 @@ impl Of {
 pub trait TableTrial {
     fn rng(&mut self) -> &mut Rng;
 
-    /// The limits of the caller, the mill's where nothing else is said.
-    fn limits(&self) -> &'static Limits {
-        &MILL
-    }
-
     /// A book of a family, in the version of the trial, and a calendar.
     fn draw(&mut self, family: Family) -> Of;
 
@@ -54,17 +48,17 @@ pub trait TableTrial {
     fn compare_around(&mut self, of: &Of, table: &Table, damaged: usize) {
         self.compare_valid(of, table);
         for _ in 0..damaged {
-            let table = tables::damaged(self.limits(), self.rng(), &of.book, &of.calendar, table);
+            let table = tables::damaged(self.rng(), &of.book, &of.calendar, table);
             self.compare_damaged(of, &table);
         }
         let intact = table.encode(&of.book);
         for _ in 0..damaged.div_ceil(3) {
             let mut bytes = of.bytes.clone();
-            books::damage_book(self.limits(), self.rng(), &mut bytes);
-            let lent = calendars::lent(self.limits(), self.rng(), &of.calendar);
+            books::damage_book(self.rng(), &mut bytes);
+            let lent = calendars::lent(self.rng(), &of.calendar);
             self.compare_bytes(&bytes, &lent, &intact);
         }
-        let lent = calendars::damaged(self.limits(), self.rng(), &of.calendar);
+        let lent = calendars::damaged(self.rng(), &of.calendar);
         self.compare_bytes(&of.bytes, &lent, &intact);
     }
 
@@ -76,9 +70,7 @@ pub trait TableTrial {
             if let Some(table) = tables::planned_table(&of.book, &of.calendar) {
                 self.compare_around(&of, &table, damaged);
             }
-            if let Some(table) =
-                tables::delayed_table(self.limits(), self.rng(), &of.book, &of.calendar)
-            {
+            if let Some(table) = tables::delayed_table(self.rng(), &of.book, &of.calendar) {
                 self.compare_around(&of, &table, damaged);
             }
         }
@@ -86,9 +78,7 @@ pub trait TableTrial {
 
     /// Every slot of the work area in use from the release on, by every flow.
     fn compare_layered(&mut self, version: Version, damaged: usize) {
-        let Limits { flows, slots, .. } = *self.limits();
-        let slots = slots as u32;
-        for (flows, jobs, slots) in [(flows, 1, slots), (1, 64, slots), (flows, 64, 64)] {
+        for (flows, jobs, slots) in [(64, 1, 8_192), (1, 64, 8_192), (64, 64, 64)] {
             let book = books::layered_in(version, flows, jobs, slots);
             let of = Of::new((book, Calendar::default()));
             let table = tables::planned_table(&of.book, &of.calendar).expect("feasible");
@@ -102,9 +92,7 @@ pub trait TableTrial {
         for _ in 0..count {
             let of = self.draw(books::tiny_book);
             self.compare_bytes(&of.bytes, &of.lent, &last);
-            if let Some(table) =
-                tables::delayed_table(self.limits(), self.rng(), &of.book, &of.calendar)
-            {
+            if let Some(table) = tables::delayed_table(self.rng(), &of.book, &of.calendar) {
                 last = table.encode(&of.book);
             }
         }
@@ -117,11 +105,11 @@ pub trait TableTrial {
                 books::random_bytes(self.rng(), 80)
             } else {
                 let mut bytes = self.draw(books::tiny_book).bytes;
-                books::damage_book(self.limits(), self.rng(), &mut bytes);
+                books::damage_book(self.rng(), &mut bytes);
                 bytes
             };
             let table = books::random_bytes(self.rng(), 80);
-            let calendar = calendars::lent(self.limits(), self.rng(), &Calendar::default());
+            let calendar = calendars::lent(self.rng(), &Calendar::default());
             self.compare_bytes(&book, &calendar, &table);
         }
     }

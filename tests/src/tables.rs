@@ -3,10 +3,9 @@
 //! stand together, also before and about a release, in and about a window, and at
 //! jobs whose cap is above P.
 
-use crate::answer::{CheckAnswer, NUMBERS};
+use crate::answer::{CheckAnswer, NUMBERS, SLOTS};
 use crate::books::{encode_table, fit_length};
 use crate::calendar::Calendar;
-use crate::limits::Limits;
 use crate::reader::{Book, Flow, Job};
 use crate::rng::Rng;
 use crate::second_check::{row_at, Row, FINISH, ROW, TABLE_HEAD};
@@ -65,14 +64,8 @@ struct Unfinished {
 }
 
 /// A valid schedule by a list scheduler that delays at random and uses open slots
-/// only; it may end far beyond twice a deadline. Nothing where it passes the caller's last
-/// slot.
-pub fn delayed_table(
-    limits: &Limits,
-    rng: &mut Rng,
-    book: &Book,
-    calendar: &Calendar,
-) -> Option<Table> {
+/// only; it may end far beyond twice a deadline. Nothing where it passes slot 8,191.
+pub fn delayed_table(rng: &mut Rng, book: &Book, calendar: &Calendar) -> Option<Table> {
     let mut jobs: Vec<Unfinished> = Vec::new();
     for (flow, record) in book.flows.iter().enumerate() {
         let of_flow = record.jobs.iter().enumerate();
@@ -93,7 +86,7 @@ pub fn delayed_table(
     let mut rows = Vec::new();
     let wait = rng.range(2, 500);
     let first = rng.pick(&[0, 0, 0, 1, wait]) as u32;
-    for slot in first..limits.slots as u32 {
+    for slot in first..SLOTS as u32 {
         if jobs.is_empty() {
             break;
         }
@@ -144,7 +137,7 @@ pub fn delayed_table(
         // The same schedule, moved so that it ends in the last slot, where that moves
         // no row into a window.
         let last = rows.iter().map(|row| row.slot).max().unwrap_or(0);
-        let later = limits.slots as u16 - 1 - last;
+        let later = SLOTS as u16 - 1 - last;
         let mut moved = rows.iter().map(|row| u32::from(row.slot + later));
         if moved.all(|slot| calendar.is_open(slot)) {
             rows.iter_mut().for_each(|row| row.slot += later);
@@ -158,16 +151,11 @@ pub fn delayed_table(
 }
 
 /// The planner's own table or another valid one, where there is.
-pub fn either_table(
-    limits: &Limits,
-    rng: &mut Rng,
-    book: &Book,
-    calendar: &Calendar,
-) -> Option<Table> {
+pub fn either_table(rng: &mut Rng, book: &Book, calendar: &Calendar) -> Option<Table> {
     if rng.chance(1, 2) {
         planned_table(book, calendar)
     } else {
-        delayed_table(limits, rng, book, calendar)
+        delayed_table(rng, book, calendar)
     }
 }
 
@@ -431,15 +419,8 @@ impl WideRows {
     }
 }
 
-/// Damages the rows or the finishes in one place, also about a caller's last slot.
-fn damage_once(
-    limits: &Limits,
-    rng: &mut Rng,
-    book: &Book,
-    calendar: &Calendar,
-    table: &mut Table,
-) {
-    let slots = limits.slots as u16;
+/// Damages the rows or the finishes in one place.
+fn damage_once(rng: &mut Rng, book: &Book, calendar: &Calendar, table: &mut Table) {
     let flows = book.flows.len() as u64;
     let rows = &mut table.rows;
     if rows.is_empty() || rng.chance(1, 16) {
@@ -447,7 +428,7 @@ fn damage_once(
             let at = rng.index(table.finishes.len());
             table.finishes[at] = match rng.below(3) {
                 0 => rng.draw() as u16,
-                1 => rng.pick(&[0, slots, slots + 1, 65_535]),
+                1 => rng.pick(&[0, 8_192, 8_193, 65_535]),
                 _ => nudge(rng, table.finishes[at]),
             };
         }
@@ -460,7 +441,7 @@ fn damage_once(
         1 => rows[at].slot = rows[other].slot,
         2 => {
             let any = rng.draw() as u16;
-            rows[at].slot = rng.pick(&[0, slots - 1, slots, 65_535, any]);
+            rows[at].slot = rng.pick(&[0, 8_191, 8_192, 65_535, any]);
         }
         3 => {
             rows[at].flow = match rng.below(4) {
@@ -576,17 +557,11 @@ fn damage_bytes(rng: &mut Rng, bytes: &mut Vec<u8>) {
 
 /// A damaged copy of a table, encoded. Often the rows are sorted again, so that
 /// a fault of order does not hide the later ones, and the finishes made to fit.
-pub fn damaged(
-    limits: &Limits,
-    rng: &mut Rng,
-    book: &Book,
-    calendar: &Calendar,
-    table: &Table,
-) -> Vec<u8> {
+pub fn damaged(rng: &mut Rng, book: &Book, calendar: &Calendar, table: &Table) -> Vec<u8> {
     let mut table = table.clone();
     if !rng.chance(1, 8) {
         for _ in 0..rng.pick(&[1, 1, 1, 1, 2, 2, 3, 5]) {
-            damage_once(limits, rng, book, calendar, &mut table);
+            damage_once(rng, book, calendar, &mut table);
         }
         if rng.chance(1, 2) {
             sort_rows(book, &mut table.rows);

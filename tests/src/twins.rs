@@ -5,7 +5,6 @@
 use crate::answer::{NUMBERS, WORK_BYTES};
 use crate::books::{self, encode_book, fit_length};
 use crate::calendars;
-use crate::limits::MILL;
 use crate::marked::{Check, Planner};
 use crate::reader::{Book, Version, BOOK_HEAD, JOB_RECORD, VERSIONS};
 use crate::rng::Rng;
@@ -120,8 +119,8 @@ pub fn hold(plan: Planner, check: Check, seed: u64, cases: usize) {
             _ => books::tiny_book(&mut rng),
         };
         let book = books::with_caps(&mut rng, book);
-        let calendar = calendars::valid(&MILL, &mut rng, &book);
-        let lent = calendars::lent(&MILL, &mut rng, &calendar);
+        let calendar = calendars::valid(&mut rng, &book);
+        let lent = calendars::lent(&mut rng, &calendar);
         let of_twins = twins(&mut rng, &book);
         let room = rng.skewed(0, 1 << 14) as usize;
         let work_length = WORK_BYTES + 3 - rng.pick(&[0, 0, 0, 4]);
@@ -134,13 +133,13 @@ pub fn hold(plan: Planner, check: Check, seed: u64, cases: usize) {
         assert!(planned[0] == planned[1], "books {of_twins:02x?}");
         by_plan[planned[0].0.number as usize] += 1;
 
-        let Some(table) = tables::either_table(&MILL, &mut rng, &book, &calendar) else {
+        let Some(table) = tables::either_table(&mut rng, &book, &calendar) else {
             continue;
         };
         let table = if rng.chance(1, 3) {
             table.encode(&book)
         } else {
-            tables::damaged(&MILL, &mut rng, &book, &calendar, &table)
+            tables::damaged(&mut rng, &book, &calendar, &table)
         };
         let checked = of_twins.each_ref().map(|book| {
             let mut work = vec![0x3c; work_length];

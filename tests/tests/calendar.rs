@@ -10,7 +10,6 @@ use flowplan_tests::calendar::{
 };
 use flowplan_tests::calendars::{self, Kinds, NONE_OPEN};
 use flowplan_tests::lent::{work_length, Junk, Lent};
-use flowplan_tests::limits::MILL;
 use flowplan_tests::marked::{
     self, checked_in, finished_in, listed_in, not_checked_in, not_finished_in, not_listed_in,
     not_planned_in, planned_in, Check, Dispatch, Finish, Planner,
@@ -91,12 +90,12 @@ fn refused_in_short_area(book: &[u8], calendar: &[u8], table: &[u8], refusal: Re
 /// book A and with a book without flows.
 #[test]
 fn every_fault_is_24() {
-    let faults = calendars::each_fault(&MILL);
+    let faults = calendars::each_fault();
     let (table_a, book_d, table_d) = (marked::table_a(), marked::book_d(3), marked::table_d(3));
     let refusal = Refusal::of_all(24);
     let mut kinds: Vec<&str> = Vec::new();
     for (number, (what, calendar)) in faults.iter().enumerate() {
-        assert_eq!(read_calendar(&MILL, calendar), Err(refusal), "{what}");
+        assert_eq!(read_calendar(calendar), Err(refusal), "{what}");
         refused_by_all(&marked::BOOK_A, calendar, &table_a, 1, refusal);
         if number % 8 == 0 {
             refused_in_short_area(&marked::BOOK_A, calendar, &table_a, refusal);
@@ -126,15 +125,15 @@ fn every_fault_is_24() {
 /// a table is looked at.
 #[test]
 fn faults_of_the_calendar_in_their_place() {
-    let faults = calendars::each_fault(&MILL);
+    let faults = calendars::each_fault();
     let mut rng = Rng::new(0x5eed_0071);
     let table = marked::table_a();
     let mut met = [0u64; NUMBERS];
     for case in 0..3_000 {
         let book = books::drawn(&mut rng, VERSIONS[case % 2], books::tiny_book);
         let mut bytes = encode_book(&book);
-        books::damage_book(&MILL, &mut rng, &mut bytes);
-        let Err(refusal) = read_book(&MILL, &bytes) else {
+        books::damage_book(&mut rng, &mut bytes);
+        let Err(refusal) = read_book(&bytes) else {
             continue;
         };
         let (_, calendar) = &faults[rng.index(faults.len())];
@@ -171,9 +170,9 @@ fn faults_of_the_calendar_in_their_place() {
 fn calendars_are_read_as_written() {
     let mut rng = Rng::new(0x5eed_0072);
     let (mut taken, mut refused) = (0, 0);
-    let mut hold = |bytes: &[u8]| match read_calendar(&MILL, bytes) {
+    let mut hold = |bytes: &[u8]| match read_calendar(bytes) {
         Ok(calendar) => {
-            let windows = windows_in(&MILL, bytes).expect("both take it");
+            let windows = windows_in(bytes).expect("both take it");
             let pair = |window: &Window| [window.shut as usize, window.again as usize];
             assert!(windows.eq(calendar.windows.iter().map(pair)));
             assert_eq!(calendar.encode(), bytes);
@@ -181,20 +180,20 @@ fn calendars_are_read_as_written() {
         }
         Err(refusal) => {
             assert_eq!(refusal, Refusal::of_all(24));
-            assert!(windows_in(&MILL, bytes).is_none());
+            assert!(windows_in(bytes).is_none());
             refused += 1;
         }
     };
-    for (_, bytes) in calendars::each_fault(&MILL) {
+    for (_, bytes) in calendars::each_fault() {
         hold(&bytes);
     }
     for _ in 0..20_000 {
         let book = books::tiny_book(&mut rng);
-        let calendar = calendars::valid(&MILL, &mut rng, &book);
+        let calendar = calendars::valid(&mut rng, &book);
         let bytes = calendar.encode();
-        assert_eq!(read_calendar(&MILL, &bytes), Ok(calendar.clone()));
+        assert_eq!(read_calendar(&bytes), Ok(calendar.clone()));
         hold(&bytes);
-        hold(&calendars::damaged(&MILL, &mut rng, &calendar));
+        hold(&calendars::damaged(&mut rng, &calendar));
         // Small numbers, so that windows stand close.
         let mut any = vec![0, 0, 0, 0, 1, rng.below(5) as u8];
         for _ in 0..any[5] {
@@ -214,9 +213,9 @@ fn limits_are_counted_in_open_slots() {
     let mut rng = Rng::new(0x5eed_0073);
     for _ in 0..1_500 {
         let book = books::usual_book(&mut rng);
-        let calendar = calendars::valid(&MILL, &mut rng, &book);
+        let calendar = calendars::valid(&mut rng, &book);
         let bytes = calendar.encode();
-        let windows = windows_in(&MILL, &bytes).expect("a valid calendar");
+        let windows = windows_in(&bytes).expect("a valid calendar");
         let near = rng.range(1, u64::from(MOST_DEADLINE)) as u32;
         for deadline in [1, 2, near, MOST_DEADLINE] {
             let twice = 2 * calendar.open_before(deadline);
@@ -368,7 +367,7 @@ fn windows_up_to_the_last_reopening() {
         comb(3, 2),
     ];
     for calendar in &calendars {
-        assert!(read_calendar(&MILL, &calendar.encode()).is_ok());
+        assert!(read_calendar(&calendar.encode()).is_ok());
         let shut = calendar.shut_slots().count() as u32;
         let most = 2 * (MOST_DEADLINE - shut);
         let ends = calendar.slot_after(most);
@@ -671,8 +670,8 @@ fn shut_slots_are_passed_over() {
             _ => books::any_book,
         };
         let without = books::drawn(&mut rng, VERSIONS[case % 2], family);
-        let calendar = calendars::valid(&MILL, &mut rng, &without);
-        let Some(book) = calendars::stretched(&MILL, &without, &calendar) else {
+        let calendar = calendars::valid(&mut rng, &without);
+        let Some(book) = calendars::stretched(&without, &calendar) else {
             continue;
         };
         let open: Vec<u32> = (0..SLOTS as u32).filter(|&t| calendar.is_open(t)).collect();
@@ -741,7 +740,7 @@ fn former_results_are_met_again() {
         let book = books::drawn(&mut rng, VERSIONS[case % 2], family);
         let mut bytes = encode_book(&book);
         if rng.chance(1, 4) {
-            books::damage_book(&MILL, &mut rng, &mut bytes);
+            books::damage_book(&mut rng, &mut bytes);
         }
         let area = work_length(&mut rng);
         let room = rng.skewed(0, 1 << 12) as usize;
@@ -762,14 +761,14 @@ fn former_results_are_met_again() {
 
         let table = match case % 2 {
             0 => tables::planned_table(&book, &none),
-            _ => tables::delayed_table(&MILL, &mut rng, &book, &none),
+            _ => tables::delayed_table(&mut rng, &book, &none),
         };
         let Some(table) = table else {
             continue;
         };
         let table = match rng.below(3) {
             0 => table.encode(&book),
-            _ => tables::damaged(&MILL, &mut rng, &book, &none, &table),
+            _ => tables::damaged(&mut rng, &book, &none, &table),
         };
         // The check by definition is for small tables.
         let small = if table.len() < 2_000 { 3 } else { 2 };
@@ -857,17 +856,17 @@ fn every_number_is_met() {
     let mut kinds = Kinds::default();
     for case in 0..25_000 {
         let book = books::drawn(&mut rng, VERSIONS[case % 2], books::tiny_book);
-        let (book, calendar) = calendars::with_calendar(&MILL, &mut rng, book);
+        let (book, calendar) = calendars::with_calendar(&mut rng, book);
         let mut bytes = encode_book(&book);
         if rng.chance(1, 8) {
-            books::damage_book(&MILL, &mut rng, &mut bytes);
+            books::damage_book(&mut rng, &mut bytes);
         }
         let faulty = rng.chance(1, 8);
         let lent = match faulty {
-            true => calendars::damaged(&MILL, &mut rng, &calendar),
+            true => calendars::damaged(&mut rng, &calendar),
             false => calendar.encode(),
         };
-        let faulty = read_calendar(&MILL, &lent).is_err();
+        let faulty = read_calendar(&lent).is_err();
         let area = work_length(&mut rng);
         let room = rng.skewed(0, 1 << 12) as usize;
         let flow = rng.pick(&[0, 0, 0, 1, 2, 64]);
@@ -885,8 +884,8 @@ fn every_number_is_met() {
         let of_book = (1..=10).contains(&planned.number) || planned.number == 22;
         beside.calendar_and_book += u64::from(faulty && of_book);
         if planned.number == 0 {
-            let calendar = read_calendar(&MILL, &lent).expect("a planned book has a calendar");
-            let book = read_book(&MILL, &bytes).expect("and a book");
+            let calendar = read_calendar(&lent).expect("a planned book has a calendar");
+            let book = read_book(&bytes).expect("and a book");
             let shut = calendar.shut_slots();
             let (used, _) = work.as_chunks::<2>();
             assert!({ shut }.all(|slot| used[slot as usize] == [0, 0]));
@@ -909,14 +908,14 @@ fn every_number_is_met() {
 
         let table = match case % 2 {
             0 => tables::planned_table(&book, &calendar),
-            _ => tables::delayed_table(&MILL, &mut rng, &book, &calendar),
+            _ => tables::delayed_table(&mut rng, &book, &calendar),
         };
         let Some(table) = table else {
             continue;
         };
         let table = match rng.below(4) {
             0 => table.encode(&book),
-            _ => tables::damaged(&MILL, &mut rng, &book, &calendar, &table),
+            _ => tables::damaged(&mut rng, &book, &calendar, &table),
         };
         let owed = end(0, area, |_, work| {
             second_check::check(&bytes, &lent, &table, work)
@@ -984,7 +983,7 @@ fn a_cut_book_keeps_its_calendar() {
     let (mut planned, mut refused) = (0, 0);
     for case in 0..2_500 {
         let book = books::drawn(&mut rng, VERSIONS[case % 2], books::any_book);
-        let (book, calendar) = calendars::with_calendar(&MILL, &mut rng, book);
+        let (book, calendar) = calendars::with_calendar(&mut rng, book);
         let lent = calendar.encode();
         let (whole, output, _) = end(1 << 18, WORK_BYTES, |to, work| {
             linked_plan::plan(&encode_book(&book), &lent, to, work)

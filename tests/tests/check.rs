@@ -9,7 +9,6 @@ use flowplan_tests::calendar::{read_calendar, NO_WINDOWS};
 use flowplan_tests::calendars::{self, Kinds};
 use flowplan_tests::edges::Edges;
 use flowplan_tests::lent::{work_length, Junk, Lent};
-use flowplan_tests::limits::{Caller, MILL};
 use flowplan_tests::longest::Lengths;
 use flowplan_tests::reader::{read_book, Version};
 use flowplan_tests::rng::Rng;
@@ -24,7 +23,7 @@ fn marked_plans() {
 
 #[test]
 fn flow_heads() {
-    heads::hold_check(&MILL, linked::check);
+    heads::hold_check(linked::check);
 }
 
 #[test]
@@ -84,13 +83,7 @@ impl Trial {
             table.slice(),
             expected_work.slice(),
         );
-        let answer = linked::check_lent(
-            Caller::Mill,
-            &mut book,
-            &mut calendar,
-            &mut table,
-            &mut work,
-        );
+        let answer = linked::check_lent(&mut book, &mut calendar, &mut table, &mut work);
 
         if answer != expected || work != expected_work {
             let differs = work.differs_at(&mut expected_work);
@@ -110,8 +103,8 @@ impl Trial {
         if expected.number == 0 {
             self.edges.count(book.slice(), table.slice());
             self.lengths.count(book.slice(), table.slice());
-            let book = read_book(&MILL, book.slice()).expect("an accepted book");
-            let calendar = read_calendar(&MILL, calendar.slice()).expect("an accepted calendar");
+            let book = read_book(book.slice()).expect("an accepted book");
+            let calendar = read_calendar(calendar.slice()).expect("an accepted calendar");
             self.calendars.count(&book, &calendar);
         }
         expected
@@ -125,7 +118,7 @@ impl TableTrial for Trial {
 
     fn draw(&mut self, family: Family) -> Of {
         let book = books::drawn(&mut self.rng, self.version, family);
-        Of::new(calendars::with_calendar(&MILL, &mut self.rng, book))
+        Of::new(calendars::with_calendar(&mut self.rng, book))
     }
 
     fn compare_valid(&mut self, of: &Of, table: &Table) {

@@ -8,7 +8,6 @@ use flowplan_tests::books::{self, encode_book, Family};
 use flowplan_tests::calendar::{read_calendar, NO_WINDOWS};
 use flowplan_tests::calendars::{self, Kinds};
 use flowplan_tests::lent::{work_length, Junk, Lent};
-use flowplan_tests::limits::{Caller, MILL};
 use flowplan_tests::reader::{read_book, Book, Flow, Version, VERSIONS};
 use flowplan_tests::rng::Rng;
 use flowplan_tests::second_check::Row;
@@ -45,7 +44,7 @@ fn as_check(book: &[u8], calendar: &[u8], table: &[u8], work: &mut [u8]) -> Chec
 #[test]
 fn refusals_are_those_of_the_check() {
     marked::hold_check(as_check);
-    heads::hold_check(&MILL, as_check);
+    heads::hold_check(as_check);
     caps::hold_check(as_check);
 }
 
@@ -165,7 +164,6 @@ impl Trial {
             expected_work.slice(),
         );
         let answer = linked_dispatch::dispatch_lent(
-            Caller::Mill,
             &mut book,
             &mut calendar,
             &mut table,
@@ -194,11 +192,11 @@ impl Trial {
         self.short[number] += u64::from(room < lists::length_for(table.slice()));
         self.no_room[number] += u64::from(room == 0);
         if answer.number == 0 {
-            let values = read_book(&MILL, book.slice()).expect("a list has a book");
+            let values = read_book(book.slice()).expect("a list has a book");
             let list = &output.slice()[..answer.length as usize];
             lists::hold(&values, table.slice(), list, work.slice());
             self.lists.count(&values, list, room);
-            let calendar = read_calendar(&MILL, calendar.slice()).expect("a list has a calendar");
+            let calendar = read_calendar(calendar.slice()).expect("a list has a calendar");
             self.calendars.count(&values, &calendar);
         }
         expected
@@ -222,7 +220,7 @@ impl TableTrial for Trial {
         loop {
             let book = books::drawn(&mut self.rng, self.version, family);
             if !book.service_order().is_sorted() || self.rng.chance(1, 4) {
-                return Of::new(calendars::with_calendar(&MILL, &mut self.rng, book));
+                return Of::new(calendars::with_calendar(&mut self.rng, book));
             }
         }
     }
@@ -336,7 +334,7 @@ fn lists_of_plans() {
     let mut listed = 0;
     for case in 0..6_000 {
         let book = books::drawn(&mut rng, VERSIONS[case % 2], books::any_book);
-        let (book, calendar) = calendars::with_calendar(&MILL, &mut rng, book);
+        let (book, calendar) = calendars::with_calendar(&mut rng, book);
         let (bytes, lent) = (encode_book(&book), calendar.encode());
         let mut table = vec![0; 1 << 16];
         let mut planned = vec![0x3c; WORK_BYTES];
@@ -428,13 +426,11 @@ fn hold_nothing_lost(version: Version, seed: u64) {
     let (mut pairs, mut apart) = (0, Apart::default());
     for _ in 0..4_000 {
         let book = book_with_alike(&mut rng, version);
-        let (book, calendar) = calendars::with_calendar(&MILL, &mut rng, book);
+        let (book, calendar) = calendars::with_calendar(&mut rng, book);
         let (bytes, lent) = (encode_book(&book), calendar.encode());
         let mut valid = Vec::new();
         valid.extend(tables::planned_table(&book, &calendar));
-        valid.extend(
-            (0..2).filter_map(|_| tables::delayed_table(&MILL, &mut rng, &book, &calendar)),
-        );
+        valid.extend((0..2).filter_map(|_| tables::delayed_table(&mut rng, &book, &calendar)));
         // The table of each list.
         let mut known: HashMap<Vec<u8>, Vec<u8>> = HashMap::new();
         for table in &valid {

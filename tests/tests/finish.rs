@@ -9,7 +9,6 @@ use flowplan_tests::books::{self, encode_book, Family};
 use flowplan_tests::calendar::{read_calendar, Calendar, NO_WINDOWS};
 use flowplan_tests::calendars;
 use flowplan_tests::lent::{work_length, Junk, Lent};
-use flowplan_tests::limits::{Caller, MILL};
 use flowplan_tests::reader::{be16, read_book, Book, Flow, Job, Version, VERSIONS};
 use flowplan_tests::rng::Rng;
 use flowplan_tests::second_check::{FINISH, TABLE_HEAD};
@@ -27,7 +26,7 @@ fn marked_finishes() {
 /// that every flow is placed. It makes no table; that, the late flows and 13 are the
 /// second planner's, whose finish and work area must be the same.
 fn as_planner(book: &[u8], calendar: &[u8], output: &mut [u8], work: &mut [u8]) -> PlanAnswer {
-    let order = read_book(&MILL, book).map_or(Vec::new(), |book| book.service_order());
+    let order = read_book(book).map_or(Vec::new(), |book| book.service_order());
     let last = order.last().copied().unwrap_or(0);
     let mut planned = work.to_vec();
     let answer = linked_finish::finish(book, calendar, last as u32, work);
@@ -62,7 +61,7 @@ fn stated(table: &[u8], flow: usize) -> u16 {
 #[test]
 fn the_last_flow_is_served_as_by_the_planner() {
     marked::hold_planner(as_planner);
-    heads::hold_planner(&MILL, as_planner);
+    heads::hold_planner(as_planner);
     caps::hold_planner(as_planner);
 }
 
@@ -210,9 +209,8 @@ impl Trial {
         let (book_before, calendar_before) = (book.clone(), calendar.clone());
 
         let mut expected_work = work.clone();
-        let expected = second_finish::deliver(&MILL, outcome, expected_work.slice());
-        let answer =
-            linked_finish::finish_lent(Caller::Mill, &mut book, &mut calendar, flow, &mut work);
+        let expected = second_finish::deliver(outcome, expected_work.slice());
+        let answer = linked_finish::finish_lent(&mut book, &mut calendar, flow, &mut work);
 
         if answer != expected || work != expected_work {
             let differs = work.differs_at(&mut expected_work);
@@ -264,13 +262,10 @@ impl Trial {
     /// 23 for a number that is no flow's, also where the calendar is faulty.
     fn compare_no_flow(&mut self, of: Of, count: usize, flow: u32) {
         let outcome = Outcome::Faulty(Refusal::of_all(23));
-        assert_eq!(
-            second_finish::outcome(&MILL, of.book, of.calendar, flow),
-            outcome
-        );
+        assert_eq!(second_finish::outcome(of.book, of.calendar, flow), outcome);
         let length = self.compare_in_one(of, flow, &outcome);
         let kinds = &mut self.kinds;
-        kinds.no_flow_and_calendar += u64::from(read_calendar(&MILL, of.calendar).is_err());
+        kinds.no_flow_and_calendar += u64::from(read_calendar(of.calendar).is_err());
         kinds.no_flow_short += u64::from(length < WORK_BYTES);
         kinds.no_flow_by_byte += u64::from(((flow & 0xff) as usize) < count);
         kinds.no_flow_by_two += u64::from(((flow & 0xffff) as usize) < count);
@@ -280,12 +275,12 @@ impl Trial {
     /// calendar is faulty.
     fn compare_faulty_calendar(&mut self, book: &Book, calendar: &Calendar) {
         let bytes = encode_book(book);
-        let lent = calendars::damaged(&MILL, &mut self.rng, calendar);
+        let lent = calendars::damaged(&mut self.rng, calendar);
         let of = Of {
             book: &bytes,
             calendar: &lent,
         };
-        if read_calendar(&MILL, &lent).is_ok() {
+        if read_calendar(&lent).is_ok() {
             return;
         }
         let flow = self.no_flow(book.flows.len());
@@ -293,10 +288,7 @@ impl Trial {
         if !book.flows.is_empty() {
             let flow = self.rng.index(book.flows.len()) as u32;
             let outcome = Outcome::Faulty(Refusal::of_all(24));
-            assert_eq!(
-                second_finish::outcome(&MILL, of.book, of.calendar, flow),
-                outcome
-            );
+            assert_eq!(second_finish::outcome(of.book, of.calendar, flow), outcome);
             let length = self.compare_in_one(of, flow, &outcome);
             self.kinds.calendar += 1;
             self.kinds.calendar_short += u64::from(length < WORK_BYTES);
@@ -467,9 +459,9 @@ impl Trial {
     fn compare_bytes(&mut self, of: Of, count: usize) {
         let any = self.rng.index(count + 1) as u32;
         for flow in [any, self.no_flow(count)] {
-            let outcome = second_finish::outcome(&MILL, of.book, of.calendar, flow);
+            let outcome = second_finish::outcome(of.book, of.calendar, flow);
             let length = self.compare_in_one(of, flow, &outcome);
-            if let Err(refusal) = read_book(&MILL, of.book) {
+            if let Err(refusal) = read_book(of.book) {
                 let plan = linked_plan::plan(of.book, of.calendar, &mut [], &mut []);
                 assert_eq!(plan, PlanAnswer::refused(refusal));
                 assert_eq!(outcome, Outcome::Faulty(refusal));
@@ -479,14 +471,14 @@ impl Trial {
                 kinds.fault_and_short += u64::from(length < WORK_BYTES);
                 let behind = named != NONE && u32::from(named) > flow;
                 kinds.fault_behind += u64::from(behind);
-                kinds.fault_and_calendar += u64::from(read_calendar(&MILL, of.calendar).is_err());
+                kinds.fault_and_calendar += u64::from(read_calendar(of.calendar).is_err());
             }
         }
     }
 
     fn compare_drawn(&mut self, version: Version, family: Family) {
         let book = books::drawn(&mut self.rng, version, family);
-        let (book, calendar) = calendars::with_calendar(&MILL, &mut self.rng, book);
+        let (book, calendar) = calendars::with_calendar(&mut self.rng, book);
         self.compare_book(&book, &calendar);
     }
 
@@ -550,12 +542,12 @@ fn hold_trial(version: Version, seed: u64) {
     // Damaged books of every family, and bytes that are hardly a book.
     for _ in 0..20_000 {
         let book = books::drawn(&mut trial.rng, version, books::any_book);
-        let (book, calendar) = calendars::with_calendar(&MILL, &mut trial.rng, book);
+        let (book, calendar) = calendars::with_calendar(&mut trial.rng, book);
         let mut bytes = encode_book(&book);
-        books::damage_book(&MILL, &mut trial.rng, &mut bytes);
+        books::damage_book(&mut trial.rng, &mut bytes);
         let of = Of {
             book: &bytes,
-            calendar: &calendars::lent(&MILL, &mut trial.rng, &calendar),
+            calendar: &calendars::lent(&mut trial.rng, &calendar),
         };
         trial.compare_bytes(of, book.flows.len());
     }
@@ -563,7 +555,7 @@ fn hold_trial(version: Version, seed: u64) {
         let bytes = books::random_bytes(&mut trial.rng, 80);
         let of = Of {
             book: &bytes,
-            calendar: &calendars::lent(&MILL, &mut trial.rng, &Calendar::default()),
+            calendar: &calendars::lent(&mut trial.rng, &Calendar::default()),
         };
         trial.compare_bytes(of, 2);
     }

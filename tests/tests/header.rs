@@ -1,17 +1,16 @@
 //! The C header's text against the second implementation and the linked library: its
-//! version, its limits and lengths, its list of numbers, the calls of both callers; and what
-//! it says of buffers that coincide and of threads.
+//! version, its limits and lengths, its list of numbers; and what it says of buffers that
+//! coincide and of threads.
 
 use std::thread;
 
-use flowplan_tests::answer::{CheckAnswer, PlanAnswer, NONE, NUMBERS, WORK_BYTES};
+use flowplan_tests::answer::{CheckAnswer, PlanAnswer, NONE, NUMBERS, SLOTS, WORK_BYTES};
 use flowplan_tests::books::{self, encode_book};
-use flowplan_tests::calendar::{CALENDAR_HEAD, MOST_WINDOWS, NO_WINDOWS, WINDOW};
-use flowplan_tests::header::{number_of, text_of, HEADER};
-use flowplan_tests::limits::{CALLERS, LINE, MILL};
+use flowplan_tests::calendar::{CALENDAR_HEAD, LAST_REOPENING, MOST_WINDOWS, NO_WINDOWS, WINDOW};
 use flowplan_tests::longest::most_bytes;
 use flowplan_tests::reader::{
-    Version, BOOK_HEAD, JOB_RECORD, MOST_CAP, MOST_JOBS, MOST_PROCESSORS, MOST_SIZE,
+    Version, BOOK_HEAD, JOB_RECORD, MOST_CAP, MOST_DEADLINE, MOST_FLOWS, MOST_JOBS,
+    MOST_PROCESSORS, MOST_SIZE,
 };
 use flowplan_tests::rng::Rng;
 use flowplan_tests::second_check::{self, FINISH, ROW, TABLE_HEAD};
@@ -19,6 +18,27 @@ use flowplan_tests::second_dispatch::{self, LIST_HEAD};
 use flowplan_tests::{
     linked, linked_dispatch, linked_plan, linked_version, marked, second_planner,
 };
+
+const HEADER: &str = include_str!("../../include/flowplan.h");
+
+/// What stands behind the name of a macro, up to a comment.
+fn text_of(name: &str) -> &'static str {
+    let behind = |line: &'static str| line.strip_prefix("#define ")?.strip_prefix(name);
+    let mut found = HEADER
+        .lines()
+        .filter_map(behind)
+        .filter(|text| text.starts_with(' '));
+    let text = found.next().unwrap_or_else(|| panic!("{name} is missing"));
+    assert_eq!(found.next(), None, "{name} stands twice");
+    text.split("/*").next().expect("a part").trim()
+}
+
+/// The number that a macro stands for.
+fn number_of(name: &str) -> usize {
+    let text = text_of(name);
+    text.parse()
+        .unwrap_or_else(|error| panic!("{name} {text}: {error}"))
+}
 
 #[test]
 fn library_has_the_version_of_the_header() {
@@ -36,17 +56,32 @@ fn library_has_the_version_of_the_header() {
 
 #[test]
 fn limits_of_the_second_implementation() {
+    let rows = ROW * SLOTS * MOST_FLOWS * MOST_JOBS;
     for (name, number) in [
         ("FLOWPLAN_MOST_PROCESSORS", MOST_PROCESSORS as usize),
+        ("FLOWPLAN_MOST_FLOWS", MOST_FLOWS),
+        ("FLOWPLAN_MOST_DEADLINE", MOST_DEADLINE as usize),
         ("FLOWPLAN_MOST_JOBS", MOST_JOBS),
         ("FLOWPLAN_MOST_SIZE", MOST_SIZE as usize),
         ("FLOWPLAN_MOST_CAP", MOST_CAP as usize),
         ("FLOWPLAN_MOST_WINDOWS", MOST_WINDOWS),
+        ("FLOWPLAN_MOST_REOPENING", LAST_REOPENING as usize),
+        ("FLOWPLAN_SLOTS", SLOTS),
+        ("FLOWPLAN_WORK_BYTES", WORK_BYTES),
         ("FLOWPLAN_NONE", usize::from(NONE)),
+        (
+            "FLOWPLAN_LONGEST_BOOK",
+            BOOK_HEAD + MOST_FLOWS * (Version::Two.flow_head() + MOST_JOBS * JOB_RECORD),
+        ),
         (
             "FLOWPLAN_LONGEST_CALENDAR",
             CALENDAR_HEAD + MOST_WINDOWS * WINDOW,
         ),
+        (
+            "FLOWPLAN_LONGEST_TABLE",
+            TABLE_HEAD + FINISH * MOST_FLOWS + rows,
+        ),
+        ("FLOWPLAN_LONGEST_LIST", LIST_HEAD + rows),
     ] {
         assert_eq!(number_of(name), number, "{name}");
     }
@@ -54,61 +89,6 @@ fn limits_of_the_second_implementation() {
     assert_eq!(text_of("FLOWPLAN_NO_WINDOWS"), format!("{{ {bytes} }}"));
     let largest = most_bytes(&books::largest_book());
     assert_eq!(number_of("FLOWPLAN_LONGEST_TABLE") as u64, largest);
-}
-
-/// The figures that each caller has of its own.
-#[test]
-fn limits_of_both_callers() {
-    for (limits, most, own) in [
-        (MILL, "FLOWPLAN_MOST", "FLOWPLAN"),
-        (LINE, "FLOWPLAN_LINE", "FLOWPLAN_LINE"),
-    ] {
-        let flow = Version::Two.flow_head() + MOST_JOBS * JOB_RECORD;
-        let rows = ROW * limits.slots * limits.flows * MOST_JOBS;
-        let table = TABLE_HEAD + FINISH * limits.flows + rows;
-        for (of, name, number) in [
-            (most, "FLOWS", limits.flows),
-            (most, "DEADLINE", limits.deadline as usize),
-            (most, "REOPENING", limits.reopening as usize),
-            (own, "SLOTS", limits.slots),
-            (own, "WORK_BYTES", limits.work_bytes),
-            (own, "LONGEST_BOOK", BOOK_HEAD + limits.flows * flow),
-            (own, "LONGEST_TABLE", table),
-            (own, "LONGEST_LIST", LIST_HEAD + rows),
-        ] {
-            let name = format!("{of}_{name}");
-            assert_eq!(number_of(&name), number, "{name}");
-        }
-    }
-}
-
-/// What stands in the header between the name of a call and the end of its prototype, and
-/// before it on the line.
-fn prototype_of(call: &str) -> (&'static str, &'static str) {
-    let mut found = HEADER.match_indices(call);
-    let (at, _) = found.next().unwrap_or_else(|| panic!("{call} is missing"));
-    assert_eq!(found.next(), None, "{call} stands twice");
-    let before = HEADER[..at].lines().last().expect("a line");
-    let (parameters, _) = HEADER[at + call.len()..].split_once(';').expect("its end");
-    (before, parameters)
-}
-
-/// The line's calls have the parameters and answers of the mill's.
-#[test]
-fn calls_of_both_callers_are_alike() {
-    for call in ["plan", "check", "dispatch", "finish"] {
-        let mill = prototype_of(&format!("flowplan_{call}("));
-        let line = prototype_of(&format!("flowplan_line_{call}("));
-        assert!(mill.0.starts_with("struct flowplan_") && mill.1.contains("uint8_t *work"));
-        assert_eq!(mill, line, "{call}");
-    }
-}
-
-/// No line of the header is longer than 84 columns.
-#[test]
-fn lines_are_short() {
-    let long = |line: &&str| line.chars().count() > 84;
-    assert_eq!(HEADER.lines().find(long), None);
 }
 
 /// Each number once, in order, with a name and a sentence of its own; what turns
@@ -130,10 +110,6 @@ fn numbers_are_listed() {
         assert!(name.starts_with(named), "{name} is number {number}");
         let sentence: String = line.split('"').skip(1).step_by(2).collect();
         assert!(!sentence.is_empty(), "{name} has no sentence");
-        // It goes for both callers, so it names no limit.
-        let numbers = sentence.split(|c: char| !c.is_ascii_digit());
-        let numbers = numbers.filter_map(|text| text.parse::<u32>().ok());
-        assert!(numbers.max() <= Some(8), "{name} names a limit");
         names.push(name);
         sentences.push(sentence);
     }
@@ -169,30 +145,24 @@ fn buffers_that_are_read_may_coincide() {
             }
         };
         let (book, calendar, table) = (&bytes[part()], &bytes[part()], &bytes[part()]);
-        for caller in CALLERS {
-            let limits = caller.limits();
-            let (mut work, mut expected_work) = (vec![0x3c; WORK_BYTES], vec![0x3c; WORK_BYTES]);
-            let expected =
-                second_check::check_within(limits, book, calendar, table, &mut expected_work);
-            let answer = linked::check_by(caller, book, calendar, table, &mut work);
-            assert_eq!(answer, expected);
-            assert!(work == expected_work);
-            met[usize::from(expected.number)] += 1;
+        let (mut work, mut expected_work) = (vec![0x3c; WORK_BYTES], vec![0x3c; WORK_BYTES]);
 
-            let (mut list, mut expected_list) = (vec![0x3c; 100], vec![0x3c; 100]);
-            let expected = second_dispatch::dispatch_within(
-                limits,
-                book,
-                calendar,
-                table,
-                &mut expected_list,
-                &mut expected_work,
-            );
-            let (output, area) = (&mut list, &mut work);
-            let answer = linked_dispatch::dispatch_by(caller, book, calendar, table, output, area);
-            assert_eq!(answer, expected);
-            assert!(list == expected_list && work == expected_work);
-        }
+        let expected = second_check::check(book, calendar, table, &mut expected_work);
+        assert_eq!(linked::check(book, calendar, table, &mut work), expected);
+        assert!(work == expected_work);
+        met[usize::from(expected.number)] += 1;
+
+        let (mut list, mut expected_list) = (vec![0x3c; 100], vec![0x3c; 100]);
+        let expected = second_dispatch::dispatch(
+            book,
+            calendar,
+            table,
+            &mut expected_list,
+            &mut expected_work,
+        );
+        let answer = linked_dispatch::dispatch(book, calendar, table, &mut list, &mut work);
+        assert_eq!(answer, expected);
+        assert!(list == expected_list && work == expected_work);
     }
     println!("numbers met: {met:?}");
     for number in [0, 1, 14, 24] {

@@ -8,7 +8,6 @@ use flowplan_tests::books::{self, encode_book};
 use flowplan_tests::calendars;
 use flowplan_tests::edges::Edges;
 use flowplan_tests::lent::{Junk, Lent};
-use flowplan_tests::limits::MILL;
 use flowplan_tests::marked::{checked, not_planned, planned, Check, Planner};
 use flowplan_tests::reader::{be16, Book, Flow, Job, Version, MOST_DEADLINE, VERSIONS};
 use flowplan_tests::rng::Rng;
@@ -293,7 +292,7 @@ fn late_is_beyond_the_deadline_or_at_it() {
         for case in 0..6_000 {
             let family = [books::tiny_book, books::usual_book][case % 2];
             let book = books::drawn(&mut rng, version, family);
-            let (book, calendar) = calendars::with_calendar(&MILL, &mut rng, book);
+            let (book, calendar) = calendars::with_calendar(&mut rng, book);
             let (bytes, lent) = (encode_book(&book), calendar.encode());
             let mut output = Lent::junk(&mut rng, &junk, 1 << 15);
             let mut work = Lent::junk(&mut rng, &junk, WORK_BYTES);
@@ -302,7 +301,7 @@ fn late_is_beyond_the_deadline_or_at_it() {
                 let table = &output.slice()[..answer.length as usize];
                 hold(&book, table, answer.late);
             }
-            let Some(table) = tables::delayed_table(&MILL, &mut rng, &book, &calendar) else {
+            let Some(table) = tables::delayed_table(&mut rng, &book, &calendar) else {
                 continue;
             };
             let table = table.encode(&book);

@@ -10,7 +10,6 @@ use flowplan_tests::calendar::{read_calendar, Calendar, NO_WINDOWS};
 use flowplan_tests::calendars::{self, Kinds, NONE_OPEN};
 use flowplan_tests::edges::Edges;
 use flowplan_tests::lent::{work_length, Junk, Lent};
-use flowplan_tests::limits::{Caller, MILL};
 use flowplan_tests::longest::Lengths;
 use flowplan_tests::reader::{read_book, Book, Flow, Job, Version, VERSIONS};
 use flowplan_tests::rng::Rng;
@@ -25,7 +24,7 @@ fn marked_plans() {
 
 #[test]
 fn flow_heads() {
-    heads::hold_planner(&MILL, linked_plan::plan);
+    heads::hold_planner(linked_plan::plan);
 }
 
 #[test]
@@ -90,7 +89,7 @@ impl Trial {
         room: usize,
         work_length: usize,
     ) {
-        let above = read_book(&MILL, book).is_ok_and(|book| books::has_cap_above(&book));
+        let above = read_book(book).is_ok_and(|book| books::has_cap_above(&book));
         let rng = &mut self.rng;
         let mut book = Lent::holding(rng, &self.junk, book);
         let mut calendar = Lent::holding(rng, &self.junk, calendar);
@@ -99,19 +98,9 @@ impl Trial {
         let (book_before, calendar_before) = (book.clone(), calendar.clone());
 
         let (mut expected_output, mut expected_work) = (output.clone(), work.clone());
-        let expected = second_planner::deliver(
-            &MILL,
-            outcome,
-            expected_output.slice(),
-            expected_work.slice(),
-        );
-        let answer = linked_plan::plan_lent(
-            Caller::Mill,
-            &mut book,
-            &mut calendar,
-            &mut output,
-            &mut work,
-        );
+        let expected =
+            second_planner::deliver(outcome, expected_output.slice(), expected_work.slice());
+        let answer = linked_plan::plan_lent(&mut book, &mut calendar, &mut output, &mut work);
 
         if answer != expected || output != expected_output || work != expected_work {
             let out_at = output.differs_at(&mut expected_output);
@@ -130,8 +119,8 @@ impl Trial {
         self.above[expected.number as usize] += u64::from(above);
 
         if [0, 12].contains(&answer.number) {
-            let book = read_book(&MILL, book.slice()).expect("a book that passes its checks");
-            let calendar = read_calendar(&MILL, calendar.slice()).expect("and its calendar");
+            let book = read_book(book.slice()).expect("a book that passes its checks");
+            let calendar = read_calendar(calendar.slice()).expect("and its calendar");
             match answer.number {
                 0 => self.calendars.count(&book, &calendar),
                 _ => self.infeasible.count(&book, &calendar),
@@ -152,7 +141,7 @@ impl Trial {
 
     /// A book with outputs of every length class.
     fn compare_bytes(&mut self, book: &[u8], calendar: &[u8]) {
-        let outcome = second_planner::outcome(&MILL, book, calendar);
+        let outcome = second_planner::outcome(book, calendar);
         self.books += 1;
         let rooms = match &outcome {
             Outcome::Planned(plan) => {
@@ -177,12 +166,12 @@ impl Trial {
     /// A book of a family and a calendar.
     fn draw(&mut self, version: Version, family: Family) -> (Book, Calendar) {
         let book = books::drawn(&mut self.rng, version, family);
-        calendars::with_calendar(&MILL, &mut self.rng, book)
+        calendars::with_calendar(&mut self.rng, book)
     }
 
     fn compare_drawn(&mut self, version: Version, family: Family) {
         let (book, calendar) = self.draw(version, family);
-        let lent = calendars::lent(&MILL, &mut self.rng, &calendar);
+        let lent = calendars::lent(&mut self.rng, &calendar);
         self.compare_bytes(&encode_book(&book), &lent);
     }
 
@@ -247,8 +236,8 @@ fn hold_trial(version: Version, seed: u64) {
     for _ in 0..20_000 {
         let (book, calendar) = trial.draw(version, books::any_book);
         let mut bytes = encode_book(&book);
-        books::damage_book(&MILL, &mut trial.rng, &mut bytes);
-        let lent = calendars::lent(&MILL, &mut trial.rng, &calendar);
+        books::damage_book(&mut trial.rng, &mut bytes);
+        let lent = calendars::lent(&mut trial.rng, &calendar);
         trial.compare_bytes(&bytes, &lent);
     }
 
@@ -307,7 +296,7 @@ fn marked_chains() {
         let book = Book::new(4, vec![Flow::new(4_096, jobs)]);
         assert_eq!(second_planner::chain(&book.flows[0], 4), chain);
         let bytes = encode_book(&book);
-        let outcome = second_planner::outcome(&MILL, &bytes, &NO_WINDOWS);
+        let outcome = second_planner::outcome(&bytes, &NO_WINDOWS);
         let before = trial.met[number];
         trial.compare(&bytes, &NO_WINDOWS, &outcome, 1_000, WORK_BYTES);
         assert_eq!(trial.met[number], before + 1);
@@ -343,7 +332,7 @@ fn longest_books() {
         for _ in 0..10 {
             let book = encode_book(&family(&mut trial.rng));
             assert_eq!(book.len(), length);
-            let outcome = second_planner::outcome(&MILL, &book, &NO_WINDOWS);
+            let outcome = second_planner::outcome(&book, &NO_WINDOWS);
             if let Outcome::Planned(plan) = &outcome {
                 let room = plan.table.len();
                 trial.compare(&book, &NO_WINDOWS, &outcome, room, WORK_BYTES);
@@ -358,7 +347,7 @@ fn longest_books() {
 #[test]
 fn largest_table() {
     let book = encode_book(&books::largest_book());
-    let Outcome::Planned(plan) = second_planner::outcome(&MILL, &book, &NO_WINDOWS) else {
+    let Outcome::Planned(plan) = second_planner::outcome(&book, &NO_WINDOWS) else {
         panic!("the book is feasible");
     };
     let length = plan.table.len();
@@ -408,11 +397,11 @@ fn short_and_damaged_inputs() {
         } else {
             let from = trial.rng.index(pool.len());
             let mut bytes = pool[from].clone();
-            books::damage_book(&MILL, &mut trial.rng, &mut bytes);
+            books::damage_book(&mut trial.rng, &mut bytes);
             bytes
         };
-        let calendar = calendars::lent(&MILL, &mut trial.rng, &calendar);
-        let outcome = second_planner::outcome(&MILL, &bytes, &calendar);
+        let calendar = calendars::lent(&mut trial.rng, &calendar);
+        let outcome = second_planner::outcome(&bytes, &calendar);
         trial.books += 1;
         let room = match &outcome {
             Outcome::Planned(plan) => plan.table.len() + trial.rng.index(3) - 1,

@@ -9,7 +9,6 @@ use flowplan_tests::books::{self, encode_book, Family};
 use flowplan_tests::calendar::{read_calendar, Calendar, NO_WINDOWS};
 use flowplan_tests::calendars::{self, Kinds, NONE_OPEN};
 use flowplan_tests::lent::{Junk, Lent};
-use flowplan_tests::limits::MILL;
 use flowplan_tests::quote::{self, Quote};
 use flowplan_tests::reader::{
     be16, read_book, Book, Version, MOST_CAP, MOST_DEADLINE, MOST_FLOWS, VERSIONS,
@@ -152,8 +151,8 @@ fn marked_quotes() {
     // Of each flow: the open slots before its release, its path, the work up to it, the
     // quote, and the open slots before its finish.
     let hold = |bytes: &[u8], lent: &[u8], flows: &[[u64; 5]]| {
-        let book = read_book(&MILL, bytes).expect("a marked book");
-        let case = Case::new(book, read_calendar(&MILL, lent).expect("and its calendar"));
+        let book = read_book(bytes).expect("a marked book");
+        let case = Case::new(book, read_calendar(lent).expect("and its calendar"));
         assert_eq!(case.quotes.len(), flows.len());
         for (flow, &[release, path, work, quote, open]) in flows.iter().enumerate() {
             let quoted = case.quotes[flow];
@@ -381,7 +380,7 @@ impl Trial {
 
     /// The rows that are not written because the output is too short.
     fn hold_rows(&mut self, case: &Case) {
-        let Outcome::Planned(plan) = second_planner::outcome(&MILL, &case.bytes, &case.lent) else {
+        let Outcome::Planned(plan) = second_planner::outcome(&case.bytes, &case.lent) else {
             panic!("a plan that is too long is a plan");
         };
         let finishes = finishes_of(&case.book, &plan.schedule.rows);
@@ -455,7 +454,7 @@ fn hold_families(version: Version) -> Vec<(&'static str, Tally)> {
         for _ in 0..count {
             let rng = &mut trial.calls.rng;
             let book = books::drawn(rng, version, family);
-            let (book, calendar) = calendars::with_calendar(&MILL, rng, book);
+            let (book, calendar) = calendars::with_calendar(rng, book);
             trial.hold(&mut tally, &Case::new(book, calendar), room);
         }
         tallies.push((name, tally));
@@ -591,7 +590,7 @@ impl Pair {
         let count = rng.range(1, 5) as usize;
         let mut shorter = books::drawn(rng, versions[0], family);
         shorter.flows.truncate(MOST_FLOWS - count);
-        let (shorter, calendar) = calendars::with_calendar(&MILL, rng, shorter);
+        let (shorter, calendar) = calendars::with_calendar(rng, shorter);
         let largest = largest_deadline(&shorter).unwrap_or(1);
         let mut more = Vec::new();
         while more.len() < count {

@@ -8,7 +8,6 @@ use flowplan_tests::books::{self, encode_book};
 use flowplan_tests::calendar::{read_calendar, Calendar};
 use flowplan_tests::calendars::{self, Kinds, NONE_OPEN};
 use flowplan_tests::edges::Edges;
-use flowplan_tests::limits::MILL;
 use flowplan_tests::reader::{read_book, Version, MOST_CAP, MOST_DEADLINE, VERSIONS};
 use flowplan_tests::rng::Rng;
 use flowplan_tests::search::{in_time, small_case};
@@ -37,10 +36,10 @@ fn marked_plans() {
 
 #[test]
 fn flow_heads() {
-    heads::hold_planner(&MILL, second_planner::plan);
-    heads::hold_planner(&MILL, fast_planner::plan);
-    heads::hold_check(&MILL, second_check::check);
-    heads::hold_check(&MILL, second_check::check_by_definition);
+    heads::hold_planner(second_planner::plan);
+    heads::hold_planner(fast_planner::plan);
+    heads::hold_check(second_check::check);
+    heads::hold_check(second_check::check_by_definition);
 }
 
 #[test]
@@ -74,11 +73,11 @@ fn books_are_read_as_written() {
             let book = books::drawn(&mut rng, version, books::any_book);
             let bytes = encode_book(&book);
             assert_eq!(bytes[4], version.byte());
-            assert_eq!(read_book(&MILL, &bytes), Ok(book));
+            assert_eq!(read_book(&bytes), Ok(book));
         }
     }
     for book in [&marked::BOOK_A[..], &marked::BOOK_G] {
-        assert_eq!(encode_book(&read_book(&MILL, book).unwrap()), book);
+        assert_eq!(encode_book(&read_book(book).unwrap()), book);
     }
     let largest = encode_book(&books::full_book(&mut rng));
     assert_eq!(largest.len(), 57_544);
@@ -117,8 +116,8 @@ fn caps_of_every_kind_are_drawn() {
                 without += 1;
             }
             let mut bytes = encode_book(&book);
-            books::damage_book(&MILL, &mut rng, &mut bytes);
-            if let Err(refusal) = read_book(&MILL, &bytes) {
+            books::damage_book(&mut rng, &mut bytes);
+            if let Err(refusal) = read_book(&bytes) {
                 zero += usize::from(refusal.number == 9);
             }
         }
@@ -143,7 +142,7 @@ fn caps_are_read_as_they_stand() {
     for version in VERSIONS {
         for cap in 0..=MOST_CAP {
             let bytes = marked::book_e_capped(version, cap);
-            match read_book(&MILL, &bytes) {
+            match read_book(&bytes) {
                 Ok(book) => {
                     assert_eq!(book.flows[0].jobs[1].cap, cap);
                     assert_eq!(encode_book(&book), bytes);
@@ -233,7 +232,7 @@ fn units_are_used_in_their_order() {
     let mut planned = 0;
     for case in 0..40_000 {
         let book = books::drawn(&mut rng, VERSIONS[case % 2], books::tiny_book);
-        let (book, calendar) = calendars::with_calendar(&MILL, &mut rng, book);
+        let (book, calendar) = calendars::with_calendar(&mut rng, book);
         let Ok(schedule) = schedule(&book, &calendar) else {
             continue;
         };
@@ -325,11 +324,11 @@ fn fast_planner_is_the_literal_one() {
             _ => books::any_book,
         };
         let book = books::drawn(&mut rng, VERSIONS[case % 2], family);
-        let (book, calendar) = calendars::with_calendar(&MILL, &mut rng, book);
-        let lent = calendars::lent(&MILL, &mut rng, &calendar);
+        let (book, calendar) = calendars::with_calendar(&mut rng, book);
+        let lent = calendars::lent(&mut rng, &calendar);
         let mut bytes = encode_book(&book);
         if rng.chance(1, 8) {
-            books::damage_book(&MILL, &mut rng, &mut bytes);
+            books::damage_book(&mut rng, &mut bytes);
         }
         let work = WORK_BYTES + rng.index(3) - 1;
         let room = rng.skewed(0, 1 << 14) as usize;
@@ -362,7 +361,7 @@ fn plans_are_valid_and_cuts_agree() {
     let (mut planned, mut refused) = ([0; 2], [0; 2]);
     for case in 0..16_000 {
         let book = books::drawn(&mut rng, VERSIONS[case % 2], books::any_book);
-        let (book, calendar) = calendars::with_calendar(&MILL, &mut rng, book);
+        let (book, calendar) = calendars::with_calendar(&mut rng, book);
         let order = book.service_order();
         let above = usize::from(books::has_cap_above(&book));
         match schedule(&book, &calendar) {
@@ -406,8 +405,8 @@ fn one_pass_check_is_the_one_by_definition() {
     let mut kinds = Kinds::default();
     for case in 0..8_000 {
         let book = books::drawn(&mut rng, VERSIONS[case % 2], books::tiny_book);
-        let (book, calendar) = calendars::with_calendar(&MILL, &mut rng, book);
-        let Some(table) = tables::either_table(&MILL, &mut rng, &book, &calendar) else {
+        let (book, calendar) = calendars::with_calendar(&mut rng, book);
+        let Some(table) = tables::either_table(&mut rng, &book, &calendar) else {
             continue;
         };
         if table.rows.len() > 100 {
@@ -416,15 +415,15 @@ fn one_pass_check_is_the_one_by_definition() {
         let mut bytes = encode_book(&book);
         let damaged = rng.chance(1, 16);
         if damaged {
-            books::damage_book(&MILL, &mut rng, &mut bytes);
+            books::damage_book(&mut rng, &mut bytes);
         }
         let intact = table.encode(&book);
         for case in 0..6 {
             let table = match case {
                 0 => intact.clone(),
-                _ => tables::damaged(&MILL, &mut rng, &book, &calendar, &table),
+                _ => tables::damaged(&mut rng, &book, &calendar, &table),
             };
-            let lent = calendars::lent(&MILL, &mut rng, &calendar);
+            let lent = calendars::lent(&mut rng, &calendar);
             let room = WORK_BYTES + rng.index(9) - usize::from(rng.chance(1, 32));
             let answer = answer_of_both(&bytes, &lent, &table, room);
             met[answer.number as usize] += 1;
@@ -465,9 +464,9 @@ fn one_pass_check_of_rows_out_of_place() {
         let book = books::drawn(&mut rng, VERSIONS[tables % 2], books::tiny_book);
         let calendar = match tables % 4 {
             0 | 1 => Calendar::default(),
-            _ => calendars::valid(&MILL, &mut rng, &book),
+            _ => calendars::valid(&mut rng, &book),
         };
-        let Some(table) = tables::delayed_table(&MILL, &mut rng, &book, &calendar) else {
+        let Some(table) = tables::delayed_table(&mut rng, &book, &calendar) else {
             continue;
         };
         if book.flows.len() < 2 || table.rows.len() > 24 {
@@ -563,10 +562,10 @@ fn merged_list_is_the_sorted_one() {
             _ => books::any_book,
         };
         let book = books::drawn(&mut rng, VERSIONS[case % 2], family);
-        let (book, calendar) = calendars::with_calendar(&MILL, &mut rng, book);
-        let lent = calendars::lent(&MILL, &mut rng, &calendar);
+        let (book, calendar) = calendars::with_calendar(&mut rng, book);
+        let lent = calendars::lent(&mut rng, &calendar);
         let table = match case % 4 {
-            0 => tables::delayed_table(&MILL, &mut rng, &book, &calendar),
+            0 => tables::delayed_table(&mut rng, &book, &calendar),
             _ => tables::planned_table(&book, &calendar),
         };
         let Some(table) = table else {
@@ -574,10 +573,10 @@ fn merged_list_is_the_sorted_one() {
         };
         let mut bytes = encode_book(&book);
         if rng.chance(1, 8) {
-            books::damage_book(&MILL, &mut rng, &mut bytes);
+            books::damage_book(&mut rng, &mut bytes);
         }
         let table = match rng.below(4) {
-            0 => tables::damaged(&MILL, &mut rng, &book, &calendar, &table),
+            0 => tables::damaged(&mut rng, &book, &calendar, &table),
             _ => table.encode(&book),
         };
         let exact = lists::length_for(&table);
@@ -595,7 +594,7 @@ fn merged_list_is_the_sorted_one() {
         let length = fast_dispatch::merge_by_slots(&table, &work, &mut again);
         assert_eq!(length, exact);
         assert!(again == output);
-        let book = read_book(&MILL, &bytes).expect("a list has a book");
+        let book = read_book(&bytes).expect("a list has a book");
         let list = &output[..exact];
         lists::hold(&book, &table, list, &work);
         orders_apart += usize::from(lists::tells_orders_apart(&book, list));
@@ -643,21 +642,21 @@ fn fast_finishes_are_the_literal_one() {
             _ => books::any_book,
         };
         let book = books::drawn(&mut rng, VERSIONS[case % 2], family);
-        let (book, calendar) = calendars::with_calendar(&MILL, &mut rng, book);
-        let lent = calendars::lent(&MILL, &mut rng, &calendar);
+        let (book, calendar) = calendars::with_calendar(&mut rng, book);
+        let lent = calendars::lent(&mut rng, &calendar);
         let mut bytes = encode_book(&book);
         if rng.chance(1, 4) {
-            books::damage_book(&MILL, &mut rng, &mut bytes);
+            books::damage_book(&mut rng, &mut bytes);
         }
         let area = WORK_BYTES + rng.index(9) - usize::from(rng.chance(1, 16));
         for flow in marked::no_flows(book.flows.len() as u32) {
             let (answer, _) = finish_of_all(&bytes, &lent, flow, area);
             met[answer.number as usize] += 1;
         }
-        let Ok(book) = read_book(&MILL, &bytes) else {
+        let Ok(book) = read_book(&bytes) else {
             continue;
         };
-        let Ok(calendar) = read_calendar(&MILL, &lent) else {
+        let Ok(calendar) = read_calendar(&lent) else {
             for flow in 0..book.flows.len() as u32 {
                 let (answer, _) = finish_of_all(&bytes, &lent, flow, area);
                 met[answer.number as usize] += 1;
@@ -673,7 +672,7 @@ fn fast_finishes_are_the_literal_one() {
             }
             let (answer, work) = finish_of_all(&bytes, &lent, flow as u32, area);
             met[answer.number as usize] += 1;
-            let again = second_finish::outcome(&MILL, &bytes, &lent, flow as u32);
+            let again = second_finish::outcome(&bytes, &lent, flow as u32);
             assert_eq!(owed[flow], again);
             if answer.number == 11 {
                 continue;
@@ -688,8 +687,8 @@ fn fast_finishes_are_the_literal_one() {
             let kept = books::kept_by_cut(&book, place + 1);
             let mut planned = vec![5; area];
             let cut = encode_book(&books::cut(&book, place + 1));
-            let cut = second_planner::outcome(&MILL, &cut, &lent);
-            let plan = second_planner::deliver(&MILL, &cut, &mut output, &mut planned);
+            let cut = second_planner::outcome(&cut, &lent);
+            let plan = second_planner::deliver(&cut, &mut output, &mut planned);
             assert!(planned == work);
             assert_eq!(plan.number, answer.number);
             match cut {

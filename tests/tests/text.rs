@@ -10,7 +10,6 @@ use std::process::{Command, Stdio};
 use flowplan_tests::answer::WORK_BYTES;
 use flowplan_tests::books::{self, encode_book};
 use flowplan_tests::calendar::NO_WINDOWS;
-use flowplan_tests::limits::MILL;
 use flowplan_tests::marked;
 use flowplan_tests::reader::{Version, VERSIONS};
 use flowplan_tests::rng::Rng;
@@ -105,7 +104,7 @@ fn program_prints_plans_and_refusals() {
             inputs.push(draw(books::full_book));
             inputs.push(draw(books::infeasible_book));
             let mut damaged = draw(books::usual_book);
-            books::damage_book(&MILL, &mut rng, &mut damaged);
+            books::damage_book(&mut rng, &mut damaged);
             inputs.push(damaged);
         }
     }

@@ -7,7 +7,7 @@ use mathlib.Core.List.{List}
 use lib.ListN.{length}
 use Rattle.rules.specs.declared.Verdict.TheVariants.{Pass}
 use Rattle.rules.specs.Fields.{byte}
-use Rattle.rules.specs.Ranges.{most_jobs, mill}
+use Rattle.rules.specs.Limits.{most_jobs}
 use Rattle.rules.specs.Book.{Flow, job_count, flow_in, lower_cap, lower_caps, flow_of, job_of}
 use Rattle.rules.specs.Reading.{book_head, version_of, flow_head, job_record, jobs_at, flow_start, job_start, job_at, flow_at, book_of, book_fault}
 use Rattle.rules.proofs.Reading.Caps.{count-lowered, job-lowered}
@@ -17,7 +17,7 @@ use Rattle.book.specs.Records.{head_at}
 use Rattle.book.specs.Promise.{FlowStands, HeadOf}
 
 -- how a walk over the heads meets each flow
-pub stands_at : (s : List ℕ) (f : ℕ) {records : ℕ} → book_fault mill s ≡ Pass → f < byte s 7 → records ≡ job_start s (flow_start s f) 0 → FlowStands s f records
+pub stands_at : (s : List ℕ) (f : ℕ) {records : ℕ} → book_fault s ≡ Pass → f < byte s 7 → records ≡ job_start s (flow_start s f) 0 → FlowStands s f records
 stands_at s f e h q = record { passes = e; flow_in_is = rw (flow-count s) h; records_at = q }
 
 module _ {s : List ℕ} {f records : ℕ} (stands : FlowStands s f records) where
@@ -27,8 +27,8 @@ module _ {s : List ℕ} {f records : ℕ} (stands : FlowStands s f records) wher
   flow_is : flow_in (book_of s) f ≡ flow_at s (flow_start s f)
   flow_is = flow_in_book s f flow_below
 
-  pub flow-stands-whole : FlowPasses mill s (flow_start s f)
-  flow-stands-whole = flow_of_passing mill s stands.passes f flow_below
+  pub flow-stands-whole : FlowPasses s (flow_start s f)
+  flow-stands-whole = flow_of_passing s stands.passes f flow_below
 
   pub job-count_is : job_count (flow_of (book_of s) f) ≡ jobs_at s (flow_start s f)
   unfolding flow_of
@@ -36,7 +36,7 @@ module _ {s : List ℕ} {f records : ℕ} (stands : FlowStands s f records) wher
 
   -- the heads of the book and of the flow lie inside the bytes
   pub book-head-fits : book_head ≤ length s
-  book-head-fits = (book_passes mill s stands.passes).head_whole
+  book-head-fits = (book_passes s stands.passes).head_whole
 
   pub head-fits : flow_start s f + flow_head (version_of s) ≤ length s
   head-fits = flow-stands-whole.head.flow_head_whole

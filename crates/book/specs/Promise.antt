@@ -2,7 +2,7 @@
 use Rattle.std.specs.Prelude.{◌≡◌, ℕ, ◌<◌, ◌≤◌, List, length, get_or}
 use Rattle.rules.specs.declared.Verdict.TheVariants.{Pass}
 use Rattle.rules.specs.Walks.{list_from}
-use Rattle.rules.specs.Ranges.{most_jobs, mill}
+use Rattle.rules.specs.Limits.{most_jobs}
 use Rattle.rules.specs.Book.{Job, Flow, flow_count, job_count, flow_of}
 use Rattle.rules.specs.Reading.{flow_start, job_start, book_of, book_fault}
 use Rattle.book.specs.declared.FlowHead.{FlowHead}
@@ -11,7 +11,7 @@ use Rattle.book.specs.declared.JobRecord.{JobRecord}
 
 -- the index is that of the book in these bytes, which passes
 pub record Indexed (s : List ℕ) (x : Index) : Type 0 where
-  pub passes : book_fault mill s ≡ Pass
+  pub passes : book_fault s ≡ Pass
   pub processors : x.processors ≡ (book_of s).processors
   pub flows : x.flows ≡ flow_count (book_of s)
   pub records : (f : ℕ) → f < flow_count (book_of s) → get_or x.records f 0 ≡ job_start s (flow_start s f) 0
@@ -20,13 +20,13 @@ pub record Indexed (s : List ℕ) (x : Index) : Type 0 where
 
 -- the array holds the deadlines of the flows of the book in these bytes, which passes
 pub record DeadlinesOf (s deadlines : List ℕ) : Type 0 where
-  pub passes : book_fault mill s ≡ Pass
+  pub passes : book_fault s ≡ Pass
   pub enough : flow_count (book_of s) ≤ length deadlines
   pub same : (f : ℕ) → f < flow_count (book_of s) → get_or deadlines f 0 ≡ (flow_of (book_of s) f).deadline
 
 -- flow f of the book in these bytes, which passes, has its job records from `records` on: what an accessor asks
 pub record FlowStands (s : List ℕ) (f records : ℕ) : Type 0 where
-  pub passes : book_fault mill s ≡ Pass
+  pub passes : book_fault s ≡ Pass
   pub flow_in_is : f < flow_count (book_of s)
   pub records_at : records ≡ job_start s (flow_start s f) 0
 

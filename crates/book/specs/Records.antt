@@ -2,10 +2,9 @@
 use Rattle.std.specs.Prelude.{ℕ, ◌+◌, ◌^◌, List, length, ltb, leb}
 use Rattle.rules.specs.declared.Verdict.{Verdict}
 use Rattle.rules.specs.declared.Verdict.TheVariants.{Pass, Refused}
-use Rattle.rules.specs.declared.Limits.{Limits}
 use Rattle.rules.specs.Walks.{if◌then◌else◌}
 use Rattle.rules.specs.Fields.{field}
-use Rattle.rules.specs.Ranges.{outside, most_jobs, most_size, most_cap}
+use Rattle.rules.specs.Limits.{outside, most_deadline, most_jobs, most_size, most_cap}
 use Rattle.rules.specs.Reading.{version_of, flow_head, job_record, release_at, jobs_at}
 use Rattle.book.specs.declared.FlowHead.{FlowHead}
 use Rattle.book.specs.declared.HeadRead.{HeadRead}
@@ -27,9 +26,9 @@ unfoldable pub head_read : List ℕ → ℕ → HeadRead
 head_read s at = if ltb (length s) (at + flow_head (version_of s)) then ShortHead else WholeHead (head_at s at)
 
 -- "5, 6, 7 for the head", 22 "directly after 6" (02, Req 01): the number of a whole head, 0 where it passes
-unfoldable pub head_number : Limits → FlowHead → ℕ
-head_number L h =
-    if outside 1 L.deadline h.deadline then 6
+unfoldable pub head_number : FlowHead → ℕ
+head_number h =
+    if outside 1 most_deadline h.deadline then 6
     else if leb h.deadline h.release then 22
     else if outside 1 most_jobs h.jobs then 7
     else 0

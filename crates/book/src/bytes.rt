@@ -1,7 +1,8 @@
 // Fields of a slice of bytes, big-endian, and the work area.
-ghost use Rattle.std.specs.Prelude.{◌≡◌, ◌+◌, ◌*◌, ◌<◌, ◌≤◌, min, max, length};
+ghost use Rattle.std.specs.Prelude.{◌≡◌, ◌+◌, ◌<◌, ◌≤◌, min, max, length};
 ghost use Rattle.std.proofs.lemmas.List.Edits.{sets};
 ghost use Rattle.rules.specs.Fields.{field, bytes_of};
+ghost use Rattle.rules.specs.Limits.{slots, work_bytes};
 ghost use Rattle.rules.specs.Rows.{work_zero};
 ghost use Rattle.rules.specs.Table.{row_bytes};
 
@@ -64,13 +65,12 @@ pub fn write_row(s: &mut [u8], at: usize, slot: u16, flow: u8, job: u8, processo
 }
 
 // The slots of a work area made zero.
-pub fn clear(work: &mut [u8], slots: u16)
-    requires { 2 * slots ≤ length work.old }
+pub fn clear(work: &mut [u8])
+    requires { work_bytes ≤ length work.old }
     ensures { work.new ≡ work_zero slots work.old }
 {
-    let size = 2 * wide16(slots);
     let mut i: usize = 0;
-    while i < size {
+    while i < 16384 {
         work[i] = 0;
         i = i + 1;
     }

@@ -5,15 +5,15 @@ use mathlib.Core.Bool.{Bool, true, false, not, ◌&&◌}
 use mathlib.Core.List.{List, ◌++◌, append_assoc}
 use native.Mathlib.Nat.{zero-add}
 use native.Mathlib.Omega.{arith}
-use lib.ListN.{drop}
-use lib.Seq.{sets, drop_at}
+use lib.ListN.{length, drop, length-append, length-drop}
+use lib.Seq.{sets}
 use Rattle.rules.specs.Walks.{if◌then◌else◌}
 use Rattle.rules.specs.Fields.{field, bytes_of}
-use Rattle.rules.specs.Rows.{Row, used_in, work_used, work_zero}
+use Rattle.rules.specs.Rows.{Row, used_in, work_used}
 use Rattle.rules.specs.Calendar.{in_window, is_open}
 use Rattle.rules.proofs.Laws.Walks.{join-ext}
 use Rattle.rules.proofs.Laws.Fields.{bytes-length, field_between}
-use Rattle.rules.proofs.Rows.WorkArea.{pairs, pairs-length, pairs-around, sets_between, cleared-past}
+use Rattle.rules.proofs.Rows.WorkArea.{pairs, pairs-length, pairs-around, sets_between}
 use Rattle.calendar.specs.declared.Calendar.{Calendar}
 use Rattle.calendar.specs.Held.{held_window}
 use Rattle.calendar.specs.Area.{area_holding}
@@ -29,19 +29,9 @@ module _ (n : ℕ) (area : List ℕ) where
   unfolding area_holding
   holding_ext g h e = ap (◌++ drop (2 * n) area) (join-ext _ _ n 0 (λ k l. ap (bytes_of 2) (rw (zero-add k) (e k l))))
 
-  -- past the slots nothing is touched
-  holding-past : (g : ℕ → ℕ) → drop (2 * n) (area_holding n g area) ≡ drop (2 * n) area
+  pub holding-length : (g : ℕ → ℕ) → 2 * n ≤ length area → length (area_holding n g area) ≡ length area
   unfolding area_holding
-  holding-past g = drop_at (pairs g n 0) (drop (2 * n) area) (2 * n) (pairs-length g n 0)
-
-  pub holding-cleared : (g : ℕ → ℕ) → work_zero n (area_holding n g area) ≡ work_zero n area
-  unfolding work_zero
-  holding-cleared g = rw (holding-past g) refl
-
-  -- so that it is the same over an area that is cleared alike
-  pub holding-over : (g : ℕ → ℕ) (other : List ℕ) → work_zero n other ≡ work_zero n area → area_holding n g other ≡ area_holding n g area
-  unfolding area_holding
-  holding-over g other e = ap (pairs g n 0 ++◌) (sym (cleared-past n other) ∙ ap (drop (2 * n)) e ∙ cleared-past n area)
+  holding-length g l = rw (length-append, length-drop, pairs-length g n 0) (omega arith)
 
   -- a slot's pair between those before it and the rest
   holding-around : (g : ℕ → ℕ) (t : ℕ) → t < n → area_holding n g area ≡ pairs g t 0 ++ bytes_of 2 (g t) ++ (pairs g (n - suc t) (suc t) ++ drop (2 * n) area)

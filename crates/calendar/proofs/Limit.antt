@@ -12,9 +12,8 @@ use lib.ListN.{get_or}
 use lib.Dec.{ltb, leb}
 use borrow.Author.Tests.{lt-ltb, le-ltb, le-leb, lt-leb}
 use Rattle.rules.specs.Walks.{if◌then◌else◌, bit}
-use Rattle.rules.specs.Ranges.{mill}
+use Rattle.rules.specs.Limits.{most_deadline, slots}
 use Rattle.rules.specs.Calendar.{Window, is_open, open_before, slot_after, CalendarInRange}
-use Rattle.rules.proofs.Reading.Wider.{mill_fits}
 use Rattle.rules.proofs.Laws.Division.{lt-or_ge}
 use Rattle.rules.proofs.Laws.Walks.{last_or}
 use Rattle.rules.proofs.Placing.OpenSlots.{open_none, open_next, open-on, open-all, twice-fits, slot-after_is}
@@ -41,7 +40,7 @@ module _ (x : Calendar) where
   pub reached-none : (n : ℕ) → Reached (first_windows x 0) n n
   reached-none n = record { count = all_open n; not_yet = λ t l. omega (arith, all_open t) }
 
-  module _ (range : CalendarInRange mill (held_windows x)) where
+  module _ (range : CalendarInRange (held_windows x)) where
     -- a window begins when those before it have reopened
     before-apart : (k : ℕ) → k < x.count → (j : ℕ) → j < k → get_or x.reopening j 0 ≤ get_or x.shut k 0
     before-apart zero l j b = absurd (not-suc-le-zero b)
@@ -113,24 +112,24 @@ module _ (x : Calendar) where
         rw e (omega (arith, count_next (k + j) (omega arith) t, fewer_open t k j (omega arith)))
 
     -- the limit stays within the slots
-    module _ (d : ℕ) (due : d ≤ mill.deadline) where
-      pub reached_most : (k limit : ℕ) → k ≤ x.count → Reached (first_windows x k) (2 * open_before (held_windows x) d) limit → limit ≤ mill.slots
-      reached_most k limit h r = go (lt-or_ge mill.slots limit)
+    module _ (d : ℕ) (due : d ≤ most_deadline) where
+      pub reached_most : (k limit : ℕ) → k ≤ x.count → Reached (first_windows x k) (2 * open_before (held_windows x) d) limit → limit ≤ slots
+      reached_most k limit h r = go (lt-or_ge slots limit)
         where
           rest : k + (x.count - k) ≡ x.count
           rest = omega arith
 
-          go : (mill.slots < limit) ⊎ (limit ≤ mill.slots) → limit ≤ mill.slots
+          go : (slots < limit) ⊎ (limit ≤ slots) → limit ≤ slots
           go (inl b) =
               absurd (omega (
                 arith,
-                r.not_yet mill.slots b,
-                twice-fits mill mill_fits (held_windows x) range d due,
-                ap (λ (c : List Window). open_before c mill.slots) (first-all x rest),
-                fewer_open mill.slots k (x.count - k) (omega arith),
+                r.not_yet slots b,
+                twice-fits (held_windows x) range d due,
+                ap (λ (c : List Window). open_before c slots) (first-all x rest),
+                fewer_open slots k (x.count - k) (omega arith),
               ))
           go (inr b) = b
 
-      pub reached-all : (limit : ℕ) → limit ≤ mill.slots → Reached (held_windows x) (2 * open_before (held_windows x) d) limit →
+      pub reached-all : (limit : ℕ) → limit ≤ slots → Reached (held_windows x) (2 * open_before (held_windows x) d) limit →
           limit ≡ slot_after (held_windows x) (2 * open_before (held_windows x) d)
       reached-all limit h r = sym (slot-after_is (held_windows x) (2 * open_before (held_windows x) d) limit h r.count r.not_yet)

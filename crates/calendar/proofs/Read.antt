@@ -6,7 +6,6 @@ use native.Mathlib.Nat.{zero-add}
 use native.Mathlib.Omega.{arith}
 use Rattle.rules.specs.Walks.{list_from}
 use Rattle.rules.specs.Fields.{byte, field}
-use Rattle.rules.specs.Ranges.{mill}
 use Rattle.rules.specs.Calendar.{window_at, calendar_of, CalendarInRange}
 use Rattle.rules.proofs.Reading.Passing.{calendar-pass_in-range}
 use Rattle.rules.proofs.Laws.Walks.{list_ext}
@@ -31,5 +30,5 @@ windows_filled s x e f g = list_ext (held_window x) (window_at s) x.count 0 same
     same : (k : ℕ) → k < x.count → held_window x (0 + k) ≡ window_at s (0 + k)
     same k l = rw (zero-add k, f.values k l, g.values k l) refl
 
-pub held_in-range : {s : List ℕ} {x : Calendar} → Held s x → CalendarInRange mill (held_windows x)
-held_in-range {s} h = rw h.windows (calendar-pass_in-range mill s h.passes)
+pub held_in-range : {s : List ℕ} {x : Calendar} → Held s x → CalendarInRange (held_windows x)
+held_in-range {s} h = rw h.windows (calendar-pass_in-range s h.passes)

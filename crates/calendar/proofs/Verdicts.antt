@@ -9,41 +9,40 @@ use lib.ListN.{length}
 use lib.Dec.{ltb, leb, eqb}
 use borrow.Author.Tests.{lt-ltb, le-ltb, le-leb, lt-leb, eq-eqb, ne_eqb}
 use Rattle.rules.specs.declared.Verdict.TheVariants.{Pass, Refused}
-use Rattle.rules.specs.declared.Limits.{Limits}
 use Rattle.rules.specs.Walks.{if◌then◌else◌, any_to}
 use Rattle.rules.specs.Fields.{byte, field}
 use Rattle.rules.specs.Answers.{none}
-use Rattle.rules.specs.Ranges.{most_windows}
+use Rattle.rules.specs.Limits.{most_windows, most_reopening}
 use Rattle.rules.specs.Calendar.{calendar_head, window_length, window_at, begins_early, window_fault, calendar_fault}
 
 -- ---- one window, whose values are read
-module _ (L : Limits) (s : List ℕ) (k : ℕ) {shut reopening : ℕ} (e : shut ≡ field 2 s (calendar_head + window_length * k))
+module _ (s : List ℕ) (k : ℕ) {shut reopening : ℕ} (e : shut ≡ field 2 s (calendar_head + window_length * k))
     (d : reopening ≡ field 2 s (calendar_head + window_length * k + 2)) where
-  pub empty_window : reopening ≤ shut → true ≡ window_fault L s k
+  pub empty_window : reopening ≤ shut → true ≡ window_fault s k
   unfolding window_fault window_at
   empty_window h = rw (← e, ← d, le-leb reopening shut h)
 
-  pub far_window : L.reopening < reopening → true ≡ window_fault L s k
+  pub far_window : most_reopening < reopening → true ≡ window_fault s k
   unfolding window_fault window_at
-  far_window h = rw (← e, ← d, lt-ltb L.reopening reopening h) (last (leb reopening shut || begins_early s k))
+  far_window h = rw (← e, ← d, lt-ltb most_reopening reopening h) (last (leb reopening shut || begins_early s k))
     where
       last : (a : Bool) → true ≡ (a || true)
       last true = refl
       last false = refl
 
-  module _ (whole : shut < reopening) (soon : reopening ≤ L.reopening) where
-    beginning : begins_early s k ≡ window_fault L s k
+  module _ (whole : shut < reopening) (soon : reopening ≤ most_reopening) where
+    beginning : begins_early s k ≡ window_fault s k
     unfolding window_fault window_at
-    beginning = rw (← e, ← d, lt-leb reopening shut whole, le-ltb L.reopening reopening soon) (first (begins_early s k))
+    beginning = rw (← e, ← d, lt-leb reopening shut whole, le-ltb most_reopening reopening soon) (first (begins_early s k))
       where
         first : (a : Bool) → a ≡ (a || false)
         first true = refl
         first false = refl
 
-    pub first_window : k ≡ 0 → false ≡ window_fault L s k
+    pub first_window : k ≡ 0 → false ≡ window_fault s k
     first_window z = sym (ap (begins_early s) z ∙ (unfold begins_early in refl)) ∙ beginning
 
-    pub next_window : {before : ℕ} → (k ≡ 0 → ⊥) → before ≡ field 2 s (calendar_head + window_length * k - 2) → leb shut before ≡ window_fault L s k
+    pub next_window : {before : ℕ} → (k ≡ 0 → ⊥) → before ≡ field 2 s (calendar_head + window_length * k - 2) → leb shut before ≡ window_fault s k
     unfolding begins_early window_at
     next_window {before} ne b = go k refl ∙ beginning
       where
@@ -63,37 +62,37 @@ unfolding any_to
 none_more q k h e f = rw (add-one k, h, ← e, f) refl
 
 -- ---- the bytes: each test, where those before it pass
-module _ (L : Limits) (s : List ℕ) where
-  pub short-calendar : length s < calendar_head → calendar_fault L s ≡ Refused 24 none none
+module _ (s : List ℕ) where
+  pub short-calendar : length s < calendar_head → calendar_fault s ≡ Refused 24 none none
   unfolding calendar_fault
   short-calendar h = rw (lt-ltb (length s) calendar_head h) refl
 
   module _ (whole : calendar_head ≤ length s) where
-    pub other_length : (field 4 s 0 ≡ length s → ⊥) → calendar_fault L s ≡ Refused 24 none none
+    pub other_length : (field 4 s 0 ≡ length s → ⊥) → calendar_fault s ≡ Refused 24 none none
     unfolding calendar_fault
     other_length ne = rw (le-ltb (length s) calendar_head whole, ne_eqb (field 4 s 0) (length s) ne) refl
 
     module _ (fits : field 4 s 0 ≡ length s) where
-      pub other-version : (byte s 4 ≡ 1 → ⊥) → calendar_fault L s ≡ Refused 24 none none
+      pub other-version : (byte s 4 ≡ 1 → ⊥) → calendar_fault s ≡ Refused 24 none none
       unfolding calendar_fault
       other-version ne = rw (le-ltb (length s) calendar_head whole, eq-eqb (field 4 s 0) (length s) fits, ne_eqb (byte s 4) 1 ne) refl
 
       module _ (version : byte s 4 ≡ 1) where
         -- what comes after the version
-        after-version : calendar_fault L s
-            ≡ (if ltb most_windows (byte s 5) || not (eqb (length s) (calendar_head + window_length * byte s 5)) || any_to (window_fault L s) (byte s 5)
+        after-version : calendar_fault s
+            ≡ (if ltb most_windows (byte s 5) || not (eqb (length s) (calendar_head + window_length * byte s 5)) || any_to (window_fault s) (byte s 5)
             then Refused 24 none none else Pass)
         unfolding calendar_fault
         after-version = rw (le-ltb (length s) calendar_head whole, eq-eqb (field 4 s 0) (length s) fits, eq-eqb (byte s 4) 1 version) refl
 
-        pub many-windows : most_windows < byte s 5 → calendar_fault L s ≡ Refused 24 none none
+        pub many-windows : most_windows < byte s 5 → calendar_fault s ≡ Refused 24 none none
         many-windows h = after-version ∙ rw (lt-ltb most_windows (byte s 5) h) refl
 
         module _ (few : byte s 5 ≤ most_windows) where
-          pub other-bytes : (length s ≡ calendar_head + window_length * byte s 5 → ⊥) → calendar_fault L s ≡ Refused 24 none none
+          pub other-bytes : (length s ≡ calendar_head + window_length * byte s 5 → ⊥) → calendar_fault s ≡ Refused 24 none none
           other-bytes ne = after-version ∙ rw (le-ltb most_windows (byte s 5) few, ne_eqb (length s) (calendar_head + window_length * byte s 5) ne) refl
 
           pub windows-left : length s ≡ calendar_head + window_length * byte s 5 →
-              calendar_fault L s ≡ (if any_to (window_fault L s) (byte s 5) then Refused 24 none none else Pass)
+              calendar_fault s ≡ (if any_to (window_fault s) (byte s 5) then Refused 24 none none else Pass)
           windows-left e =
               after-version ∙ rw (le-ltb most_windows (byte s 5) few, eq-eqb (length s) (calendar_head + window_length * byte s 5) e) refl

@@ -11,12 +11,12 @@ use lib.ListN.{length, get_or}
 use lib.Dec.{leb}
 use borrow.Author.Tests.{lt-ltb, le-ltb, le-leb, lt-leb}
 use Rattle.rules.specs.Walks.{list_from}
-use Rattle.rules.specs.Ranges.{most_windows, mill}
+use Rattle.rules.specs.Limits.{most_windows, most_reopening}
 use Rattle.rules.specs.Calendar.{Window, in_window, is_open, no_window, window_of, CalendarInRange}
 use Rattle.rules.proofs.Laws.Division.{lt-or_ge}
 use Rattle.rules.proofs.Laws.Walks.{length-in_list_order, list-at-zero}
 use Rattle.calendar.specs.declared.Calendar.{Calendar}
-use Rattle.calendar.specs.Held.{held_window, held_windows, ReopensBy}
+use Rattle.calendar.specs.Held.{held_window, held_windows}
 
 -- ---- one window more
 open-last : (g : ℕ → Window) (k s t : ℕ) → is_open (list_from g (suc k) s) t ≡ (is_open (list_from g k s) t && not (in_window (g (s + k)) t))
@@ -56,18 +56,17 @@ module _ (x : Calendar) where
   unfolding held_windows window_of
   held_at k l = list-at-zero (held_window x) x.count k no_window l
 
-  -- window k has reopened where all have
-  pub held_by : (n : ℕ) → ReopensBy n (held_windows x) → (k : ℕ) → k < x.count → get_or x.reopening k 0 ≤ n
-  unfolding ReopensBy
-  held_by n by k l = rw (held_at k l) at (by k (rw held-count l))
-
   -- ---- windows in range
-  module _ (range : CalendarInRange mill (held_windows x)) where
+  module _ (range : CalendarInRange (held_windows x)) where
     pub count_most : x.count ≤ most_windows
     count_most = rw held-count at range.windows_most
 
-    pub shut-first : (k : ℕ) → k < x.count → get_or x.shut k 0 < get_or x.reopening k 0
-    shut-first k l = rw (held_at k l) at (range.not_empty k (rw held-count l))
+    module _ (k : ℕ) (l : k < x.count) where
+      pub shut-first : get_or x.shut k 0 < get_or x.reopening k 0
+      shut-first = rw (held_at k l) at (range.not_empty k (rw held-count l))
+
+      pub reopening_most : get_or x.reopening k 0 ≤ most_reopening
+      reopening_most = rw (held_at k l) at (range.reopens k (rw held-count l))
 
     pub next-apart : (k : ℕ) → suc k < x.count → get_or x.reopening k 0 < get_or x.shut (suc k) 0
     next-apart k l = rw (held_at k (omega arith), held_at (suc k) l) at (range.apart k (rw held-count l))

@@ -1,9 +1,8 @@
 -- The windows that the reader hands back of a calendar that passes, in the specification's values. Assumes nothing.
-use Rattle.std.specs.Prelude.{◌≡◌, ℕ, ◌≤◌, ◌<◌, List, length, get_or}
+use Rattle.std.specs.Prelude.{◌≡◌, ℕ, List, get_or}
 use Rattle.rules.specs.declared.Verdict.TheVariants.{Pass}
 use Rattle.rules.specs.Walks.{list_from}
-use Rattle.rules.specs.Ranges.{mill}
-use Rattle.rules.specs.Calendar.{Window, window_of, calendar_of, calendar_fault}
+use Rattle.rules.specs.Calendar.{Window, calendar_of, calendar_fault}
 use Rattle.calendar.specs.declared.Calendar.{Calendar}
 
 -- window k
@@ -15,9 +14,5 @@ held_windows x = list_from (held_window x) x.count 0
 
 -- the windows are those of the calendar in these bytes, which passes
 pub record Held (s : List ℕ) (x : Calendar) : Type 0 where
-  pub passes : calendar_fault mill s ≡ Pass
+  pub passes : calendar_fault s ≡ Pass
   pub windows : held_windows x ≡ calendar_of s
-
--- every window has reopened by slot n
-unfoldable pub ReopensBy : ℕ → List Window → Type 0
-ReopensBy n c = (k : ℕ) → k < length c → (window_of c k).reopening ≤ n

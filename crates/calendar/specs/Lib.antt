@@ -1,3 +1,3 @@
--- What the reader hands back of a calendar, and what its shut slots leave in a work area.
+-- What the reader hands back of a calendar, and what its shut slots leave in a work area and in flags.
 pub mod Held
 pub mod Area

@@ -1,15 +1,15 @@
 // The calendar of the cluster: its reader, its shut slots, the limit of a flow.
-ghost use Rattle.std.specs.Prelude.{◌≡◌, ℕ, ◌+◌, ◌-◌, ◌*◌, ◌/◌, ◌<◌, ◌≤◌, min, List, length, ltb};
+ghost use Rattle.std.specs.Prelude.{◌≡◌, ℕ, ◌+◌, ◌-◌, ◌*◌, ◌<◌, ◌≤◌, min, not, ◌&&◌, List, length, replicate, ltb};
 ghost use Rattle.rules.specs.declared.Verdict.TheVariants.{Pass, Refused};
 ghost use Rattle.rules.specs.Walks.{if◌then◌else◌, any_to};
 ghost use Rattle.rules.specs.Answers.{none};
-ghost use Rattle.rules.specs.Ranges.{mill};
+ghost use Rattle.rules.specs.Limits.{most_deadline, most_reopening, slots, work_bytes};
 ghost use Rattle.rules.specs.Calendar.{in_window, is_open, open_before, slot_after, window_fault, calendar_fault, CalendarInRange};
-ghost use Rattle.calendar.specs.Held.{held_windows, Held, ReopensBy};
-ghost use Rattle.calendar.specs.Area.{area_holding};
+ghost use Rattle.calendar.specs.Held.{held_windows, Held};
+ghost use Rattle.calendar.specs.Area.{area_holding, open_by};
 
 use book::bytes;
-use rules::{Limits, Verdict};
+use rules::Verdict;
 
 // The windows of a calendar that passes.
 #[derive(Drop)]
@@ -20,9 +20,9 @@ pub struct Calendar {
 }
 
 // Whether window k breaks its rules.
-pub fn window_fault(calendar: &[u8], k: usize, limits: Limits) -> bool
+pub fn window_fault(calendar: &[u8], k: usize) -> bool
     requires { 6 + 4 * k + 4 ≤ length calendar.now }
-    ensures { result ≡ window_fault limits calendar.now k }
+    ensures { result ≡ window_fault calendar.now k }
 {
     let at = 6 + 4 * k;
     let shut = bytes::read16(calendar, at);
@@ -30,7 +30,7 @@ pub fn window_fault(calendar: &[u8], k: usize, limits: Limits) -> bool
     if reopening <= shut {
         return true;
     }
-    if limits.reopening < reopening {
+    if 4096 < reopening {
         return true;
     }
     if k == 0 {
@@ -40,13 +40,13 @@ pub fn window_fault(calendar: &[u8], k: usize, limits: Limits) -> bool
 }
 
 // Whether one of the windows breaks its rules.
-pub fn any_window_fault(calendar: &[u8], count: usize, limits: Limits) -> bool
+pub fn any_window_fault(calendar: &[u8], count: usize) -> bool
     requires { 6 + 4 * count ≤ length calendar.now }
-    ensures { result ≡ any_to (window_fault limits calendar.now) count }
+    ensures { result ≡ any_to (window_fault calendar.now) count }
 {
     let mut k: usize = 0;
     while k < count {
-        if window_fault(calendar, k, limits) {
+        if window_fault(calendar, k) {
             return true;
         }
         k = k + 1;
@@ -55,8 +55,8 @@ pub fn any_window_fault(calendar: &[u8], count: usize, limits: Limits) -> bool
 }
 
 // Whether the bytes break the layout of a calendar, or one of its windows its rules.
-pub fn has_fault(calendar: &[u8], limits: Limits) -> bool
-    ensures { calendar_fault limits calendar.now ≡ (if result then Refused 24 none none else Pass) }
+pub fn has_fault(calendar: &[u8]) -> bool
+    ensures { calendar_fault calendar.now ≡ (if result then Refused 24 none none else Pass) }
 {
     if calendar.len() < 6 {
         return true;
@@ -74,14 +74,14 @@ pub fn has_fault(calendar: &[u8], limits: Limits) -> bool
     if calendar.len() != 6 + 4 * count {
         return true;
     }
-    any_window_fault(calendar, count, limits)
+    any_window_fault(calendar, count)
 }
 
-// Whether the bytes are those of a calendar that passes by these limits; 24 where not.
-pub fn verdict_of(calendar: &[u8], limits: Limits) -> Verdict
-    ensures { result ≡ calendar_fault limits calendar.now }
+// Whether the bytes are those of a calendar that passes; 24 where not.
+pub fn verdict_of(calendar: &[u8]) -> Verdict
+    ensures { result ≡ calendar_fault calendar.now }
 {
-    if has_fault(calendar, limits) {
+    if has_fault(calendar) {
         return Verdict::Refused {
             number: 24,
             flow: 255,
@@ -93,7 +93,7 @@ pub fn verdict_of(calendar: &[u8], limits: Limits) -> Verdict
 
 // The windows of a calendar that passes.
 pub fn calendar_of(calendar: &[u8]) -> Calendar
-    requires { calendar_fault mill calendar.now ≡ Pass }
+    requires { calendar_fault calendar.now ≡ Pass }
     ensures { Held calendar.now result }
 {
     let count = bytes::wide(calendar[5]);
@@ -128,7 +128,7 @@ pub fn shut_before(shut: u16, reopening: u16, slot: u16) -> usize
 
 // How many open slots stand before a slot.
 pub fn open_before(x: Calendar, slot: u16) -> usize
-    requires { CalendarInRange mill (held_windows x) }
+    requires { CalendarInRange (held_windows x) }
     ensures { result ≡ open_before (held_windows x) slot }
 {
     let mut n = slot as usize;
@@ -142,7 +142,7 @@ pub fn open_before(x: Calendar, slot: u16) -> usize
 
 // The limit with one window more: a window that shuts before it moves it on by the window's slots.
 pub fn past_window(limit: usize, shut: u16, reopening: u16) -> usize
-    requires { (limit ≤ mill.slots) × (shut < reopening) }
+    requires { (limit ≤ slots) × (shut < reopening) }
     ensures { result ≡ (if ltb shut limit then limit + (reopening - shut) else limit) }
 {
     if (shut as usize) < limit {
@@ -153,8 +153,8 @@ pub fn past_window(limit: usize, shut: u16, reopening: u16) -> usize
 
 // The slot at which twice the open slots before a deadline have passed.
 pub fn limit_of(x: Calendar, deadline: u16) -> usize
-    requires { CalendarInRange mill (held_windows x) × (deadline ≤ mill.deadline) }
-    ensures { (result ≡ slot_after (held_windows x) (2 * open_before (held_windows x) deadline)) × (result ≤ mill.slots) }
+    requires { CalendarInRange (held_windows x) × (deadline ≤ most_deadline) }
+    ensures { (result ≡ slot_after (held_windows x) (2 * open_before (held_windows x) deadline)) × (result ≤ slots) }
 {
     let mut limit = 2 * open_before(x, deadline);
     let mut k: usize = 0;
@@ -167,9 +167,9 @@ pub fn limit_of(x: Calendar, deadline: u16) -> usize
 
 // A value written into the pair of each slot of a window.
 pub fn set_window(work: &mut [u8], shut: u16, reopening: u16, value: u16)
-    requires { (shut ≤ reopening) × (2 * reopening ≤ length work.old) }
-    ensures { (n : ℕ) → reopening ≤ n → (used : ℕ → ℕ) (bytes : List ℕ) → work.old ≡ area_holding n used bytes →
-        work.new ≡ area_holding n (λ t. if in_window (record { shut = shut; reopening = reopening }) t then value else used t) bytes }
+    requires { (shut ≤ reopening) × (reopening ≤ slots) × (work_bytes ≤ length work.old) }
+    ensures { (used : ℕ → ℕ) (bytes : List ℕ) → work.old ≡ area_holding slots used bytes →
+        work.new ≡ area_holding slots (λ t. if in_window (record { shut = shut; reopening = reopening }) t then value else used t) bytes }
 {
     let mut t = shut;
     while t < reopening {
@@ -180,13 +180,44 @@ pub fn set_window(work: &mut [u8], shut: u16, reopening: u16, value: u16)
 
 // A value written into the pair of each shut slot.
 pub fn set_shut(work: &mut [u8], x: Calendar, value: u16)
-    requires { CalendarInRange mill (held_windows x) × ReopensBy (length work.old / 2) (held_windows x) }
-    ensures { (n : ℕ) → ReopensBy n (held_windows x) → (used : ℕ → ℕ) (bytes : List ℕ) → work.old ≡ area_holding n used bytes →
-        work.new ≡ area_holding n (λ t. if is_open (held_windows x) t then used t else value) bytes }
+    requires { CalendarInRange (held_windows x) × (work_bytes ≤ length work.old) }
+    ensures { (used : ℕ → ℕ) (bytes : List ℕ) → work.old ≡ area_holding slots used bytes →
+        work.new ≡ area_holding slots (λ t. if is_open (held_windows x) t then used t else value) bytes }
 {
     let mut k: usize = 0;
     while k < x.count {
         set_window(work, x.shut[k], x.reopening[k], value);
         k = k + 1;
     }
+}
+
+// The flag of each slot of a window set.
+pub fn flag_window(flags: &mut [u8], shut: u16, reopening: u16)
+    requires { (shut ≤ reopening) × (reopening ≤ length flags.old) }
+    ensures { (t : ℕ) → open_by flags.new t ≡ (open_by flags.old t && not (in_window (record { shut = shut; reopening = reopening }) t)) }
+{
+    let mut slot = shut;
+    while slot < reopening {
+        flags[slot as usize] = 1;
+        slot = slot + 1;
+    }
+}
+
+// The flag of each shut slot set.
+pub fn set_flags(flags: &mut [u8], x: Calendar)
+    requires { CalendarInRange (held_windows x) × (flags.old ≡ replicate most_reopening 0) }
+    ensures { ((t : ℕ) → open_by flags.new t ≡ is_open (held_windows x) t) × (length flags.new ≡ most_reopening) }
+{
+    let mut k: usize = 0;
+    while k < x.count {
+        flag_window(flags, x.shut[k], x.reopening[k]);
+        k = k + 1;
+    }
+}
+
+// Whether a slot is open, by its flag; past the last flag every slot is.
+pub fn is_open(flags: &[u8], slot: usize) -> bool
+    ensures { result ≡ open_by flags.now slot }
+{
+    flags.len() <= slot || flags[slot] != 1
 }

@@ -10,7 +10,6 @@ use native.Mathlib.Omega.{arith}
 use lib.ListN.{length, get_or, set, drop, length-append, get_or-append}
 use lib.Seq.{drop-cons, get_or_at, set_at, append_snoc}
 use Rattle.rules.specs.Walks.{if◌then◌else◌, sum_to, max_to}
-use Rattle.rules.specs.Ranges.{mill}
 use Rattle.rules.specs.Book.{Job, Flow, JobInRange, FlowInRange, job_count, job_of, no_job, has_bit, precedes}
 use Rattle.rules.specs.Ideal.{duration, last_take, start_after, start_of, end_of, ends_below, path, take_of}
 use Rattle.rules.proofs.Laws.Sums.{sum-le}
@@ -34,7 +33,7 @@ module _ (x : FlowJobs) where
   job-at i h = list_at (job_of_values x) x.count 0 i no_job h ∙ ap (job_of_values x) (zero-add i)
 
   -- the ranges of a book's flow
-  pub input_of : (P : ℕ) → P ≤ 4096 → FlowInRange mill P (flow_from x) → ChainInput x
+  pub input_of : (P : ℕ) → P ≤ 4096 → FlowInRange P (flow_from x) → ChainInput x
   input_of P most range =
       record {
         count_most = rw count_of at range.jobs_most;

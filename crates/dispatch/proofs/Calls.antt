@@ -11,11 +11,10 @@ use lib.Seq.{sets, sets-eq}
 use lib.Dec.{ltb}
 use borrow.Author.Tests.{eq-eqb}
 use Rattle.rules.specs.declared.Verdict.TheVariants.{Pass}
-use Rattle.rules.specs.declared.Limits.{Limits}
 use Rattle.rules.specs.Walks.{if◌then◌else◌, join_from}
 use Rattle.rules.specs.Fields.{bytes_of}
 use Rattle.rules.specs.Answers.{none, list_accepted, list_refused}
-use Rattle.rules.specs.Ranges.{mill, Fits}
+use Rattle.rules.specs.Limits.{slots, work_bytes}
 use Rattle.rules.specs.Book.{Book, flow_count}
 use Rattle.rules.specs.Calendar.{calendar_of}
 use Rattle.rules.specs.Reading.{read, read_book, book_of, book_with}
@@ -25,9 +24,8 @@ use Rattle.rules.specs.Check.{table_fault, CheckOutcome, check_outcome, check_ca
 use Rattle.rules.specs.Dispatch.{in_list_order, list_length, list_bytes, list_outcome, dispatch_checked, dispatch_call}
 use Rattle.rules.proofs.Laws.Fields.{bytes-length, sets-append}
 use Rattle.rules.proofs.Reading.Passing.{calendar_of_book, read-passes}
-use Rattle.rules.proofs.Reading.Wider.{fits-within, book_wider}
 use Rattle.rules.proofs.Reading.SameUse.{with-same, rows_same}
-use Rattle.rules.proofs.Tables.TablePasses.{accepted-without, table_passes, table_wider}
+use Rattle.rules.proofs.Tables.TablePasses.{accepted-without}
 use Rattle.rules.proofs.Rows.WorkArea.{used-length, used-rest, used-cleared}
 use Rattle.rules.proofs.Tables.TableBytes.{rows-bytes-length}
 use Rattle.rules.proofs.Rows.ListOrder.{length-in_list_order}
@@ -38,43 +36,38 @@ use Rattle.dispatch.specs.Call.{list_head_bytes}
 use Rattle.dispatch.proofs.Tables.{rows_fill}
 
 -- ---- the check's number 0
-module _ (L : Limits) (fit : Fits L) (book calendar table area : List ℕ) (zero : (check_call L book calendar table area).answer.number ≡ 0) where
-  reads : read_book L book calendar ≡ read (book_with book calendar)
-  reads = check-reads L book calendar table area zero
+module _ (book calendar table area : List ℕ) (zero : (check_call book calendar table area).answer.number ≡ 0) where
+  reads : read_book book calendar ≡ read (book_with book calendar)
+  reads = check-reads book calendar table area zero
 
-  accepts : (table_fault L (book_with book calendar) table ≡ Pass) × (check_call L book calendar table area ≡ check_outcome L (book_with book calendar) table area Pass)
-      × (L.bytes ≤ length area)
-  accepts = call-accepts L book calendar table area (book_with book calendar) reads zero
+  accepts : (table_fault (book_with book calendar) table ≡ Pass) × (check_call book calendar table area ≡ check_outcome (book_with book calendar) table area Pass)
+      × (work_bytes ≤ length area)
+  accepts = call-accepts book calendar table area (book_with book calendar) reads zero
 
   -- what is accepted with the calendar is accepted without it
-  table-accepted : table_fault L (book_of book) table ≡ Pass
-  table-accepted = accepted-without L (calendar_of calendar) (book_of book) table accepts.0 (calendar_of_book book)
-
   pub number-accepts : Accepted book table
   number-accepts = record {
-    book_passes = book_wider L mill (fits-within L fit) book (read-passes L book calendar (book_with book calendar) reads).book_passes;
-    table_passes = table_wider L mill (fits-within L fit) (book_of book) table table-accepted;
+    book_passes = (read-passes book calendar (book_with book calendar) reads).book_passes;
+    table_passes = accepted-without (calendar_of calendar) (book_of book) table accepts.0 (calendar_of_book book);
   }
 
-  pub area_used : (check_call L book calendar table area).area ≡ work_used L.slots (accepted_rows book table) area
+  pub area_used : (check_call book calendar table area).area ≡ work_used slots (accepted_rows book table) area
   unfolding check_outcome
   area_used =
       ap (λ (o : CheckOutcome). o.area) accepts.1
-      ∙ ap (λ (rows : List Row). work_used L.slots rows area)
+      ∙ ap (λ (rows : List Row). work_used slots rows area)
       (rows_same (book_with book calendar) (book_of book) (with-same (calendar_of calendar) (book_of book)) table)
 
-  pub left-in_use : {work : List ℕ} → work ≡ (check_call L book calendar table area).area → InUse L.slots book table work
+  pub left-in_use : {work : List ℕ} → work ≡ (check_call book calendar table area).area → InUse book table work
   unfolding work_used
   left-in_use {work} e =
-      let is : work ≡ work_used L.slots (accepted_rows book table) area = e ∙ area_used in
+      let is : work ≡ work_used slots (accepted_rows book table) area = e ∙ area_used in
       record {
-        few = omega arith;
-        rows_in = λ k l. ((table_passes (book_of book) table L table-accepted).rows_pass.each_row k l).slot_in;
-        room = omega (arith, accepts.2, ap length is ∙ used-length L.slots (accepted_rows book table) area (omega (arith, accepts.2)));
+        room = omega (arith, accepts.2, ap length is ∙ used-length slots (accepted_rows book table) area accepts.2);
         used =
             is
-            ∙ ap (join_from (λ t. bytes_of 2 (used_in (accepted_rows book table) t)) L.slots 0 ++◌)
-            (sym (ap (drop (2 * L.slots)) is ∙ used-rest L.slots (accepted_rows book table) area));
+            ∙ ap (join_from (λ t. bytes_of 2 (used_in (accepted_rows book table) t)) slots 0 ++◌)
+            (sym (ap (drop (2 * slots)) is ∙ used-rest slots (accepted_rows book table) area));
       }
 
 -- ---- the length, and the bytes
@@ -111,12 +104,12 @@ list_stores b rows out size e room =
     ∙ ap (λ (k : ℕ). bytes_of 4 k ++ bytes_of 1 1 ++ bytes_of 2 b.processors ++ rows_bytes (in_list_order rows) ++ drop size out) e
 
 -- ---- the outcome
-module _ (L : Limits) (b : Book) (rows : List Row) (out area left : List ℕ) where
+module _ (b : Book) (rows : List Row) (out area left : List ℕ) where
   -- where the area was left by the check, clearing it again gives what clearing it before gives
-  pub outcome-same : left ≡ work_used L.slots rows area → list_outcome L b rows out area left ≡ list_outcome L b rows out left left
+  pub outcome-same : left ≡ work_used slots rows area → list_outcome b rows out area left ≡ list_outcome b rows out left left
   unfolding list_outcome
   outcome-same e =
-      let cleared : work_zero L.slots area ≡ work_zero L.slots left = sym (ap (work_zero L.slots) e ∙ used-cleared L.slots rows area) in
+      let cleared : work_zero slots area ≡ work_zero slots left = sym (ap (work_zero slots) e ∙ used-cleared slots rows area) in
       ap (λ (w : List ℕ).
       if ltb (length out) (list_length rows)
       then record { answer = list_refused 13 none none; output = out; area = w }
@@ -126,19 +119,19 @@ pub positive : (n : ℕ) → (n ≡ 0 → ⊥) → 0 < n
 positive zero ne = absurd (ne refl)
 positive (suc n) ne = omega arith
 
-pub call-refused : (L : Limits) → Fits L → (book calendar table out area : List ℕ) → 0 < (check_call L book calendar table area).answer.number →
-    dispatch_call L book calendar table out area ≡ record {
-      answer = list_refused (check_call L book calendar table area).answer.number (check_call L book calendar table area).answer.flow
-          (check_call L book calendar table area).answer.job;
+pub call-refused : (book calendar table out area : List ℕ) → 0 < (check_call book calendar table area).answer.number →
+    dispatch_call book calendar table out area ≡ record {
+      answer = list_refused (check_call book calendar table area).answer.number (check_call book calendar table area).answer.flow
+          (check_call book calendar table area).answer.job;
       output = out;
-      area = (check_call L book calendar table area).area;
+      area = (check_call book calendar table area).area;
     }
-call-refused L fit = (dispatches L fit).check_first
+call-refused = dispatches.check_first
 
-pub call-listed : (L : Limits) → Fits L → (book calendar table out area : List ℕ) → (check_call L book calendar table area).answer.number ≡ 0 →
-    dispatch_call L book calendar table out area
-    ≡ list_outcome L (book_of book) (accepted_rows book table) out (check_call L book calendar table area).area (check_call L book calendar table area).area
+pub call-listed : (book calendar table out area : List ℕ) → (check_call book calendar table area).answer.number ≡ 0 →
+    dispatch_call book calendar table out area
+    ≡ list_outcome (book_of book) (accepted_rows book table) out (check_call book calendar table area).area (check_call book calendar table area).area
 unfolding dispatch_call dispatch_checked
-call-listed L fit book calendar table out area z =
-    rw (eq-eqb (check_call L book calendar table area).answer.number 0 z)
-    (outcome-same L (book_of book) (accepted_rows book table) out area (check_call L book calendar table area).area (area_used L fit book calendar table area z))
+call-listed book calendar table out area z =
+    rw (eq-eqb (check_call book calendar table area).answer.number 0 z)
+    (outcome-same (book_of book) (accepted_rows book table) out area (check_call book calendar table area).area (area_used book calendar table area z))

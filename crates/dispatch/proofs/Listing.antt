@@ -7,9 +7,9 @@ use Prim.Native.Nat.{ℕ, suc, ◌+◌, ◌-◌, ◌≤◌, ◌<◌}
 use native.Mathlib.Omega.{arith}
 use mathlib.Core.List.Memᴰ
 use mathlib.Core.List.{List, [], ◌∷◌, ◌++◌, append-nil}
-use lib.ListN.{length, length-append, get_or}
+use lib.ListN.{length, length-append}
 use Rattle.rules.specs.Walks.{join_from}
-use Rattle.rules.specs.Ranges.{mill}
+use Rattle.rules.specs.Limits.{slots}
 use Rattle.rules.specs.Book.{Book, flow_count}
 use Rattle.rules.specs.Reading.{book_of}
 use Rattle.rules.specs.Rows.{Row}
@@ -100,58 +100,60 @@ module _ (book table : List ℕ) (accepted : Accepted book table) where
   flows = flow_count b
 
   -- the slots one after the other are the list
-  all_listed : (n : ℕ) → ((k : ℕ) → k < length rows → (get_or rows k no_row).slot < n) → rows_below rows flows n ≡ in_list_order rows
-  all_listed n each_in =
-      rising_unique order.Listed listed_asymmetric (rows_below rows flows n) (in_list_order rows)
-      (below-rising b rows (rows-rising book table accepted) flows n)
+  pub all_listed : rows_below rows flows slots ≡ in_list_order rows
+  all_listed =
+      rising_unique order.Listed listed_asymmetric (rows_below rows flows slots) (in_list_order rows)
+      (below-rising b rows (rows-rising book table accepted) flows slots)
       (list-rising b rows (rows-rising book table accepted))
-      (λ r m. in_list rows r (below_in b rows (rows-rising book table accepted) flows n r m))
+      (λ r m. in_list rows r (below_in b rows (rows-rising book table accepted) flows slots r m))
       (λ r m. inside r (list_in rows r m))
     where
-      inside : (r : Row) → r ∈ rows → r ∈ rows_below rows flows n
+      inside : (r : Row) → r ∈ rows → r ∈ rows_below rows flows slots
       inside r m =
           let w = in-at no_row m in
           let p = row-passes book table accepted w.0 w.1 in
-          in-below b rows (rows-rising book table accepted) flows n r m
+          in-below b rows (rows-rising book table accepted) flows slots r m
           (omega (arith, p.flow_in_is, ap (λ (x : Row). x.flow) w.2))
-          (omega (arith, each_in w.0 w.1, ap (λ (x : Row). x.slot) w.2))
+          (omega (arith, p.slot_in, ap (λ (x : Row). x.slot) w.2))
 
   -- up to a slot they are the front of it
-  front : (t : ℕ) → t ≤ mill.slots → in_list_order rows ≡ rows_below rows flows t ++ join_from (rows_in rows flows) (mill.slots - t) t
+  front : (t : ℕ) → t ≤ slots → in_list_order rows ≡ rows_below rows flows t ++ join_from (rows_in rows flows) (slots - t) t
   unfolding rows_below
   front t l =
-      let e : t + (mill.slots - t) ≡ mill.slots = omega arith in
+      let e : t + (slots - t) ≡ slots = omega arith in
       let z : 0 + t ≡ t = omega arith in
-      sym (all_listed mill.slots (λ k l. (row-passes book table accepted k l).slot_in))
+      sym all_listed
       ∙ ap (λ (n : ℕ). join_from (rows_in rows flows) n 0) (sym e)
-      ∙ join-split (rows_in rows flows) t (mill.slots - t) 0
-      ∙ ap (λ (n : ℕ). join_from (rows_in rows flows) t 0 ++ join_from (rows_in rows flows) (mill.slots - t) n) z
+      ∙ join-split (rows_in rows flows) t (slots - t) 0
+      ∙ ap (λ (n : ℕ). join_from (rows_in rows flows) t 0 ++ join_from (rows_in rows flows) (slots - t) n) z
 
-  front_length : (t : ℕ) → t ≤ mill.slots → length (rows_below rows flows t) ≤ length rows
+  front_length : (t : ℕ) → t ≤ slots → length (rows_below rows flows t) ≤ length rows
   front_length t l =
-      omega (arith, ap length (front t l) ∙ length-append (rows_below rows flows t) (join_from (rows_in rows flows) (mill.slots - t) t), length-in_list_order rows)
+      omega (arith, ap length (front t l) ∙ length-append (rows_below rows flows t) (join_from (rows_in rows flows) (slots - t) t), length-in_list_order rows)
 
   -- a front as long as the list is the list
-  pub whole-front : (t : ℕ) → t ≤ mill.slots → length rows ≤ length (rows_below rows flows t) → rows_below rows flows t ≡ in_list_order rows
+  pub whole-front : (t : ℕ) → t ≤ slots → length rows ≤ length (rows_below rows flows t) → rows_below rows flows t ≡ in_list_order rows
   whole-front t l h =
-      let e = ap length (front t l) ∙ length-append (rows_below rows flows t) (join_from (rows_in rows flows) (mill.slots - t) t) in
-      let z : length (join_from (rows_in rows flows) (mill.slots - t) t) ≡ 0 = omega (arith, e, length-in_list_order rows) in
-      sym (append-nil (rows_below rows flows t)) ∙ ap (rows_below rows flows t ++◌) (sym (no_rows (join_from (rows_in rows flows) (mill.slots - t) t) z)) ∙ sym (front t l)
+      let e = ap length (front t l) ∙ length-append (rows_below rows flows t) (join_from (rows_in rows flows) (slots - t) t) in
+      let z : length (join_from (rows_in rows flows) (slots - t) t) ≡ 0 = omega (arith, e, length-in_list_order rows) in
+      sym (append-nil (rows_below rows flows t)) ∙ ap (rows_below rows flows t ++◌) (sym (no_rows (join_from (rows_in rows flows) (slots - t) t) z)) ∙ sym (front t l)
 
-  -- while the list is longer, a slot is left of those that the rows stand in
-  pub slot-left : (n : ℕ) → ((k : ℕ) → k < length rows → (get_or rows k no_row).slot < n) → (t : ℕ) → length (rows_below rows flows t) < length rows → t < n
-  slot-left n each_in t h = go (lt-or_ge t n)
+  -- while the list is longer, a slot is left
+  pub slot-left : (t : ℕ) → t ≤ slots → length (rows_below rows flows t) < length rows → t < slots
+  slot-left t l h = go (lt-or_ge t slots)
     where
-      go : (t < n) ⊎ (n ≤ t) → t < n
+      go : (t < slots) ⊎ (slots ≤ t) → t < slots
       go (inl m) = m
-      go (inr m) = absurd (omega (arith, ap length (all_listed t (λ k l. omega (arith, each_in k l))), length-in_list_order rows))
+      go (inr m) =
+          let e : t ≡ slots = omega arith in
+          absurd (omega (arith, ap (λ (n : ℕ). length (rows_below rows flows n)) e ∙ ap length all_listed ∙ length-in_list_order rows))
 
   pub below_next : (t : ℕ) → rows_below rows flows (suc t) ≡ rows_below rows flows t ++ rows_in rows flows t
   unfolding rows_below
   below_next t = join_last (rows_in rows flows) t
 
   -- there is room for a slot's rows behind those of the slots before
-  pub slot-room : (t : ℕ) → t < mill.slots → length (rows_below rows flows t) + length (rows_in rows flows t) ≤ length rows
+  pub slot-room : (t : ℕ) → t < slots → length (rows_below rows flows t) + length (rows_in rows flows t) ≤ length rows
   slot-room t l = omega (arith, front_length (suc t) l, ap length (below_next t) ∙ length-append (rows_below rows flows t) (rows_in rows flows t))
 
 -- and in the slot for a flow's rows behind those of the flows before

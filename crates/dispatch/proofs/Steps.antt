@@ -10,7 +10,7 @@ use lib.Dec.{eqb}
 use borrow.Author.Tests.{eqb-true, eqb-false, eq-eqb}
 use Rattle.rules.specs.Fields.{AllBytes, field}
 use Rattle.rules.specs.Walks.{join_from}
-use Rattle.rules.specs.Ranges.{mill}
+use Rattle.rules.specs.Limits.{slots}
 use Rattle.rules.specs.Book.{Book, flow_count}
 use Rattle.rules.specs.Reading.{book_of}
 use Rattle.rules.specs.Rows.{Row, used_in}
@@ -143,7 +143,7 @@ listed-append {xs} {ys} {to} {next} {end} {out} p q = record {
 }
 
 -- ---- a flow in a slot
-module _ (book table : List ℕ) (accepted : Accepted book table) (f t at : ℕ) (a_slot : t < mill.slots)
+module _ (book table : List ℕ) (accepted : Accepted book table) (f t at : ℕ) (a_slot : t < slots)
     (cursor : CursorAt (book_of book) table f t at) where
   -- a run that is copied lists the flow's rows in the slot
   pub run-listed : (to next : ℕ) (out out' : List ℕ) → AllBytes table → RunCopied table f t at to out out' next →
@@ -171,15 +171,15 @@ module _ (book table : List ℕ) (accepted : Accepted book table) (f t at : ℕ)
     kept-listed to out = rw none-there (listed-none to out)
 
 -- ---- a slot that is not in use
-module _ (book table : List ℕ) (accepted : Accepted book table) (t : ℕ) (a_slot : t < mill.slots) where
+module _ (book table : List ℕ) (accepted : Accepted book table) (t : ℕ) (a_slot : t < slots) where
   abbrev rows : List Row
   rows = accepted_rows book table
 
   -- the pair of a slot in the work area is its use
-  pub pair-used : (n : ℕ) (work : List ℕ) → t < n → InUse n book table work → field 2 work (2 * t) ≡ used_in rows t
-  pair-used n work inside p =
+  pub pair-used : (work : List ℕ) → InUse book table work → field 2 work (2 * t) ≡ used_in rows t
+  pair-used work p =
       ap (λ (w : List ℕ). field 2 w (2 * t)) p.used
-      ∙ used_pair n rows work t inside (omega (arith, use-within book table accepted t, (in_range book table accepted).processors_most))
+      ∙ used_pair slots rows work t a_slot (omega (arith, use-within book table accepted t, (in_range book table accepted).processors_most))
 
   module _ (unused : used_in rows t ≡ 0) where
     no-row : (k : ℕ) → k < length rows → (get_or rows k no_row).slot ≡ t → ⊥

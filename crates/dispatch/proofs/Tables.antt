@@ -8,7 +8,6 @@ use lib.ListN.{length, get_or, take, drop, length-drop}
 use lib.Seq.{ext_get_or, get_or-take, get_or-drop, length-take-le}
 use Rattle.rules.specs.Walks.{list_from}
 use Rattle.rules.specs.Fields.{byte, AllBytes}
-use Rattle.rules.specs.Ranges.{mill}
 use Rattle.rules.specs.Calendar.{is_open}
 use Rattle.rules.specs.Book.{Book, InRange}
 use Rattle.rules.specs.Reading.{book_of}
@@ -36,21 +35,21 @@ module _ (book table : List ℕ) (accepted : Accepted book table) where
   abbrev rows : List Row
   rows = accepted_rows book table
 
-  pub in_range : InRange mill b
-  in_range = pass_in-range mill book accepted.book_passes
+  pub in_range : InRange b
+  in_range = pass_in-range book accepted.book_passes
 
-  passes : TablePasses mill b table
-  passes = table_passes b table mill accepted.table_passes
+  passes : TablePasses b table
+  passes = table_passes b table accepted.table_passes
 
-  pub row-passes : (k : ℕ) → k < length rows → RowPasses mill b (is_open b.calendar) rows k
+  pub row-passes : (k : ℕ) → k < length rows → RowPasses b (is_open b.calendar) rows k
   row-passes = passes.rows_pass.each_row
 
   -- at most P in a slot
   pub use-within : (t : ℕ) → used_in rows t ≤ b.processors
-  use-within = passing_use mill b in_range rows passes.rows_pass
+  use-within = passing_use b in_range rows passes.rows_pass
 
   pub rows-rising : Rising (Before b) rows
-  rows-rising = passing-rising mill b in_range rows passes.rows_pass
+  rows-rising = passing-rising b in_range rows passes.rows_pass
 
   pub rows_fill : length table ≡ table_head b + row_length * length rows
   rows_fill = table_length_is b table passes.head_passes

@@ -15,8 +15,7 @@ list_head_bytes bytes processors = bytes_of 4 bytes ++ bytes_of 1 1 ++ bytes_of 
 -- bytes can hold, has room
 pub record ListAsked (book table work : List ℕ) (flows size room : ℕ) : Type 0 where
   pub accepted : Accepted book table
-  pub slots : ℕ
-  pub in_use : InUse slots book table work
+  pub in_use : InUse book table work
   pub flows_are : flows ≡ flow_count (book_of book)
   pub size_is : size ≡ list_length (accepted_rows book table)
   pub size_fits : size < 4294967296

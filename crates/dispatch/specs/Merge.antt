@@ -3,7 +3,7 @@ use Rattle.std.specs.Prelude.{◌≡◌, ℕ, suc, ◌+◌, ◌*◌, ◌≤◌, 
 use Rattle.std.proofs.lemmas.List.Edits.{sets}
 use Rattle.rules.specs.declared.Verdict.TheVariants.{Pass}
 use Rattle.rules.specs.Walks.{if◌then◌else◌, join_from}
-use Rattle.rules.specs.Ranges.{mill}
+use Rattle.rules.specs.Limits.{slots, work_bytes}
 use Rattle.rules.specs.Book.{Book, flow_count}
 use Rattle.rules.specs.Reading.{book_of, book_fault}
 use Rattle.rules.specs.Rows.{Row, work_used}
@@ -13,21 +13,19 @@ use Rattle.rules.specs.Service.{served_before}
 use Rattle.dispatch.specs.declared.merge.Span.{Span}
 use Rattle.dispatch.specs.Runs.{due_at}
 
--- the check accepts the table, by the mill's limits at least
+-- the check accepts the table
 pub record Accepted (book table : List ℕ) : Type 0 where
-  pub book_passes : book_fault mill book ≡ Pass
-  pub table_passes : table_fault mill (book_of book) table ≡ Pass
+  pub book_passes : book_fault book ≡ Pass
+  pub table_passes : table_fault (book_of book) table ≡ Pass
 
 -- its rows
 abbrev pub accepted_rows : List ℕ → List ℕ → List Row
 accepted_rows book table = table_rows (book_of book) table
 
--- the work area of n slots is as the check leaves it, which accepts no row past them
-pub record InUse (n : ℕ) (book table work : List ℕ) : Type 0 where
-  pub few : n ≤ mill.slots
-  pub each_in : (k : ℕ) → k < length (accepted_rows book table) → (get_or (accepted_rows book table) k no_row).slot < n
-  pub room : 2 * n ≤ length work
-  pub used : work ≡ work_used n (accepted_rows book table) work
+-- the work area is as the check leaves it
+pub record InUse (book table work : List ℕ) : Type 0 where
+  pub room : work_bytes ≤ length work
+  pub used : work ≡ work_used slots (accepted_rows book table) work
 
 -- ---- the rows slot by slot, flow by flow
 -- the rows that pass a test
@@ -89,7 +87,7 @@ pub record FirstRow (b : Book) (rows : List Row) (f c : ℕ) : Type 0 where
 -- what a routine that lists rows of a slot asks: the cursors of the flows below n are past the slot, the others before it
 pub record Ahead (book table : List ℕ) (slot n : ℕ) (ats dues : List ℕ) : Type 0 where
   pub accepted : Accepted book table
-  pub a_slot : slot < mill.slots
+  pub a_slot : slot < slots
   pub cursors : Cursors (book_of book) table slot n ats dues
 
 -- these rows are written from `to` on, and `next` is the offset behind them

@@ -2,14 +2,13 @@
 ghost use Rattle.std.specs.Prelude.{◌≡◌, ◌≤◌, ◌++◌, length, drop};
 ghost use Rattle.std.proofs.lemmas.List.Edits.{sets};
 ghost use Rattle.rules.specs.Answers.{listRefused};
-ghost use Rattle.rules.specs.Ranges.{Fits};
 ghost use Rattle.rules.specs.Reading.{book_of};
 ghost use Rattle.rules.specs.Dispatch.{list_bytes, list_outcome, dispatch_call};
 ghost use Rattle.dispatch.specs.Merge.{Accepted, accepted_rows, InUse};
 ghost use Rattle.dispatch.specs.Call.{list_head_bytes, ListAsked, Leaves};
 
 use book::bytes;
-use rules::{Limits, ListAnswer};
+use rules::ListAnswer;
 
 pub mod merge;
 pub mod run;
@@ -62,20 +61,14 @@ pub fn write_list(book: &[u8], table: &[u8], work: &[u8], out: &mut [u8], flows:
 }
 
 // 13 where the list of an accepted table is longer than the output; otherwise the list.
-pub fn list_accepted(
-    book: &[u8],
-    table: &[u8],
-    output: &mut [u8],
-    work: &mut [u8],
-    limits: Limits,
-) -> ListAnswer
-    requires { Accepted book.now table.now × InUse limits.slots book.now table.now work.old }
-    ensures { Leaves (list_outcome limits (book_of book.now) (accepted_rows book.now table.now) output.old work.old work.old) result output.new work.new }
+pub fn list_accepted(book: &[u8], table: &[u8], output: &mut [u8], work: &mut [u8]) -> ListAnswer
+    requires { Accepted book.now table.now × InUse book.now table.now work.old }
+    ensures { Leaves (list_outcome (book_of book.now) (accepted_rows book.now table.now) output.old work.old work.old) result output.new work.new }
 {
     let flows = bytes::wide(book[7]);
     let size = table.len() - 2 * flows - 1;
     if output.len() < size {
-        bytes::clear(work, limits.slots);
+        bytes::clear(work);
         return refusal(13, 255, 255);
     }
     write_list(book, table, work, output, flows, size);
@@ -87,21 +80,19 @@ pub fn list_accepted(
     }
 }
 
-// The whole outcome of a call by a caller's limits, for every book, calendar, table, output and work area: the check's refusals first.
+// The whole outcome of a call, for every book, calendar, table, output and work area: the check's refusals first.
 pub fn dispatch_table(
     book: &[u8],
     calendar: &[u8],
     table: &[u8],
     output: &mut [u8],
     work: &mut [u8],
-    limits: Limits,
 ) -> ListAnswer
-    requires { Fits limits }
-    ensures { Leaves (dispatch_call limits book.now calendar.now table.now output.old work.old) result output.new work.new }
+    ensures { Leaves (dispatch_call book.now calendar.now table.now output.old work.old) result output.new work.new }
 {
-    let checked = table_check::check_table(book, calendar, table, work, limits);
+    let checked = table_check::check_table(book, calendar, table, work);
     if checked.number != 0 {
         return refusal(checked.number, checked.flow, checked.job);
     }
-    list_accepted(book, table, output, work, limits)
+    list_accepted(book, table, output, work)
 }

@@ -1,5 +1,5 @@
 // The merge of a table's rows: for each slot that is used, each flow in book order lists its rows of that slot and moves its cursor.
-ghost use Rattle.std.specs.Prelude.{◌≡◌, ℕ, ◌+◌, ◌<◌, ◌≤◌, length};
+ghost use Rattle.std.specs.Prelude.{◌≡◌, ◌+◌, ◌<◌, ◌≤◌, length};
 ghost use Rattle.std.proofs.lemmas.List.Edits.{sets};
 ghost use Rattle.rules.specs.Book.{flow_count};
 ghost use Rattle.rules.specs.Reading.{book_of};
@@ -143,7 +143,7 @@ pub fn list_used(
     flows: usize,
     slot: u16,
 ) -> usize
-    requires { Ahead book.now table.now slot 0 ats.old dues.old × (length jobs.now ≡ 64) × ((n : ℕ) × (slot < n) × InUse n book.now table.now work.now) × (flows ≡ flow_count (book_of book.now)) × (offset_after to (rows_in (accepted_rows book.now table.now) flows slot) ≤ length out.old) }
+    requires { Ahead book.now table.now slot 0 ats.old dues.old × (length jobs.now ≡ 64) × InUse book.now table.now work.now × (flows ≡ flow_count (book_of book.now)) × (offset_after to (rows_in (accepted_rows book.now table.now) flows slot) ≤ length out.old) }
     ensures { SlotListed book.now table.now slot to out.old out.new ats.new dues.new result }
 {
     if bytes::read16(work, 2 * bytes::wide16(slot)) == 0 {
@@ -164,7 +164,7 @@ pub fn merge(
     flows: usize,
     size: usize,
 )
-    requires { Ahead book.now table.now 0 0 ats.old dues.old × (length jobs.now ≡ 64) × ((n : ℕ) × InUse n book.now table.now work.now) × (flows ≡ flow_count (book_of book.now)) × (size ≡ list_length (accepted_rows book.now table.now)) × (size ≤ length out.old) }
+    requires { Ahead book.now table.now 0 0 ats.old dues.old × (length jobs.now ≡ 64) × InUse book.now table.now work.now × (flows ≡ flow_count (book_of book.now)) × (size ≡ list_length (accepted_rows book.now table.now)) × (size ≤ length out.old) }
     ensures { out.new ≡ sets out.old 7 (rows_bytes (in_list_order (accepted_rows book.now table.now))) }
 {
     let mut to: usize = 7;

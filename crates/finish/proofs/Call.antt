@@ -8,9 +8,8 @@ use lib.ListN.{length}
 use borrow.Author.Tests.{lt-ltb, le-ltb, le-leb, lt-leb}
 use Rattle.rules.specs.declared.Verdict.TheVariants.{Pass, Refused}
 use Rattle.rules.specs.declared.FinishAnswer.{FinishAnswer}
-use Rattle.rules.specs.declared.Limits.{Limits}
 use Rattle.rules.specs.Answers.{none, finish_accepted, finish_refused}
-use Rattle.rules.specs.Ranges.{mill}
+use Rattle.rules.specs.Limits.{slots, work_bytes}
 use Rattle.rules.specs.Calendar.{Calendar, calendar_of, calendar_fault, CalendarInRange}
 use Rattle.rules.specs.Book.{Book, with_calendar, flow_count}
 use Rattle.rules.specs.Reading.{book_of, book_fault, book_with}
@@ -28,32 +27,32 @@ use Rattle.finish.specs.Flows.{PlacedUpTo}
 use Rattle.finish.specs.Call.{outcome_up_to, Leaves}
 
 -- ---- what is left of a book and a calendar that pass: the area was cleared before placing, and then held the maintenance until the flows were placed
-pub maintenance-over : (n : ℕ) (b : Book) (area area₀ area₁ : List ℕ) → area₀ ≡ work_zero n area → area₁ ≡ work_used n (shut_rows b) area₀ →
-    area₁ ≡ work_used n (shut_rows b) area
-maintenance-over n b area area₀ area₁ zeros e = e ∙ ap (work_used n (shut_rows b)) zeros ∙ used-over-cleared n (shut_rows b) area
+pub maintenance-over : (b : Book) (area area₀ area₁ : List ℕ) → area₀ ≡ work_zero slots area → area₁ ≡ work_used slots (shut_rows b) area₀ →
+    area₁ ≡ work_used slots (shut_rows b) area
+maintenance-over b area area₀ area₁ zeros e = e ∙ ap (work_used slots (shut_rows b)) zeros ∙ used-over-cleared slots (shut_rows b) area
 
-module _ (L : Limits) (b : Book) (f k : ℕ) (area area₁ area₂ area₃ : List ℕ) (p : Placement) (range : CalendarInRange mill b.calendar) (named : f < flow_count b)
-    (count : k ≡ up_to_named b f) (held : area₁ ≡ work_used L.slots (shut_rows b) area) (placed : PlacedUpTo L.slots b k area₁ area₂ p)
-    (set : ShutTo L.slots b.calendar 0 area₂ area₃) where
-  pub leaves-finish : k ≤ p.position → Leaves (outcome_up_to L b f area) (finish_accepted p.finish) area₃
+module _ (b : Book) (f k : ℕ) (area area₁ area₂ area₃ : List ℕ) (p : Placement) (range : CalendarInRange b.calendar) (named : f < flow_count b)
+    (count : k ≡ up_to_named b f) (held : area₁ ≡ work_used slots (shut_rows b) area) (placed : PlacedUpTo b k area₁ area₂ p)
+    (set : ShutTo b.calendar 0 area₂ area₃) where
+  pub leaves-finish : k ≤ p.position → Leaves (outcome_up_to b f area) (finish_accepted p.finish) area₃
   unfolding finish_outcome
   leaves-finish l = go placed
     where
-      go : PlacedUpTo L.slots b k area₁ area₂ p → Leaves (outcome_up_to L b f area) (finish_accepted p.finish) area₃
+      go : PlacedUpTo b k area₁ area₂ p → Leaves (outcome_up_to b f area) (finish_accepted p.finish) area₃
       go (inr s) = absurd (omega (arith, s.some))
       go (inl a) =
           let all : p.position ≡ up_to_named b f = a.all ∙ count in
           let so_far_lem = a.so_far_lem in
           let last : p.finish ≡ finish_of so_far_lem.rows f = so_far_lem.finish (position b f) all ∙ ap (finish_of so_far_lem.rows) (served-position b f named) in
           rw (← all, so_far_lem.stands.placed)
-          (record { answers = ap finish_accepted last; area_left = flows-left L.slots b area area₁ area₂ area₃ range held set so_far_lem.stands })
+          (record { answers = ap finish_accepted last; area_left = flows-left b area area₁ area₂ area₃ range held set so_far_lem.stands })
 
   pub leaves-infeasible : p.position < k → (answer : FinishAnswer) (g : ℕ) (area₄ : List ℕ) → answer ≡ finish_refused 12 g none → g ≡ served_at b p.position →
-      area₄ ≡ work_zero L.slots area₃ → Leaves (outcome_up_to L b f area) answer area₄
+      area₄ ≡ work_zero slots area₃ → Leaves (outcome_up_to b f area) answer area₄
   unfolding finish_outcome
   leaves-infeasible l answer g area₄ said e zeros = go placed
     where
-      go : PlacedUpTo L.slots b k area₁ area₂ p → Leaves (outcome_up_to L b f area) answer area₄
+      go : PlacedUpTo b k area₁ area₂ p → Leaves (outcome_up_to b f area) answer area₄
       go (inl a) = absurd (omega (arith, a.all))
       go (inr s) =
           let rest : suc p.position + (k - suc p.position) ≡ up_to_named b f = omega (arith, count) in
@@ -61,37 +60,37 @@ module _ (L : Limits) (b : Book) (f k : ℕ) (area area₁ area₂ area₃ : Lis
           let all : place_first b (up_to_named b f) ≡ infeasible (served_at b p.position) = rw rest at stays in
           rw all (record {
             answers = said ∙ ap (λ (h : ℕ). finish_refused 12 h none) e;
-            area_left = zeros ∙ nothing_left L.slots b area area₁ area₂ area₃ range held set s.stopped.others s.stopped.area_used;
+            area_left = zeros ∙ nothing_left b area area₁ area₂ area₃ range held set s.stopped.others s.stopped.area_used;
           })
 
 -- ---- the outcome of a call
-module _ (L : Limits) (s calendar area : List ℕ) (f : ℕ) where
-  pub call-refused : (n g j : ℕ) → book_fault L s ≡ Refused n g j → finish_call L s calendar f area ≡ record { answer = finish_refused n g j; area = area }
+module _ (s calendar area : List ℕ) (f : ℕ) where
+  pub call-refused : (n g j : ℕ) → book_fault s ≡ Refused n g j → finish_call s calendar f area ≡ record { answer = finish_refused n g j; area = area }
   unfolding finish_call input_fault finish_reading
   call-refused n g j e = rw e refl
 
-  pub call_unknown : book_fault L s ≡ Pass → flow_count (book_of s) ≤ f → finish_call L s calendar f area ≡ record { answer = finish_refused 23 none none; area = area }
+  pub call_unknown : book_fault s ≡ Pass → flow_count (book_of s) ≤ f → finish_call s calendar f area ≡ record { answer = finish_refused 23 none none; area = area }
   unfolding finish_call input_fault unknown_flow finish_reading
   call_unknown e l = rw (e, le-leb (flow_count (book_of s)) f l) refl
 
-  module _ (e : book_fault L s ≡ Pass) (named : f < flow_count (book_of s)) where
-    pub call-refused-calendar : (n g j : ℕ) → calendar_fault L calendar ≡ Refused n g j →
-        finish_call L s calendar f area ≡ record { answer = finish_refused n g j; area = area }
+  module _ (e : book_fault s ≡ Pass) (named : f < flow_count (book_of s)) where
+    pub call-refused-calendar : (n g j : ℕ) → calendar_fault calendar ≡ Refused n g j →
+        finish_call s calendar f area ≡ record { answer = finish_refused n g j; area = area }
     unfolding finish_call input_fault unknown_flow finish_reading
     call-refused-calendar n g j d = rw (e, lt-leb (flow_count (book_of s)) f named, d) refl
 
-    module _ (d : calendar_fault L calendar ≡ Pass) where
-      pub call-short : length area < L.bytes → finish_call L s calendar f area ≡ record { answer = finish_refused 11 none none; area = area }
+    module _ (d : calendar_fault calendar ≡ Pass) where
+      pub call-short : length area < work_bytes → finish_call s calendar f area ≡ record { answer = finish_refused 11 none none; area = area }
       unfolding finish_call input_fault unknown_flow finish_reading
-      call-short l = rw (e, lt-leb (flow_count (book_of s)) f named, d, lt-ltb (length area) L.bytes l) refl
+      call-short l = rw (e, lt-leb (flow_count (book_of s)) f named, d, lt-ltb (length area) work_bytes l) refl
 
-      call_passing : L.bytes ≤ length area → finish_call L s calendar f area ≡ outcome_up_to L (book_with s calendar) f area
+      call_passing : work_bytes ≤ length area → finish_call s calendar f area ≡ outcome_up_to (book_with s calendar) f area
       unfolding finish_call input_fault unknown_flow finish_reading
-      call_passing l = rw (e, lt-leb (flow_count (book_of s)) f named, d, le-ltb (length area) L.bytes l) refl
+      call_passing l = rw (e, lt-leb (flow_count (book_of s)) f named, d, le-ltb (length area) work_bytes l) refl
 
-      pub call-placed : (c : Calendar) → c ≡ calendar_of calendar → L.bytes ≤ length area →
-          finish_call L s calendar f area ≡ outcome_up_to L (with_calendar c (book_of s)) f area
-      call-placed c q l = call_passing l ∙ ap (λ (k : Calendar). outcome_up_to L (with_calendar k (book_of s)) f area) (sym q)
+      pub call-placed : (c : Calendar) → c ≡ calendar_of calendar → work_bytes ≤ length area →
+          finish_call s calendar f area ≡ outcome_up_to (with_calendar c (book_of s)) f area
+      call-placed c q l = call_passing l ∙ ap (λ (k : Calendar). outcome_up_to (with_calendar k (book_of s)) f area) (sym q)
 
 -- ---- what a refused call leaves
 pub leaves : (o : FinishOutcome) (answer : FinishAnswer) (area : List ℕ) → o ≡ record { answer = answer; area = area } →

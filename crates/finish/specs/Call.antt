@@ -1,14 +1,13 @@
 -- What a call for the finish of a flow leaves. Assumes nothing.
 use Rattle.std.specs.Prelude.{◌≡◌, ℕ, List}
 use Rattle.rules.specs.declared.FinishAnswer.{FinishAnswer}
-use Rattle.rules.specs.declared.Limits.{Limits}
 use Rattle.rules.specs.Book.{Book}
 use Rattle.rules.specs.Placing.{place_first}
 use Rattle.rules.specs.Finish.{up_to_named, FinishOutcome, finish_outcome}
 
 -- the outcome for flow f of a book that passes with its calendar, where the work area is long enough
-abbrev pub outcome_up_to : Limits → Book → ℕ → List ℕ → FinishOutcome
-outcome_up_to L b f area = finish_outcome L f area (place_first b (up_to_named b f))
+abbrev pub outcome_up_to : Book → ℕ → List ℕ → FinishOutcome
+outcome_up_to b f area = finish_outcome f area (place_first b (up_to_named b f))
 
 -- answer and work area are those of the outcome
 pub record Leaves (o : FinishOutcome) (answer : FinishAnswer) (area : List ℕ) : Type 0 where

@@ -1,9 +1,8 @@
 // The finish of one flow: flows are placed in service order up to the one named, and no rows are made.
 ghost use Rattle.std.specs.Prelude.{◌≡◌, ◌≤◌, ◌<◌, length};
 ghost use Rattle.rules.specs.declared.Verdict.TheVariants.{Pass};
-ghost use Rattle.rules.specs.declared.Limits.{Limits};
 ghost use Rattle.rules.specs.Answers.{finishRefused};
-ghost use Rattle.rules.specs.Ranges.{Fits};
+ghost use Rattle.rules.specs.Limits.{work_bytes};
 ghost use Rattle.rules.specs.Calendar.{CalendarInRange};
 ghost use Rattle.rules.specs.Book.{with_calendar, flow_count};
 ghost use Rattle.rules.specs.Reading.{book_of, book_fault};
@@ -16,7 +15,7 @@ ghost use Rattle.finish.specs.Call.{outcome_up_to, Leaves};
 use book::{Index, bytes};
 use calendar::Calendar;
 use place::Placed;
-use rules::{FinishAnswer, Limits, Verdict};
+use rules::{FinishAnswer, Verdict};
 
 // Where placing stands: how many flows are placed, which is the service position of the next one, and the finish of the last.
 #[derive(Drop)]
@@ -103,9 +102,8 @@ pub fn place_up_to(
     order: [u8; 64],
     count: usize,
 ) -> Placement
-    requires { (L : Limits) × Asked L book.now (held_windows calendar) x order count (shut_rows (with_calendar (held_windows calendar) (book_of book.now))) work.old }
-    ensures { (L : Limits) → Asked L book.now (held_windows calendar) x order count (shut_rows (with_calendar (held_windows calendar) (book_of book.now))) work.old →
-        PlacedUpTo L.slots (with_calendar (held_windows calendar) (book_of book.now)) count work.old work.new result }
+    requires { Asked book.now (held_windows calendar) x order count (shut_rows (with_calendar (held_windows calendar) (book_of book.now))) work.old }
+    ensures { PlacedUpTo (with_calendar (held_windows calendar) (book_of book.now)) count work.old work.new result }
 {
     let processors = x.processors;
     let mut placement = Placement {
@@ -140,27 +138,21 @@ pub fn refusal(number: u8, flow: u8, job: u8) -> FinishAnswer
 
 // The finish of a flow of a book and a calendar that pass, with a work area that is long enough: all processors of the shut slots are in use until the flows
 // are placed, and the state says whether all flows up to the one named were.
-pub fn finish_passing(
-    book: &[u8],
-    calendar: Calendar,
-    flow: usize,
-    work: &mut [u8],
-    limits: Limits,
-) -> FinishAnswer
-    requires { Fits limits × (book_fault limits book.now ≡ Pass) × CalendarInRange limits (held_windows calendar) × (flow < flow_count (book_of book.now)) × (limits.bytes ≤ length work.old) }
-    ensures { Leaves (outcome_up_to limits (with_calendar (held_windows calendar) (book_of book.now)) flow work.old) result work.new }
+pub fn finish_passing(book: &[u8], calendar: Calendar, flow: usize, work: &mut [u8]) -> FinishAnswer
+    requires { (book_fault book.now ≡ Pass) × CalendarInRange (held_windows calendar) × (flow < flow_count (book_of book.now)) × (work_bytes ≤ length work.old) }
+    ensures { Leaves (outcome_up_to (with_calendar (held_windows calendar) (book_of book.now)) flow work.old) result work.new }
 {
     let x = book::index_of(book);
     let order = book::service_order(book, x);
     let deadlines = x.deadlines;
     let count = book::position(book, &deadlines, x.flows, flow) + 1;
-    bytes::clear(work, limits.slots);
+    bytes::clear(work);
     calendar::set_shut(work, calendar, x.processors);
     let placement = place_up_to(book, work, x, calendar, order, count);
     calendar::set_shut(work, calendar, 0);
     let k = placement.position;
     if k < count {
-        bytes::clear(work, limits.slots);
+        bytes::clear(work);
         return refusal(12, order[k], 255);
     }
     FinishAnswer {
@@ -171,18 +163,11 @@ pub fn finish_passing(
     }
 }
 
-// The finish of one flow: the whole outcome of a call by a caller's limits, for every book, calendar, flow number and work area.
-pub fn finish_flow(
-    book: &[u8],
-    calendar: &[u8],
-    flow: u32,
-    work: &mut [u8],
-    limits: Limits,
-) -> FinishAnswer
-    requires { Fits limits }
-    ensures { Leaves (finish_call limits book.now calendar.now flow work.old) result work.new }
+// The finish of one flow: the whole outcome of a call, for every book, calendar, flow number and work area.
+pub fn finish_flow(book: &[u8], calendar: &[u8], flow: u32, work: &mut [u8]) -> FinishAnswer
+    ensures { Leaves (finish_call book.now calendar.now flow work.old) result work.new }
 {
-    let v = book::verdict_of(book, limits);
+    let v = book::verdict_of(book);
     if let Verdict::Refused { number, flow, job } = v {
         return refusal(number, flow, job);
     }
@@ -191,12 +176,12 @@ pub fn finish_flow(
     if flows <= f {
         return refusal(23, 255, 255);
     }
-    let w = calendar::verdict_of(calendar, limits);
+    let w = calendar::verdict_of(calendar);
     if let Verdict::Refused { number, flow, job } = w {
         return refusal(number, flow, job);
     }
-    if work.len() < limits.bytes {
+    if work.len() < 16384 {
         return refusal(11, 255, 255);
     }
-    finish_passing(book, calendar::calendar_of(calendar), f, work, limits)
+    finish_passing(book, calendar::calendar_of(calendar), f, work)
 }

@@ -1,21 +1,20 @@
-// The calls that a dispatcher in C makes, at the mill or at the pickling line. Thin: each that takes slices hands them to the proved core with the caller's
-// limits, and has the core's contract. None has a `requires`: every sequence of bytes is taken.
+// The calls that a dispatcher in C makes. Thin: each that takes slices hands them to the proved core and has the core's contract. None has
+// a `requires`: every sequence of bytes is taken.
 ghost use Rattle.std.specs.Prelude.{◌≡◌};
-ghost use Rattle.rules.specs.Ranges.{mill, line};
 ghost use Rattle.rules.specs.Check.{check_call};
 ghost use Rattle.rules.specs.Dispatch.{dispatch_call};
 ghost use Rattle.rules.specs.Finish.{finish_call};
 ghost use Rattle.rules.specs.Planner.{plan_call};
 ghost use Rattle.rules.specs.Version.{header_version};
 
-use rules::{CheckAnswer, FinishAnswer, Limits, ListAnswer, PlanAnswer};
+use rules::{CheckAnswer, FinishAnswer, ListAnswer, PlanAnswer};
 
 // The version of the C header that the library was built with.
 #[unsafe(no_mangle)]
 pub extern "C" fn flowplan_version() -> u32
     ensures version { result ≡ header_version }
 {
-    9
+    8
 }
 
 // The check of a table against a book and its calendar.
@@ -26,10 +25,10 @@ pub extern "C" fn flowplan_check(
     table: &[u8],
     work: &mut [u8],
 ) -> CheckAnswer
-    ensures answer { result ≡ (check_call mill book.now calendar.now table.now work.old).answer }
-    ensures area { work.new ≡ (check_call mill book.now calendar.now table.now work.old).area }
+    ensures answer { result ≡ (check_call book.now calendar.now table.now work.old).answer }
+    ensures area { work.new ≡ (check_call book.now calendar.now table.now work.old).area }
 {
-    table_check::check_table(book, calendar, table, work, Limits::mill())
+    table_check::check_table(book, calendar, table, work)
 }
 
 // The plan of a book by its calendar.
@@ -40,11 +39,11 @@ pub extern "C" fn flowplan_plan(
     output: &mut [u8],
     work: &mut [u8],
 ) -> PlanAnswer
-    ensures answer { result ≡ (plan_call mill book.now calendar.now output.old work.old).answer }
-    ensures output { output.new ≡ (plan_call mill book.now calendar.now output.old work.old).output }
-    ensures area { work.new ≡ (plan_call mill book.now calendar.now output.old work.old).area }
+    ensures answer { result ≡ (plan_call book.now calendar.now output.old work.old).answer }
+    ensures output { output.new ≡ (plan_call book.now calendar.now output.old work.old).output }
+    ensures area { work.new ≡ (plan_call book.now calendar.now output.old work.old).area }
 {
-    planner::plan_book(book, calendar, output, work, Limits::mill())
+    planner::plan_book(book, calendar, output, work)
 }
 
 // The dispatch list of a table that the check accepts.
@@ -56,11 +55,11 @@ pub extern "C" fn flowplan_dispatch(
     output: &mut [u8],
     work: &mut [u8],
 ) -> ListAnswer
-    ensures answer { result ≡ (dispatch_call mill book.now calendar.now table.now output.old work.old).answer }
-    ensures output { output.new ≡ (dispatch_call mill book.now calendar.now table.now output.old work.old).output }
-    ensures area { work.new ≡ (dispatch_call mill book.now calendar.now table.now output.old work.old).area }
+    ensures answer { result ≡ (dispatch_call book.now calendar.now table.now output.old work.old).answer }
+    ensures output { output.new ≡ (dispatch_call book.now calendar.now table.now output.old work.old).output }
+    ensures area { work.new ≡ (dispatch_call book.now calendar.now table.now output.old work.old).area }
 {
-    dispatch::dispatch_table(book, calendar, table, output, work, Limits::mill())
+    dispatch::dispatch_table(book, calendar, table, output, work)
 }
 
 // The finish of one flow of a book by its calendar.
@@ -71,67 +70,8 @@ pub extern "C" fn flowplan_finish(
     flow: u32,
     work: &mut [u8],
 ) -> FinishAnswer
-    ensures answer { result ≡ (finish_call mill book.now calendar.now flow work.old).answer }
-    ensures area { work.new ≡ (finish_call mill book.now calendar.now flow work.old).area }
+    ensures answer { result ≡ (finish_call book.now calendar.now flow work.old).answer }
+    ensures area { work.new ≡ (finish_call book.now calendar.now flow work.old).area }
 {
-    finish::finish_flow(book, calendar, flow, work, Limits::mill())
-}
-
-// The check of a table against a book and its calendar, by the pickling line's limits.
-#[unsafe(no_mangle)]
-pub extern "C" fn flowplan_line_check(
-    book: &[u8],
-    calendar: &[u8],
-    table: &[u8],
-    work: &mut [u8],
-) -> CheckAnswer
-    ensures answer { result ≡ (check_call line book.now calendar.now table.now work.old).answer }
-    ensures area { work.new ≡ (check_call line book.now calendar.now table.now work.old).area }
-{
-    table_check::check_table(book, calendar, table, work, Limits::line())
-}
-
-// The plan of a book by its calendar, by the line's limits.
-#[unsafe(no_mangle)]
-pub extern "C" fn flowplan_line_plan(
-    book: &[u8],
-    calendar: &[u8],
-    output: &mut [u8],
-    work: &mut [u8],
-) -> PlanAnswer
-    ensures answer { result ≡ (plan_call line book.now calendar.now output.old work.old).answer }
-    ensures output { output.new ≡ (plan_call line book.now calendar.now output.old work.old).output }
-    ensures area { work.new ≡ (plan_call line book.now calendar.now output.old work.old).area }
-{
-    planner::plan_book(book, calendar, output, work, Limits::line())
-}
-
-// The dispatch list of a table that the line's check accepts.
-#[unsafe(no_mangle)]
-pub extern "C" fn flowplan_line_dispatch(
-    book: &[u8],
-    calendar: &[u8],
-    table: &[u8],
-    output: &mut [u8],
-    work: &mut [u8],
-) -> ListAnswer
-    ensures answer { result ≡ (dispatch_call line book.now calendar.now table.now output.old work.old).answer }
-    ensures output { output.new ≡ (dispatch_call line book.now calendar.now table.now output.old work.old).output }
-    ensures area { work.new ≡ (dispatch_call line book.now calendar.now table.now output.old work.old).area }
-{
-    dispatch::dispatch_table(book, calendar, table, output, work, Limits::line())
-}
-
-// The finish of one flow of a book by its calendar, by the line's limits.
-#[unsafe(no_mangle)]
-pub extern "C" fn flowplan_line_finish(
-    book: &[u8],
-    calendar: &[u8],
-    flow: u32,
-    work: &mut [u8],
-) -> FinishAnswer
-    ensures answer { result ≡ (finish_call line book.now calendar.now flow work.old).answer }
-    ensures area { work.new ≡ (finish_call line book.now calendar.now flow work.old).area }
-{
-    finish::finish_flow(book, calendar, flow, work, Limits::line())
+    finish::finish_flow(book, calendar, flow, work)
 }

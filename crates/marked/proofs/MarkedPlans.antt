@@ -96,7 +96,7 @@ use Rattle.rules.specs.Dispatch.{
 use Rattle.rules.specs.Finish.{finish_outcome, finish_reading, unknown_flow, input_fault, finish_call}
 use Rattle.rules.specs.Quote.{work_of, work_up_to, quote, appended}
 use Rattle.marked.specs.Listings.{book_k, calendar_k, flow_l}
-use Rattle.marked.specs.Plans.{MarkedChains, MarkedLists, MarkedFinishes, MarkedWindows, MarkedQuotes, MarkedCallers, MarkedPlans}
+use Rattle.marked.specs.Plans.{MarkedChains, MarkedLists, MarkedFinishes, MarkedWindows, MarkedQuotes, MarkedPlans}
 
 pub marked-lists : MarkedLists
 unfolding any_to list_from join_from field bytes_of first_fault flow_in lower_cap lower_caps flow_of job_of has_bit release_size release_at jobs_at flow_start job_at flow_at book_of flow_head_fault job_fault flow_fault leftover_fault book_fault calendar_of calendar_fault read_book is_open sum_to served_before sum_where used_in total_of done_before finish_of is_late late_flows work_used work_zero row_bytes rows_bytes row_at table_rows table_head_fault row_before rises lacks_predecessor before_release row_fault total_fault finish_fault table_fault check_outcome check_reading check_call listed_before insert_row in_list_order list_length list_bytes list_outcome dispatch_checked dispatch_call
@@ -149,26 +149,6 @@ marked-quotes = record {
     later (suc zero) g l h c = let e : g ≡ 2 = omega arith in rw e refl
     later (suc (suc f)) g l h c = absurd (omega arith)
 
-pub marked-callers : MarkedCallers
-unfolding sum_to max_to any_to all_to list_from join_from field bytes_of first_fault flow_in lower_cap lower_caps flow_of job_of has_bit release_size release_at jobs_at flow_start job_at flow_at book_of flow_head_fault job_fault flow_fault leftover_fault book_fault window_at calendar_of begins_early window_fault calendar_fault read_book quotient_up duration last_take start_after ends_below start_of end_of path take_of unchanged prepend runs chain rate work served_before insert_flow order_of service_order row_for sum_where used_in total_of done_before finish_of is_late late_flows work_used work_zero slot_units units units_of share given after_slot slot_rows progress flow_rows is_open open_before pass_open slot_after usable twice_deadline free_processors slots_for place_flow place_first plan table_length row_bytes rows_bytes table_bytes row_at plan_outcome plan_reading plan_call table_rows table_head_fault row_before rises lacks_predecessor before_release row_fault total_fault finish_fault table_fault check_outcome check_reading check_call
-marked-callers = record {
-  A-line = refl;
-  flows_16 = refl;
-  flows_17 = refl;
-  flows_17_mill = refl;
-  deadline_512 = refl;
-  deadline_513 = refl;
-  deadline_513_mill = refl;
-  area_2047 = refl;
-  area_2048_mill = refl;
-  slot_1023 = refl;
-  slot_1024 = refl;
-  slot_1024_mill = refl;
-  reopening_512 = refl;
-  reopening_513 = refl;
-  reopening_513_mill = refl;
-}
-
 pub marked-chains : MarkedChains
 unfolding sum_to max_to all_to list_from job_of has_bit quotient_up duration last_take start_after ends_below start_of end_of path take_of unchanged prepend runs chain rate
 marked-chains = record { in_a_row = refl; in_a_row_rates = refl; equal_rates_is = refl; equal_rates_rates = refl; equal_rates_takes = refl; longest_path = refl }
@@ -200,6 +180,5 @@ marked_plans = record {
   H-accepted = refl;
   windows = marked-windows;
   quotes = marked-quotes;
-  callers = marked-callers;
   chains = marked-chains;
 }

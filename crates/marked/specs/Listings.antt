@@ -1,7 +1,7 @@
 -- The books, calendars and tables of the marked plans, byte by byte: A to F of document 01, E as Req 02 has it, and G to L for the requests of document 02.
 -- Assumes nothing.
-use Rattle.std.specs.Prelude.{ℕ, zero, suc, ◌+◌, ◌*◌, ◌-◌, ◌/◌, ◌%◌, ◌^◌, List, [], ◌∷◌, ◌++◌, replicate}
-use Rattle.rules.specs.Walks.{list_from, join_from}
+use Rattle.std.specs.Prelude.{ℕ, zero, suc, ◌*◌, ◌-◌, ◌/◌, ◌%◌, ◌^◌, List, [], ◌∷◌, ◌++◌, replicate}
+use Rattle.rules.specs.Walks.{list_from}
 use Rattle.rules.specs.Book.{Flow}
 
 -- n bytes, written as one hexadecimal number, so that a listing stands as the document has it
@@ -169,40 +169,13 @@ equal_rates = record {
       ∷ [];
 }
 
--- ---- the edges of the line's limits (02, Req 09), each beside the first value past it
--- P 32, n flows with deadline 2, one job each, size 1 cap 1
-abbrev pub book_of_flows : ℕ → List ℕ
-book_of_flows n = hex 4 (8 + 17 * n) ++ hex 3 0x01_0020 ++ hex 1 n ++ join_from (λ f. hex 17 0x0002_01_00000001_0001_0000000000000000) n 0
-
--- all of them in slot 0
-abbrev pub table_of_flows : ℕ → List ℕ
-table_of_flows n = hex 4 (8 + 8 * n) ++ hex 3 0x01_0020 ++ hex 1 n ++ join_from (λ f. hex 2 1) n 0 ++ join_from (λ f. hex 2 0 ++ hex 1 f ++ hex 3 0x00_0001) n 0
-
--- P 2, one job, size 1 cap 1, with this deadline
-abbrev pub book_due : ℕ → List ℕ
-book_due deadline = hex 8 0x00000019_01_0002_01 ++ hex 2 deadline ++ hex 15 0x01_00000001_0001_0000000000000000
-
--- its job in this slot
-abbrev pub table_in : ℕ → List ℕ
-table_in t = hex 8 0x00000010_01_0002_01 ++ hex 2 (t + 1) ++ hex 2 t ++ hex 4 0x00_00_0001
-
--- a window of one slot that reopens at this one
-abbrev pub calendar_to : ℕ → List ℕ
-calendar_to t = hex 6 0x0000000a_01_01 ++ hex 2 (t - 1) ++ hex 2 t
-
--- an output of n bytes, and work areas of n bytes and of 16,384, filled with nines
+-- an output of n bytes, and a work area of 16,384, filled with nines
 abbrev pub out : ℕ → List ℕ
 out n = replicate n 9
 
-abbrev pub area_of : ℕ → List ℕ
-area_of n = replicate n 9
-
 abbrev pub area : List ℕ
-area = area_of 16384
+area = replicate 16384 9
 
--- a work area of so many bytes whose first n slots hold a listing, and the others zero
-abbrev pub used_of : ℕ → ℕ → ℕ → List ℕ
-used_of bytes n x = hex (2 * n) x ++ replicate (bytes - 2 * n) 0
-
+-- a work area whose first n slots hold a listing, and the others zero
 abbrev pub used : ℕ → ℕ → List ℕ
-used n x = used_of 16384 n x
+used n x = hex (2 * n) x ++ replicate (16384 - 2 * n) 0

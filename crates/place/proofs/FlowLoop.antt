@@ -7,7 +7,7 @@ use native.Mathlib.Omega.{arith}
 use mathlib.Core.Bool.{Bool}
 use mathlib.Core.List.{List, [], ◌∷◌, ◌++◌, append-nil}
 use lib.ListN.{length}
-use Rattle.rules.specs.Ranges.{mill}
+use Rattle.rules.specs.Limits.{slots}
 use Rattle.rules.specs.declared.Verdict.TheVariants.{Pass}
 use Rattle.rules.specs.Book.{Flow, Book, flow_count, job_count, flow_of, job_of, FlowInRange}
 use Rattle.rules.specs.Reading.{book_of, book_fault}
@@ -34,7 +34,7 @@ use Rattle.place.specs.declared.Placed.{Placed}
 use Rattle.place.specs.declared.Placed.TheVariants.{To, Infeasible}
 use Rattle.place.specs.Service.{PartsHeld, pseudo_job}
 use Rattle.place.specs.Flows.{standing, Beside, rows_up_to, Underway, UnderwayBy, WorkLeft, RunPlaced, OffsetIf, RunGoes, new_rows, FlowDone, FlowInfeasible, FlowPlaced, FlowHeld}
-use Rattle.place.proofs.Output.{put-none, put-same_length}
+use Rattle.place.proofs.Output.{put-none, put-same-length}
 use Rattle.place.proofs.Steps.{stays-finished, no-more_rows, own-rows-within-free}
 
 -- the flow when the runs before ideal slot t are placed, in the slots from its release to `slot`
@@ -43,23 +43,23 @@ pub record FlowSoFar (b : Book) (f : ℕ) (x : Beside) (t slot : ℕ) (out area 
   pub finish : 0 < t → finish_of (rows_up_to b f x slot) f ≡ slot
 
 -- what flow f is placed beside by a call that is lent this output
-abbrev pub beside : ℕ → List Row → List ℕ → List ℕ → ℕ → Beside
-beside n rows bytes out at = record { rows = rows; slots = n; area = bytes; output = out; offset = at }
+abbrev pub beside : List Row → List ℕ → List ℕ → ℕ → Beside
+beside rows bytes out at = record { rows = rows; area = bytes; output = out; offset = at }
 
 module _ (b : Book) (f : ℕ) where
   abbrev w : Flow
   w = flow_of b f
 
   -- at its release it stands at its begin: before, nothing is free for it
-  pub flow-begins : Sized w → (n : ℕ) (rows : List Row) (bytes out area : List ℕ) (at : ℕ) → area ≡ work_used n rows bytes →
+  pub flow_begins : Sized w → (rows : List Row) (bytes out area : List ℕ) (at : ℕ) → area ≡ work_used slots rows bytes →
       ((u : ℕ) → used_in rows u ≤ b.processors) →
-      FlowSoFar b f (beside n rows bytes out at) 0 w.release out area at
-  flow-begins sized n rows bytes out area at e within = record {
+      FlowSoFar b f (beside rows bytes out at) 0 w.release out area at
+  flow_begins sized rows bytes out area at e within = record {
     under = record {
       within = within;
       released = omega arith;
       stands = first_progress;
-      area_used = e ∙ ap (λ all. work_used n all bytes) (sym (ap (rows ++◌) no_rows ∙ append-nil rows));
+      area_used = e ∙ ap (λ all. work_used slots all bytes) (sym (ap (rows ++◌) no_rows ∙ append-nil rows));
       put = rw no_rows (put-none out at);
     };
     finish = λ l. absurd (omega arith);
@@ -77,15 +77,15 @@ module _ (b : Book) (f : ℕ) where
           ∙ (unfold chain in ap (λ (n : ℕ). standing (runs w n 0) 0) (sym (sub-zero (path w))))
 
   -- all runs are placed
-  pub flow-done : (n : ℕ) (rows : List Row) (bytes out₀ out area : List ℕ) (at limit t slot next : ℕ) → Sized w → job_count w ≤ 64 → 0 < path w → path w ≤ t →
+  pub flow-done : (rows : List Row) (bytes out₀ out area : List ℕ) (at limit t slot next : ℕ) → Sized w → job_count w ≤ 64 → 0 < path w → path w ≤ t →
       slot ≤ limit → limit ≤ 8192 →
-      next ≤ at + 384 * slot → FlowSoFar b f (beside n rows bytes out₀ at) t slot out area next →
-      FlowDone n b f limit rows bytes out₀ at out area slot next
-  flow-done n rows bytes out₀ out area at limit t slot next sized few some over l most room so_far_lem =
+      next ≤ at + 384 * slot → FlowSoFar b f (beside rows bytes out₀ at) t slot out area next →
+      FlowDone b f limit rows bytes out₀ at out area slot next
+  flow-done rows bytes out₀ out area at limit t slot next sized few some over l most room so_far_lem =
       record {
         finished = ap (λ (g : Progress). g.left) at_limit;
         put = rw same so_far_lem.under.put;
-        area_used = so_far_lem.under.area_used ∙ ap (λ more. work_used n (rows ++ more) bytes) (sym same);
+        area_used = so_far_lem.under.area_used ∙ ap (λ more. work_used slots (rows ++ more) bytes) (sym same);
         ends = sym (ap (λ more. finish_of more f) same ∙ so_far_lem.finish (omega arith));
         within = λ u. omega (arith, used-append rows (new_rows b f limit rows) u, so_far_lem.under.within u, own u);
         next_within = omega arith;
@@ -112,16 +112,16 @@ module _ (b : Book) (f : ℕ) where
       own u = le_trans (own-rows-within-free w f (free_processors b f rows) sized limit u) (free-within b f rows u)
 
   -- the limit is reached and work is left
-  pub flow_stops : (n : ℕ) (rows : List Row) (bytes out₀ out area : List ℕ) (at limit : ℕ) →
-      WorkLeft b f (beside n rows bytes out₀ at) limit out area → FlowInfeasible n b f limit rows bytes out₀ out area
-  flow_stops n rows bytes out₀ out area at limit left = record {
+  pub flow_stops : (rows : List Row) (bytes out₀ out area : List ℕ) (at limit : ℕ) →
+      WorkLeft b f (beside rows bytes out₀ at) limit out area → FlowInfeasible b f limit rows bytes out₀ out area
+  flow_stops rows bytes out₀ out area at limit left = record {
     unfinished = λ e.
         let none : left.current ∷ left.later ≡ [] = sym (ap (λ (g : Progress). g.left) left.under.stands) ∙ e in
         let z : ◌≡◌ {A = ℕ} (length (left.current ∷ left.later)) 0 = ap length none in
         omega arith;
     others = rows ++ flow_rows w f (free_processors b f rows) limit;
     area_used = left.under.area_used;
-    length_kept = put-same_length out₀ out at left.next _ left.under.put;
+    length_kept = put-same-length out₀ out at left.next _ left.under.put;
   }
 
 -- ---- the loop over cuts: what is kept from its begin on
@@ -133,14 +133,14 @@ pub record FlowKept (listed : Bool) (b : Book) (f at limit : ℕ) (out₀ area�
   pub slot_to : slot ≤ limit
   pub out_length : length out ≡ length out₀
   pub area_length : length area ≡ length area₀
-  pub so_far_lem : (n : ℕ) (rows : List Row) (bytes : List ℕ) → limit ≤ n → area₀ ≡ work_used n rows bytes → ((u : ℕ) → used_in rows u ≤ b.processors) →
-      FlowSoFar b f (beside n rows bytes out₀ at) t slot out area offset
+  pub so_far_lem : (rows : List Row) (bytes : List ℕ) → area₀ ≡ work_used slots rows bytes → ((u : ℕ) → used_in rows u ≤ b.processors) →
+      FlowSoFar b f (beside rows bytes out₀ at) t slot out area offset
 
 -- ---- a flow that is read out of its book, on endless processors
-flow_in-range : (s : List ℕ) (f : ℕ) → book_fault mill s ≡ Pass → f < flow_count (book_of s) → FlowInRange mill (book_of s).processors (flow_of (book_of s) f)
-flow_in-range s f passes flow_in_is = used_in-range mill (pass_in-range mill s passes) f flow_in_is
+flow_in-range : (s : List ℕ) (f : ℕ) → book_fault s ≡ Pass → f < flow_count (book_of s) → FlowInRange (book_of s).processors (flow_of (book_of s) f)
+flow_in-range s f passes flow_in_is = used_in-range (pass_in-range s passes) f flow_in_is
 
-path-positive : (s : List ℕ) (f : ℕ) → book_fault mill s ≡ Pass → f < flow_count (book_of s) → 0 < path (flow_of (book_of s) f)
+path-positive : (s : List ℕ) (f : ℕ) → book_fault s ≡ Pass → f < flow_count (book_of s) → 0 < path (flow_of (book_of s) f)
 path-positive s f passes flow_in_is =
     let w = flow_of (book_of s) f in
     let range = flow_in-range s f passes flow_in_is in
@@ -153,9 +153,9 @@ path-positive s f passes flow_in_is =
     )
 
 -- where the limit comes before the release, the flow has not begun
-pub flow-not-begun : (s : List ℕ) (f limit : ℕ) → book_fault mill s ≡ Pass → f < flow_count (book_of s) → limit < (flow_of (book_of s) f).release →
-    (n : ℕ) (rows : List Row) (bytes out area : List ℕ) → area ≡ work_used n rows bytes → FlowInfeasible n (book_of s) f limit rows bytes out out area
-flow-not-begun s f limit passes flow_in_is l n rows bytes out area used = record {
+pub flow-not-begun : (s : List ℕ) (f limit : ℕ) → book_fault s ≡ Pass → f < flow_count (book_of s) → limit < (flow_of (book_of s) f).release →
+    (rows : List Row) (bytes out area : List ℕ) → area ≡ work_used slots rows bytes → FlowInfeasible (book_of s) f limit rows bytes out out area
+flow-not-begun s f limit passes flow_in_is l rows bytes out area used = record {
   unfinished = λ e.
       let none : chain w ≡ [] = sym (ap (λ (g : Progress). g.left) begun) ∙ e in
       let no-path : path w ≡ 0 = sym (chain_widths w) ∙ ap (sum_over (λ p. p.width)) none ∙ (unfold sum_over in refl) in
@@ -170,13 +170,13 @@ flow-not-begun s f limit passes flow_in_is l n rows bytes out area used = record
 
     begun : progress w (free_processors (book_of s) f rows) limit ≡ standing (chain w) 0
     begun =
-        not-begun w (free_processors (book_of s) f rows) (chain_live w (in-range-sized mill (flow_in-range s f passes flow_in_is))) limit
+        not-begun w (free_processors (book_of s) f rows) (chain_live w (in-range-sized (flow_in-range s f passes flow_in_is))) limit
         (λ t h. none-free-before (book_of s) f rows t (omega arith))
 
 module _ (s : List ℕ) (f records : ℕ) (x : FlowJobs) (stands : FlowStands s f records) (loaded : Loaded s f x) where
   pub chain-asked : ChainInput x
   chain-asked =
-      input_of x (book_of s).processors (pass_in-range mill s stands.passes).processors_most
+      input_of x (book_of s).processors (pass_in-range s stands.passes).processors_most
       (rw loaded.values (flow_in-range s f stands.passes stands.flow_in_is))
 
   pub release-held : (d : ℕ) → d ≡ x.release → d ≡ (flow_of (book_of s) f).release
@@ -200,14 +200,14 @@ module _ (s : List ℕ) (f records : ℕ) (x : FlowJobs) (stands : FlowStands s 
 
 -- ---- the pseudo-job that begins at a cut, in service
 module _ {s : List ℕ} {f : ℕ} {caps starts ends lasts firsts : List ℕ} {count most : ℕ} (h : FlowHeld s f caps starts ends lasts firsts count most) where
-  in_range : FlowInRange mill (book_of s).processors (flow_of (book_of s) f)
+  in_range : FlowInRange (book_of s).processors (flow_of (book_of s) f)
   in_range = flow_in-range s f h.passes h.flow_in_is
 
   flow-sized : Sized (flow_of (book_of s) f)
-  flow-sized = in-range-sized mill in_range
+  flow-sized = in-range-sized in_range
 
   pub flow-few : f < 256
-  flow-few = omega (arith, h.flow_in_is, (pass_in-range mill s h.passes).flows_most)
+  flow-few = omega (arith, h.flow_in_is, (pass_in-range s h.passes).flows_most)
 
   jobs-few : job_count (flow_of (book_of s) f) ≤ 64
   jobs-few = in_range.jobs_most
@@ -235,7 +235,7 @@ module _ {s : List ℕ} {f : ℕ} {caps starts ends lasts firsts : List ℕ} {co
     slot_to = omega arith;
     out_length = refl;
     area_length = refl;
-    so_far_lem = λ n rows bytes room used within. rw q (flow-begins (book_of s) f flow-sized n rows bytes out area at used within);
+    so_far_lem = λ rows bytes used within. rw q (flow_begins (book_of s) f flow-sized rows bytes out area at used within);
   }
 
   -- what `run_at` asks
@@ -286,11 +286,11 @@ module _ {s : List ℕ} {f : ℕ} {caps starts ends lasts firsts : List ℕ} {co
         subst (λ (ps : List PseudoJob). Underway (book_of s) f y slot (standing ps 0) out area next) run-here.run.step so_far_lem.under
 
     flow-goes_on : (P : ℕ) (y : Beside) (slot at limit : ℕ) (out area out' area' : List ℕ) (slot' next' : ℕ) →
-        limit ≤ y.slots → FlowSoFar (book_of s) f y t slot out area at →
+        FlowSoFar (book_of s) f y t slot out area at →
         RunPlaced s (current_at t P r) slot at limit out area out' area' slot' next' → FlowSoFar (book_of s) f y (t + r.width) slot' out'
         area' next'
-    flow-goes_on P y slot at limit out area out' area' slot' next' room so_far_lem placed =
-        let done = placed.finished y _ room (at-cut-under P y slot out area at so_far_lem) in
+    flow-goes_on P y slot at limit out area out' area' slot' next' so_far_lem placed =
+        let done = placed.finished y _ (at-cut-under P y slot out area at so_far_lem) in
         record { under = done.under; finish = λ l. done.finish }
 
     pub flow-kept-next : {listed : Bool} {at limit : ℕ} {out₀ area₀ out area out' area' : List ℕ} {slot next slot' next' : ℕ} {q : Placed} (P : ℕ) →
@@ -311,30 +311,30 @@ module _ {s : List ℕ} {f : ℕ} {caps starts ends lasts firsts : List ℕ} {co
           slot_to = placed.slot_within;
           out_length = same_out ∙ k.out_length;
           area_length = same_area ∙ k.area_length;
-          so_far_lem = λ n rows bytes room e within. flow-goes_on P (beside n rows bytes out₀ at) slot k.offset limit out area out' area' slot' goes.0
-              room (k.so_far_lem n rows bytes room e within) placed;
+          so_far_lem = λ rows bytes e within. flow-goes_on P (beside rows bytes out₀ at) slot k.offset limit out area out' area' slot' goes.0
+              (k.so_far_lem rows bytes e within) placed;
         }
 
     pub flow-kept_stops : {listed : Bool} {at limit : ℕ} {out₀ area₀ out area out' area' : List ℕ} {slot next : ℕ} {q : Placed} (P : ℕ) →
         FlowKept listed (book_of s) f at limit out₀ area₀ out area t slot next →
         RunGoes listed s (current_at t P r) slot next limit out area out' area' q → q ≡ Infeasible →
-        (n : ℕ) (rows : List Row) (bytes : List ℕ) → limit ≤ n → area₀ ≡ work_used n rows bytes → ((u : ℕ) → used_in rows u ≤ (book_of s).processors) →
-        FlowInfeasible n (book_of s) f limit rows bytes out₀ out' area'
-    flow-kept_stops {listed} {at} {limit} {out₀} {area₀} {out} {area} {out'} {area'} {slot} {next} P k answer told n rows bytes room used within =
+        (rows : List Row) (bytes : List ℕ) → area₀ ≡ work_used slots rows bytes → ((u : ℕ) → used_in rows u ≤ (book_of s).processors) →
+        FlowInfeasible (book_of s) f limit rows bytes out₀ out' area'
+    flow-kept_stops {listed} {at} {limit} {out₀} {area₀} {out} {area} {out'} {area'} {slot} {next} P k answer told rows bytes used within =
         let left : RunGoes listed s (current_at t P r) slot next limit out area out' area' Infeasible =
         subst (λ (z : Placed). RunGoes listed s (current_at t P r) slot next limit out area out' area' z) told answer in
-        flow_stops (book_of s) f n rows bytes out₀ out' area' at limit
-        (left k.offset k.offset_if (beside n rows bytes out₀ at) _ room
-        (at-cut-under P (beside n rows bytes out₀ at) slot out area k.offset (k.so_far_lem n rows bytes room used within)))
+        flow_stops (book_of s) f rows bytes out₀ out' area' at limit
+        (left k.offset k.offset_if (beside rows bytes out₀ at) _
+        (at-cut-under P (beside rows bytes out₀ at) slot out area k.offset (k.so_far_lem rows bytes used within)))
 
   pub flow-kept-done : {listed : Bool} {at limit : ℕ} {out₀ area₀ out area : List ℕ} {t slot next : ℕ} → limit ≤ 8192 →
       path (flow_of (book_of s) f) ≤ t →
       FlowKept listed (book_of s) f at limit out₀ area₀ out area t slot next →
-      (n : ℕ) (rows : List Row) (bytes : List ℕ) → limit ≤ n → area₀ ≡ work_used n rows bytes → ((u : ℕ) → used_in rows u ≤ (book_of s).processors) →
-      FlowPlaced listed n (book_of s) f limit rows bytes out₀ at out area (To slot next)
-  flow-kept-done {listed} {at} {limit} {out₀} {area₀} {out} {area} {t} {slot} {next} most over k n rows bytes room q within = (
+      (rows : List Row) (bytes : List ℕ) → area₀ ≡ work_used slots rows bytes → ((u : ℕ) → used_in rows u ≤ (book_of s).processors) →
+      FlowPlaced listed (book_of s) f limit rows bytes out₀ at out area (To slot next)
+  flow-kept-done {listed} {at} {limit} {out₀} {area₀} {out} {area} {t} {slot} {next} most over k rows bytes q within = (
     k.offset,
     k.offset_if,
-    flow-done (book_of s) f n rows bytes out₀ out area at limit t slot k.offset flow-sized jobs-few
-        (path-positive s f h.passes h.flow_in_is) over (omega (arith, k.slot_to)) most k.offset_to (k.so_far_lem n rows bytes room q within),
+    flow-done (book_of s) f rows bytes out₀ out area at limit t slot k.offset flow-sized jobs-few
+        (path-positive s f h.passes h.flow_in_is) over (omega (arith, k.slot_to)) most k.offset_to (k.so_far_lem rows bytes q within),
   )

@@ -5,6 +5,7 @@ use native.Mathlib.Omega.{arith}
 use mathlib.Core.List.{List, [], ◌∷◌}
 use lib.ListN.{length}
 use lib.Seq.{sets}
+use Rattle.rules.specs.Limits.{slots}
 use Rattle.rules.specs.Fields.{field, bytes_of}
 use Rattle.rules.specs.Book.{job_count}
 use Rattle.rules.specs.Reading.{book_of}
@@ -39,14 +40,14 @@ module _ {s : List ℕ} {c : Current} (v : InService s c) where
       ))
 
   module _ {total used : ℕ} (done slot : ℕ) (area : List ℕ) (all : total ≡ c.width * c.rate) (so_far : done ≤ work (current_flow s c) (pseudo_job c))
-      (read : used ≡ field 2 area (2 * slot)) where
+      (inside : slot < slots) (read : used ≡ field 2 area (2 * slot)) where
     abbrev give : ℕ
     give = min c.rate (min (total - done) (c.processors - used))
 
     few : (book_of s).processors < 65536
     few = omega (arith, v.processors, processors-within v)
 
-    module _ {at : ℕ} {out : List ℕ} (x : Beside) (ps : List PseudoJob) (inside : slot < x.slots) (u : UnderwayBy s c x slot (standing (pseudo_job c ∷ ps) done) out area at) where
+    module _ {at : ℕ} {out : List ℕ} (x : Beside) (ps : List PseudoJob) (u : UnderwayBy s c x slot (standing (pseudo_job c ∷ ps) done) out area at) where
       used_is : used ≡ used_in x.rows slot
       used_is = read ∙ used-before (book_of s) c.flow x slot (pseudo_job c) ps done out area at few inside u
 
@@ -59,8 +60,8 @@ module _ {s : List ℕ} {c : Current} (v : InService s c) where
     served-nothing {at} {out} e = record {
       give_within = omega arith;
       next_within = omega arith;
-      gives = λ x ps inside u. sym e ∙ give_is x ps inside u;
-      serves = λ x ps inside u. slot-passed (book_of s) c.flow x slot (pseudo_job c) ps done out area at few inside u (sym (give_is x ps inside u) ∙ e);
+      gives = λ x ps u. sym e ∙ give_is x ps u;
+      serves = λ x ps u. slot-passed (book_of s) c.flow x slot (pseudo_job c) ps done out area at few inside u (sym (give_is x ps u) ∙ e);
     }
 
     -- a slot whose rows are put and counted in
@@ -73,15 +74,15 @@ module _ {s : List ℕ} {c : Current} (v : InService s c) where
         record {
           give_within = within;
           next_within = omega (arith, put.offset, slot-rows-within slot done n);
-          gives = λ x ps inside u. e ∙ give_is x ps inside u;
-          serves = λ x ps inside u.
-              slot-served (book_of s) c.flow x slot (pseudo_job c) ps done out area at few inside u n out' area' next (e ∙ give_is x ps inside u)
+          gives = λ x ps u. e ∙ give_is x ps u;
+          serves = λ x ps u.
+              slot-served (book_of s) c.flow x slot (pseudo_job c) ps done out area at few inside u n out' area' next (e ∙ give_is x ps u)
               (omega (arith, v.rate, v.rate_positive)) within put
-              (stored ∙ ap (λ (m : ℕ). sets area (2 * slot) (bytes_of 2 (m + n))) (used_is x ps inside u));
+              (stored ∙ ap (λ (m : ℕ). sets area (2 * slot) (bytes_of 2 (m + n))) (used_is x ps u));
         }
 
   -- ---- without rows, of whose units `left` are not given
-  module _ {used : ℕ} (left slot : ℕ) (area : List ℕ) (most : left ≤ work (current_flow s c) (pseudo_job c))
+  module _ {used : ℕ} (left slot : ℕ) (area : List ℕ) (most : left ≤ work (current_flow s c) (pseudo_job c)) (inside : slot < slots)
       (read : used ≡ field 2 area (2 * slot)) where
     abbrev done : ℕ
     done = work (current_flow s c) (pseudo_job c) - left
@@ -90,12 +91,12 @@ module _ {s : List ℕ} {c : Current} (v : InService s c) where
     same-give = let rest : c.width * c.rate - done ≡ left = omega (arith, work-held) in rw rest refl
 
     pub used-nothing : min c.rate (min left (c.processors - used)) ≡ 0 → SlotUsed s c done slot area area 0
-    used-nothing e at = (at, served-nothing done slot area refl (omega arith) read (sym same-give ∙ e))
+    used-nothing e at = (at, served-nothing done slot area refl (omega arith) inside read (sym same-give ∙ e))
 
     pub used-some : {n : ℕ} {area' : List ℕ} → n ≡ min c.rate (min left (c.processors - used)) → area' ≡ sets area (2 * slot) (bytes_of 2 (used + n)) →
         SlotUsed s c done slot area area' n
     used-some {n} e stored at = (
       _,
-      served-some done slot area refl (omega arith) read (e ∙ same-give)
+      served-some done slot area refl (omega arith) inside read (e ∙ same-give)
           (put-rows_too_far [] at (job_rows (current_flow s c) c.flow slot (pseudo_job c) done n) (omega arith)) stored,
     )

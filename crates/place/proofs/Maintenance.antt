@@ -10,14 +10,13 @@ use mathlib.Core.Logic.{◌⊎◌, inl, inr}
 use lib.Dec.{eqb}
 use borrow.Author.Tests.{eq-eqb, ne_eqb}
 use Rattle.rules.specs.Walks.{if◌then◌else◌, join_from}
-use Rattle.rules.specs.Ranges.{mill}
+use Rattle.rules.specs.Limits.{most_flows, slots}
 use Rattle.rules.specs.Fields.{bytes_of}
 use Rattle.rules.specs.Calendar.{Calendar, is_open, open_before, slot_after, CalendarInRange}
 use Rattle.rules.specs.Book.{Flow, Book, with_calendar, flow_of, twice_deadline}
 use Rattle.rules.specs.PseudoJobs.{PseudoJob}
 use Rattle.rules.specs.Rows.{Row, row_for, sum_where, used_in, finish_of, work_used, work_zero}
 use Rattle.rules.specs.Placing.{Progress, progress, flow_rows, free_processors, slots_for, planned, infeasible, settled, place_flow}
-use Rattle.rules.proofs.Reading.Wider.{mill_fits}
 use Rattle.rules.proofs.Laws.Division.{lt-or_ge}
 use Rattle.rules.proofs.Rows.WorkArea.{used-rest, used-cleared}
 use Rattle.rules.proofs.Laws.Sums.{sum_one, sum-nothing}
@@ -35,30 +34,30 @@ use Rattle.place.specs.Order.{shut_rows}
 -- one row a slot, with g u processors in slot u
 module _ (g : ℕ → ℕ) (n t : ℕ) where
   abbrev rows : List Row
-  rows = join_from (λ u. row_for u mill.flows 0 (g u)) n 0
+  rows = join_from (λ u. row_for u most_flows 0 (g u)) n 0
 
   used-here : t < n → used_in rows t ≡ g t
   unfolding used_in
   used-here l =
-      sum_where_join (λ r. eqb r.slot t) (λ u. row_for u mill.flows 0 (g u)) n
-      ∙ sum_one (λ u. sum_where (λ r. eqb r.slot t) (row_for u mill.flows 0 (g u))) n t l
-      (λ u m ne. row_does-not-count (λ r. eqb r.slot t) u mill.flows 0 (g u) (ne_eqb u t ne))
-      ∙ row_counts (λ r. eqb r.slot t) t mill.flows 0 (g t) (eq-eqb t t refl)
+      sum_where_join (λ r. eqb r.slot t) (λ u. row_for u most_flows 0 (g u)) n
+      ∙ sum_one (λ u. sum_where (λ r. eqb r.slot t) (row_for u most_flows 0 (g u))) n t l
+      (λ u m ne. row_does-not-count (λ r. eqb r.slot t) u most_flows 0 (g u) (ne_eqb u t ne))
+      ∙ row_counts (λ r. eqb r.slot t) t most_flows 0 (g t) (eq-eqb t t refl)
 
   used-past : n ≤ t → used_in rows t ≡ 0
   unfolding used_in
   used-past l =
-      sum_where_join (λ r. eqb r.slot t) (λ u. row_for u mill.flows 0 (g u)) n
-      ∙ sum-nothing _ n (λ u m. row_does-not-count (λ r. eqb r.slot t) u mill.flows 0 (g u) (ne_eqb u t (λ (e : u ≡ t). omega arith)))
+      sum_where_join (λ r. eqb r.slot t) (λ u. row_for u most_flows 0 (g u)) n
+      ∙ sum-nothing _ n (λ u m. row_does-not-count (λ r. eqb r.slot t) u most_flows 0 (g u) (ne_eqb u t (λ (e : u ≡ t). omega arith)))
 
-module _ (b : Book) (range : CalendarInRange mill b.calendar) where
+module _ (b : Book) (range : CalendarInRange b.calendar) where
   pub shut-used : (t : ℕ) → used_in (shut_rows b) t ≡ (if is_open b.calendar t then 0 else b.processors)
   unfolding shut_rows
-  shut-used t = go (lt-or_ge t mill.slots)
+  shut-used t = go (lt-or_ge t slots)
     where
-      go : (t < mill.slots) ⊎ (mill.slots ≤ t) → used_in (shut_rows b) t ≡ (if is_open b.calendar t then 0 else b.processors)
-      go (inl l) = used-here (λ u. if is_open b.calendar u then 0 else b.processors) mill.slots t l
-      go (inr l) = used-past (λ u. if is_open b.calendar u then 0 else b.processors) mill.slots t l ∙ rw (reopened mill mill_fits b.calendar range t (omega arith)) refl
+      go : (t < slots) ⊎ (slots ≤ t) → used_in (shut_rows b) t ≡ (if is_open b.calendar t then 0 else b.processors)
+      go (inl l) = used-here (λ u. if is_open b.calendar u then 0 else b.processors) slots t l
+      go (inr l) = used-past (λ u. if is_open b.calendar u then 0 else b.processors) slots t l ∙ rw (reopened b.calendar range t (omega arith)) refl
 
   open-used : (t : ℕ) → is_open b.calendar t ≡ true → used_in (shut_rows b) t ≡ 0
   open-used t e = shut-used t ∙ rw e refl
@@ -79,10 +78,10 @@ abbrev pub added_rows : Book → ℕ → List Row → List Row
 added_rows b f rows = new_rows b f (slots_for b (flow_of b f)) rows
 
 -- the flow is placed beside the rows before it and the maintenance
-pub record FlowAdded (n : ℕ) (b : Book) (f : ℕ) (rows : List Row) (area out : List ℕ) (at : ℕ) (out' area' : List ℕ) (finish next : ℕ) : Type 0 where
+pub record FlowAdded (b : Book) (f : ℕ) (rows : List Row) (area out : List ℕ) (at : ℕ) (out' area' : List ℕ) (finish next : ℕ) : Type 0 where
   pub placed : place_flow b f rows ≡ planned (rows ++ added_rows b f rows)
   pub put : Put out at (added_rows b f rows) out' next
-  pub area_used : area' ≡ work_used n (shut_rows b ++ (rows ++ added_rows b f rows)) area
+  pub area_used : area' ≡ work_used slots (shut_rows b ++ (rows ++ added_rows b f rows)) area
   pub ends : finish ≡ finish_of (added_rows b f rows) f
   pub within : (t : ℕ) → used_in (shut_rows b ++ (rows ++ added_rows b f rows)) t ≤ b.processors
   pub next_within : next ≤ at + 3145728
@@ -92,7 +91,7 @@ work-left : (f : ℕ) (ps : List PseudoJob) (rows : List Row) → (ps ≡ [] →
 work-left f [] rows some = absurd (some refl)
 work-left f (p ∷ ps) rows some = refl
 
-module _ (c : Calendar) (b : Book) (range : CalendarInRange mill c) (none : b.calendar ≡ []) (f : ℕ) where
+module _ (c : Calendar) (b : Book) (range : CalendarInRange c) (none : b.calendar ≡ []) (f : ℕ) where
   abbrev B : Book
   B = with_calendar c b
 
@@ -133,58 +132,58 @@ module _ (c : Calendar) (b : Book) (range : CalendarInRange mill c) (none : b.ca
     all_same : (shut_rows B ++ rows) ++ new_rows b f limit (shut_rows B ++ rows) ≡ shut_rows B ++ (rows ++ added_rows B f rows)
     all_same = append_assoc (shut_rows B) rows (new_rows b f limit (shut_rows B ++ rows)) ∙ ap (λ (new : List Row). shut_rows B ++ (rows ++ new)) added-same
 
-    pub flow-added : {n : ℕ} {area out out' area' : List ℕ} {at finish next : ℕ} → FlowDone n b f limit (shut_rows B ++ rows) area out at out' area' finish next →
-        FlowAdded n B f rows area out at out' area' finish next
-    flow-added {n} {area} {out} {out'} {area'} {at} {finish} {next} d = record {
+    pub flow-added : {area out out' area' : List ℕ} {at finish next : ℕ} → FlowDone b f limit (shut_rows B ++ rows) area out at out' area' finish next →
+        FlowAdded B f rows area out at out' area' finish next
+    flow-added {area} {out} {out'} {area'} {at} {finish} {next} d = record {
       placed = unfold place_flow in rw (sym (ap (λ (g : Progress). g.left) stands_same) ∙ d.finished) refl;
       put = subst (λ (new : List Row). Put out at new out' next) added-same d.put;
-      area_used = d.area_used ∙ ap (λ (all : List Row). work_used n all area) all_same;
+      area_used = d.area_used ∙ ap (λ (all : List Row). work_used slots all area) all_same;
       ends = d.ends ∙ ap (λ (new : List Row). finish_of new f) added-same;
       within = λ t. subst (λ (all : List Row). used_in all t ≤ b.processors) all_same (d.within t);
       next_within = d.next_within;
     }
 
-    pub flow-refused : {n : ℕ} {area out out' area' : List ℕ} → FlowInfeasible n b f limit (shut_rows B ++ rows) area out out' area' → place_flow B f rows ≡ infeasible f
+    pub flow-refused : {area out out' area' : List ℕ} → FlowInfeasible b f limit (shut_rows B ++ rows) area out out' area' → place_flow B f rows ≡ infeasible f
     unfolding place_flow
     flow-refused d = work-left f _ _ (λ q. d.unfinished (ap (λ (g : Progress). g.left) stands_same ∙ q))
 
 -- ---- the area
 -- rows counted over the use of others are counted over the area that it was
-pub used_again : (n : ℕ) (rows others : List Row) (area : List ℕ) → work_used n rows (work_used n others area) ≡ work_used n rows area
+pub used-again : (n : ℕ) (rows others : List Row) (area : List ℕ) → work_used n rows (work_used n others area) ≡ work_used n rows area
 unfolding work_used
-used_again n rows others area = ap (λ (l : List ℕ). join_from (λ t. bytes_of 2 (used_in rows t)) n 0 ++ l) (used-rest n others area)
+used-again n rows others area = ap (λ (l : List ℕ). join_from (λ t. bytes_of 2 (used_in rows t)) n 0 ++ l) (used-rest n others area)
 
 -- an area with any use, cleared
 holding-cleared : (n : ℕ) (g : ℕ → ℕ) (area : List ℕ) → work_zero n (area_holding n g area) ≡ work_zero n area
 holding-cleared n g area =
-    let rows = join_from (λ u. row_for u mill.flows 0 (g u)) n 0 in
+    let rows = join_from (λ u. row_for u most_flows 0 (g u)) n 0 in
     ap (work_zero n) (holding_ext n area g (used_in rows) (λ t l. sym (used-here g n t l)) ∙ sym (used_holding n rows area)) ∙ used-cleared n rows area
 
 -- a value in each shut slot of an area, the others as they were
-abbrev pub ShutTo : ℕ → Calendar → ℕ → List ℕ → List ℕ → Type 0
-ShutTo n c value area area' = (used : ℕ → ℕ) (bytes : List ℕ) → area ≡ area_holding n used bytes →
-    area' ≡ area_holding n (λ t. if is_open c t then used t else value) bytes
+abbrev pub ShutTo : Calendar → ℕ → List ℕ → List ℕ → Type 0
+ShutTo c value area area' = (used : ℕ → ℕ) (bytes : List ℕ) → area ≡ area_holding slots used bytes →
+    area' ≡ area_holding slots (λ t. if is_open c t then used t else value) bytes
 
-module _ (n : ℕ) (b : Book) (range : CalendarInRange mill b.calendar) where
+module _ (b : Book) (range : CalendarInRange b.calendar) where
   -- all processors there: the area holds the maintenance
-  pub shut_area : (area area' : List ℕ) → area ≡ work_used n [] area → ShutTo n b.calendar b.processors area area' → area' ≡ work_used n (shut_rows b) area
+  pub shut_area : (area area' : List ℕ) → area ≡ work_used slots [] area → ShutTo b.calendar b.processors area area' → area' ≡ work_used slots (shut_rows b) area
   unfolding used_in sum_where
   shut_area area area' e set =
-      set (used_in []) area (e ∙ used_holding n [] area) ∙ holding_ext n area _ (used_in (shut_rows b)) (λ t l. sym (shut-used b range t))
-      ∙ sym (used_holding n (shut_rows b) area)
+      set (used_in []) area (e ∙ used_holding slots [] area) ∙ holding_ext slots area _ (used_in (shut_rows b)) (λ t l. sym (shut-used b range t))
+      ∙ sym (used_holding slots (shut_rows b) area)
 
   -- 0 there, and the area holds the use of the flows alone
   pub opened-area : (rows : List Row) (area₀ area area' : List ℕ) → ((t : ℕ) → used_in (shut_rows b ++ rows) t ≤ b.processors) →
-      area ≡ work_used n (shut_rows b ++ rows) area₀ → ShutTo n b.calendar 0 area area' → area' ≡ work_used n rows area₀
+      area ≡ work_used slots (shut_rows b ++ rows) area₀ → ShutTo b.calendar 0 area area' → area' ≡ work_used slots rows area₀
   opened-area rows area₀ area area' within e set =
-      set (used_in (shut_rows b ++ rows)) area₀ (e ∙ used_holding n (shut_rows b ++ rows) area₀)
-      ∙ holding_ext n area₀ _ (used_in rows) (λ t l. go t (is_open b.calendar t) refl) ∙ sym (used_holding n rows area₀)
+      set (used_in (shut_rows b ++ rows)) area₀ (e ∙ used_holding slots (shut_rows b ++ rows) area₀)
+      ∙ holding_ext slots area₀ _ (used_in rows) (λ t l. go t (is_open b.calendar t) refl) ∙ sym (used_holding slots rows area₀)
     where
       go : (t : ℕ) (o : Bool) → is_open b.calendar t ≡ o → (if o then used_in (shut_rows b ++ rows) t else 0) ≡ used_in rows t
       go t true q = omega (arith, used-append (shut_rows b) rows t, open-used b range t q)
       go t false q = omega (arith, used-append (shut_rows b) rows t, all-used b range t q, within t)
 
   -- whatever it held, it is cleared as before
-  pub opened-cleared : (others : List Row) (area₀ area area' : List ℕ) → area ≡ work_used n others area₀ → ShutTo n b.calendar 0 area area' →
-      work_zero n area' ≡ work_zero n area₀
-  opened-cleared others area₀ area area' e set = ap (work_zero n) (set (used_in others) area₀ (e ∙ used_holding n others area₀)) ∙ holding-cleared n _ area₀
+  pub opened-cleared : (others : List Row) (area₀ area area' : List ℕ) → area ≡ work_used slots others area₀ → ShutTo b.calendar 0 area area' →
+      work_zero slots area' ≡ work_zero slots area₀
+  opened-cleared others area₀ area area' e set = ap (work_zero slots) (set (used_in others) area₀ (e ∙ used_holding slots others area₀)) ∙ holding-cleared slots _ area₀

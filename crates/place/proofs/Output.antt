@@ -92,8 +92,8 @@ put-more out out' out'' at next next' xs ys p q =
       offset = rw length-append (omega (arith, p.offset, q.offset));
     }
 
-pub put-same_length : (out out' : List ℕ) (at next : ℕ) (rows : List Row) → Put out at rows out' next → length out' ≡ length out
-put-same_length out out' at next rows p = rw p.output (put-length out at rows)
+pub put-same-length : (out out' : List ℕ) (at next : ℕ) (rows : List Row) → Put out at rows out' next → length out' ≡ length out
+put-same-length out out' at next rows p = rw p.output (put-length out at rows)
 
 -- numbers set in a part of a list, which is put back
 pub set_in-part : (s w : List ℕ) (at n : ℕ) → length w ≡ n → at + n ≤ length s →

@@ -8,6 +8,7 @@ use native.Mathlib.Omega.{arith}
 use mathlib.Core.Bool.{Bool, true, false, false≢true}
 use mathlib.Core.List.{List, [], ◌∷◌}
 use lib.ListN.{length}
+use Rattle.rules.specs.Limits.{slots}
 use Rattle.rules.specs.Reading.{book_of}
 use Rattle.rules.specs.PseudoJobs.{PseudoJob, rate, work}
 use Rattle.rules.specs.Placing.{Progress, given, free_processors}
@@ -29,11 +30,11 @@ pub record RunSoFar (s : List ℕ) (c : Current) (x : Beside) (ps : List PseudoJ
   pub over : done ≡ work (current_flow s c) (pseudo_job c) → RunDone s c x ps slot out area next
 
 module _ {s : List ℕ} {c : Current} (v : InService s c) (x : Beside) (ps : List PseudoJob) where
-  pub run-begins : (slot : ℕ) (out area : List ℕ) (next : ℕ) → 0 < work (current_flow s c) (pseudo_job c) →
+  pub run_begins : (slot : ℕ) (out area : List ℕ) (next : ℕ) → 0 < work (current_flow s c) (pseudo_job c) →
       UnderwayBy s c x slot (standing (pseudo_job c ∷ ps) 0) out area next → RunSoFar s c x ps slot 0 out area next
-  run-begins slot out area next some u = record { going_on = λ l. u; over = λ e. absurd (omega arith) }
+  run_begins slot out area next some u = record { going_on = λ l. u; over = λ e. absurd (omega arith) }
 
-  pub run-goes_on : (slot done : ℕ) (out area out' area' : List ℕ) (next : ℕ) (r : Served) → slot < x.slots →
+  pub run-goes_on : (slot done : ℕ) (out area out' area' : List ℕ) (next : ℕ) (r : Served) → slot < slots →
       done < work (current_flow s c) (pseudo_job c) →
       RunSoFar s c x ps slot done out area next → SlotServed s c next done slot out area out' area' r →
       RunSoFar s c x ps (slot + 1) (done + r.give) out' area' r.next
@@ -42,9 +43,9 @@ module _ {s : List ℕ} {c : Current} (v : InService s c) (x : Beside) (ps : Lis
       let p = pseudo_job c in
       let free = free_processors (book_of s) c.flow x.rows slot in
       let u = so_far_lem.going_on left in
-      let e : r.give ≡ given w p done free = served.gives x ps inside u in
+      let e : r.give ≡ given w p done free = served.gives x ps u in
       let later : slot + 1 ≡ suc slot = omega arith in
-      let after = served.serves x ps inside u in
+      let after = served.serves x ps u in
       rw later (record {
         going_on = λ l.
             subst (λ (g : Progress). UnderwayBy s c x (suc slot) g out' area' r.next)
@@ -74,7 +75,7 @@ pub record RunKept (s : List ℕ) (c : Current) (from limit at : ℕ) (out₀ ar
   pub nothing_yet : slot ≡ from → done ≡ 0
   pub out_length : length out ≡ length out₀
   pub area_length : length area ≡ length area₀
-  pub so_far_lem : (x : Beside) (ps : List PseudoJob) → limit ≤ x.slots → UnderwayBy s c x from (standing (pseudo_job c ∷ ps) 0) out₀ area₀ at →
+  pub so_far_lem : (x : Beside) (ps : List PseudoJob) → UnderwayBy s c x from (standing (pseudo_job c ∷ ps) 0) out₀ area₀ at →
       RunSoFar s c x ps slot done out area next
 
 module _ {s : List ℕ} {c : Current} (v : InService s c) where
@@ -91,14 +92,14 @@ module _ {s : List ℕ} {c : Current} (v : InService s c) where
     nothing_yet = λ e. none;
     out_length = refl;
     area_length = refl;
-    so_far_lem = λ x ps room u. rw none (run-begins v x ps from out₀ area₀ at some-work u);
+    so_far_lem = λ x ps u. rw none (run_begins v x ps from out₀ area₀ at some-work u);
   }
 
   module _ {from limit at done slot next : ℕ} {out₀ area₀ out area : List ℕ} (k : RunKept s c from limit at out₀ area₀ out area done slot next) where
-    pub run-kept-next : {out' area' : List ℕ} {r : Served} {done' : ℕ} → slot < limit → done < work (current_flow s c) (pseudo_job c) →
+    pub run-kept-next : {out' area' : List ℕ} {r : Served} {done' : ℕ} → limit ≤ slots → slot < limit → done < work (current_flow s c) (pseudo_job c) →
         SlotServed s c next done slot out area out' area' r → done' ≡ done + r.give → length out' ≡ length out → length area' ≡ length area →
         RunKept s c from limit at out₀ area₀ out' area' done' (slot + 1) r.next
-    run-kept-next {out'} {area'} {r} {done'} inside left served more same_out same_area = record {
+    run-kept-next {out'} {area'} {r} {done'} most inside left served more same_out same_area = record {
       slot_from = omega (arith, k.slot_from);
       slot_to = omega arith;
       done_to = rw more served.give_within;
@@ -106,20 +107,20 @@ module _ {s : List ℕ} {c : Current} (v : InService s c) where
       nothing_yet = λ e. absurd (omega (arith, k.slot_from));
       out_length = same_out ∙ k.out_length;
       area_length = same_area ∙ k.area_length;
-      so_far_lem = λ x ps room u. rw more (run-goes_on v x ps slot done out area out' area' next r (omega arith) left (k.so_far_lem x ps room u) served);
+      so_far_lem = λ x ps u. rw more (run-goes_on v x ps slot done out area out' area' next r (omega arith) left (k.so_far_lem x ps u) served);
     }
 
     pub run-kept_stops : limit ≤ slot → done < work (current_flow s c) (pseudo_job c) →
-        (x : Beside) (ps : List PseudoJob) → limit ≤ x.slots → UnderwayBy s c x from (standing (pseudo_job c ∷ ps) 0) out₀ area₀ at → WorkLeft (book_of s)
+        (x : Beside) (ps : List PseudoJob) → UnderwayBy s c x from (standing (pseudo_job c ∷ ps) 0) out₀ area₀ at → WorkLeft (book_of s)
         c.flow x limit out area
-    run-kept_stops l left x ps room u = run_stops v x ps slot done limit out area next (omega (arith, k.slot_to)) left (k.so_far_lem x ps room u)
+    run-kept_stops l left x ps u = run_stops v x ps slot done limit out area next (omega (arith, k.slot_to)) left (k.so_far_lem x ps u)
 
     pub run-kept-done : work (current_flow s c) (pseudo_job c) ≤ done → RunPlaced s c from at limit out₀ area₀ out area slot next
     run-kept-done l = record {
       slot_after_is = go (lt-or_ge from slot);
       slot_within = k.slot_to;
       next_within = k.next_to;
-      finished = λ x ps room u. (k.so_far_lem x ps room u).over (omega (arith, k.done_to));
+      finished = λ x ps u. (k.so_far_lem x ps u).over (omega (arith, k.done_to));
     }
       where
         go : (from < slot) ⊎ (slot ≤ from) → from < slot
@@ -131,12 +132,12 @@ abbrev pub UsedKept : List ℕ → Current → ℕ → ℕ → List ℕ → List
 UsedKept s c from limit area₀ area done slot = (at : ℕ) → (next : ℕ) × RunKept s c from limit at [] area₀ [] area done slot next
 
 module _ {s : List ℕ} {c : Current} (v : InService s c) {from limit done slot : ℕ} {area₀ area : List ℕ} (k : UsedKept s c from limit area₀ area done slot) where
-  pub used-kept-next : {area' : List ℕ} {give done' : ℕ} → slot < limit → done < work (current_flow s c) (pseudo_job c) →
+  pub used-kept-next : {area' : List ℕ} {give done' : ℕ} → limit ≤ slots → slot < limit → done < work (current_flow s c) (pseudo_job c) →
       SlotUsed s c done slot area area' give → done' ≡ done + give → length area' ≡ length area → UsedKept s c from limit area₀ area' done' (slot + 1)
-  used-kept-next inside left served more same at =
+  used-kept-next most inside left served more same at =
       let here = k at in
       let next = served here.0 in
-      (next.0, run-kept-next v here.1 inside left next.1 more refl same)
+      (next.0, run-kept-next v here.1 most inside left next.1 more refl same)
 
   pub used-kept_stops : limit ≤ slot → done < work (current_flow s c) (pseudo_job c) → RunUsed s c from limit area₀ area Infeasible
   used-kept_stops l left at = run-kept_stops v (k at).1 l left

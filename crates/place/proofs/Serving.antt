@@ -5,7 +5,6 @@ use native.Mathlib.Omega.{arith}
 use mathlib.Core.List.{List}
 use lib.ListN.{get_or}
 use Rattle.rules.specs.declared.Verdict.TheVariants.{Pass}
-use Rattle.rules.specs.Ranges.{mill}
 use Rattle.rules.specs.Book.{flow_count, job_count, flow_of, InRange, FlowInRange}
 use Rattle.rules.specs.Ideal.{take_of}
 use Rattle.rules.specs.Reading.{book_of, book_fault}
@@ -19,19 +18,19 @@ use Rattle.place.specs.Service.{InService, PartsHeld, current_flow}
 use Rattle.chain.proofs.Parts.{parts-few, amount-within}
 
 -- no job of a book that passes takes more processors than there may be
-pub takes-within : (s : List ℕ) (f t : ℕ) → book_fault mill s ≡ Pass → f < flow_count (book_of s) → (i : ℕ) → i < job_count (flow_of (book_of s) f) →
+pub takes-within : (s : List ℕ) (f t : ℕ) → book_fault s ≡ Pass → f < flow_count (book_of s) → (i : ℕ) → i < job_count (flow_of (book_of s) f) →
     take_of (flow_of (book_of s) f) i t ≤ 4096
 takes-within s f t passes flow_in_is i l =
-    let b = pass_in-range mill s passes in
-    let j = (used_in-range mill b f flow_in_is).each_job i l in
+    let b = pass_in-range s passes in
+    let j = (used_in-range b f flow_in_is).each_job i l in
     omega (arith, take-within-cap (flow_of (book_of s) f) i j.cap_least t, j.cap_most, b.processors_most)
 
 module _ {s : List ℕ} {c : Current} (v : InService s c) where
-  book_in-range : InRange mill (book_of s)
-  book_in-range = pass_in-range mill s v.passes
+  book_in-range : InRange (book_of s)
+  book_in-range = pass_in-range s v.passes
 
-  flow_in-range : FlowInRange mill (book_of s).processors (current_flow s c)
-  flow_in-range = used_in-range mill book_in-range c.flow v.flow_in_is
+  flow_in-range : FlowInRange (book_of s).processors (current_flow s c)
+  flow_in-range = used_in-range book_in-range c.flow v.flow_in_is
 
   pub flow-within : c.flow < 64
   flow-within = omega (arith, v.flow_in_is, book_in-range.flows_most)
@@ -66,5 +65,5 @@ module _ {s : List ℕ} {c : Current} {names takes : List ℕ} (h : PartsHeld s 
       )
 
   -- what is asked to pack the parts
-  pub parts_fit : (q : ℕ) → q < c.parts → get_or takes q 0 ≤ 4096
-  parts_fit = amount-within (λ i. take_of (current_flow s c) i c.first) _ names takes c.parts 4096 h.parts (take_within h.in_service)
+  pub parts-fit : (q : ℕ) → q < c.parts → get_or takes q 0 ≤ 4096
+  parts-fit = amount-within (λ i. take_of (current_flow s c) i c.first) _ names takes c.parts 4096 h.parts (take_within h.in_service)

@@ -5,6 +5,7 @@ use Prim.Native.Nat.{ℕ, suc, ◌+◌, ◌*◌, ◌≤◌, ◌<◌}
 use native.Mathlib.Omega.{arith}
 use mathlib.Core.List.{List, [], ◌∷◌, ◌++◌, append_assoc, append-nil}
 use lib.Seq.{sets}
+use Rattle.rules.specs.Limits.{slots}
 use Rattle.rules.specs.Fields.{field, bytes_of}
 use Rattle.rules.specs.Book.{Flow, Book, job_count, flow_of}
 use Rattle.rules.specs.PseudoJobs.{PseudoJob, rate, work}
@@ -36,7 +37,7 @@ module _ (w : Flow) (f t : ℕ) (p : PseudoJob) (done n : ℕ) where
   job-rows-finish pos h l = rw (← rows-below-all w f t p done n) (slot-rows-finish t f _ (job_count w) (rw (shares_sum w p done n pos h) l))
 
 module _ (b : Book) (f : ℕ) (x : Beside) (t : ℕ) (p : PseudoJob) (ps : List PseudoJob) (done : ℕ) (out area : List ℕ) (at : ℕ)
-    (few : b.processors < 65536) (inside : t < x.slots) (u : Underway b f x t (standing (p ∷ ps) done) out area at) where
+    (few : b.processors < 65536) (inside : t < slots) (u : Underway b f x t (standing (p ∷ ps) done) out area at) where
   abbrev w : Flow
   w = flow_of b f
 
@@ -50,7 +51,7 @@ module _ (b : Book) (f : ℕ) (x : Beside) (t : ℕ) (p : PseudoJob) (ps : List 
   pub used-before : field 2 area (2 * t) ≡ used_in x.rows t
   used-before =
       rw u.area_used
-      (used_pair x.slots (x.rows ++ rows_up_to b f x t) x.area t inside (omega (arith, used-so_far, u.within t)) ∙ used-so_far)
+      (used_pair slots (x.rows ++ rows_up_to b f x t) x.area t inside (omega (arith, used-so_far, u.within t)) ∙ used-so_far)
 
   rows_next : rows_up_to b f x (suc t) ≡ rows_up_to b f x t ++ job_rows w f t p done (given w p done free)
   rows_next =
@@ -78,8 +79,8 @@ module _ (b : Book) (f : ℕ) (x : Beside) (t : ℕ) (p : PseudoJob) (ps : List 
         area_used =
             stored
             ∙ rw (u.area_used, ← used-so_far) refl
-            ∙ sym (used-more x.slots t n rows new x.area inside (job-rows-used w f t p done n pos h) (job-rows-elsewhere w f t p done n))
-            ∙ ap (λ more. work_used x.slots more x.area) (append_assoc x.rows (rows_up_to b f x t) new ∙ ap (x.rows ++◌) (sym all));
+            ∙ sym (used-more slots t n rows new x.area inside (job-rows-used w f t p done n pos h) (job-rows-elsewhere w f t p done n))
+            ∙ ap (λ more. work_used slots more x.area) (append_assoc x.rows (rows_up_to b f x t) new ∙ ap (x.rows ++◌) (sym all));
         put = rw all (put-more x.output out out' x.offset at next (rows_up_to b f x t) new u.put put);
       }
 

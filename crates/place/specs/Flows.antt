@@ -1,7 +1,7 @@
 -- One flow on its way through the slots, as the code places it: what it is placed beside, where it stands after some slots, and what the
 -- routines leave behind. Assumes nothing.
 use Rattle.std.specs.Prelude.{◌≡◌, ℕ, suc, ◌+◌, ◌*◌, ◌-◌, ◌<◌, ◌≤◌, Bool, true, false, List, [], ◌∷◌, ◌++◌, length}
-use Rattle.rules.specs.Ranges.{mill}
+use Rattle.rules.specs.Limits.{slots}
 use Rattle.rules.specs.declared.Verdict.TheVariants.{Pass}
 use Rattle.rules.specs.Book.{Book, flow_count, flow_of}
 use Rattle.rules.specs.Reading.{book_of, book_fault}
@@ -21,11 +21,10 @@ use Rattle.place.specs.Service.{current_flow, pseudo_job}
 abbrev pub standing : List PseudoJob → ℕ → Progress
 standing left done = record { left = left; done = done }
 
--- what a flow is placed beside: the rows of the flows before it, the slots of the area, its bytes past them, and the output and the offset in it at
+-- what a flow is placed beside: the rows of the flows before it, the bytes of the area past the slots, and the output and the offset in it at
 -- which its own rows begin
 pub record Beside : Type 0 where
   pub rows : List Row
-  pub slots : ℕ
   pub area : List ℕ
   pub output : List ℕ
   pub offset : ℕ
@@ -39,7 +38,7 @@ pub record Underway (b : Book) (f : ℕ) (x : Beside) (t : ℕ) (g : Progress) (
   pub within : (u : ℕ) → used_in x.rows u ≤ b.processors
   pub released : (flow_of b f).release ≤ t
   pub stands : progress (flow_of b f) (free_processors b f x.rows) t ≡ g
-  pub area_used : area ≡ work_used x.slots (x.rows ++ rows_up_to b f x t) x.area
+  pub area_used : area ≡ work_used slots (x.rows ++ rows_up_to b f x t) x.area
   pub put : Put x.output x.offset (rows_up_to b f x t) out next
 
 -- ---- one slot
@@ -50,9 +49,9 @@ UnderwayBy s c x t g out area next = Underway (book_of s) c.flow x t g out area 
 pub record SlotServed (s : List ℕ) (c : Current) (at done slot : ℕ) (out area out' area' : List ℕ) (r : Served) : Type 0 where
   pub give_within : done + r.give ≤ work (current_flow s c) (pseudo_job c)
   pub next_within : r.next ≤ at + 384
-  pub gives : (x : Beside) (ps : List PseudoJob) → slot < x.slots → UnderwayBy s c x slot (standing (pseudo_job c ∷ ps) done) out area at →
+  pub gives : (x : Beside) (ps : List PseudoJob) → UnderwayBy s c x slot (standing (pseudo_job c ∷ ps) done) out area at →
       r.give ≡ given (current_flow s c) (pseudo_job c) done (free_processors (book_of s) c.flow x.rows slot)
-  pub serves : (x : Beside) (ps : List PseudoJob) → slot < x.slots → UnderwayBy s c x slot (standing (pseudo_job c ∷ ps) done) out area at →
+  pub serves : (x : Beside) (ps : List PseudoJob) → UnderwayBy s c x slot (standing (pseudo_job c ∷ ps) done) out area at →
       UnderwayBy s c x (suc slot) (after_slot (current_flow s c) (pseudo_job c ∷ ps) done (free_processors (book_of s) c.flow x.rows slot)) out' area' r.next
 
 -- ---- one pseudo-job
@@ -73,14 +72,14 @@ pub record RunPlaced (s : List ℕ) (c : Current) (from at limit : ℕ) (out are
   pub slot_after_is : from < slot
   pub slot_within : slot ≤ limit
   pub next_within : next ≤ at + 384 * (slot - from)
-  pub finished : (x : Beside) (ps : List PseudoJob) → limit ≤ x.slots → UnderwayBy s c x from (standing (pseudo_job c ∷ ps) 0) out area at →
+  pub finished : (x : Beside) (ps : List PseudoJob) → UnderwayBy s c x from (standing (pseudo_job c ∷ ps) 0) out area at →
       RunDone s c x ps slot out' area' next
 
 -- what the placing of a pseudo-job from slot `from` on answers
 abbrev pub RunAnswer : List ℕ → Current → ℕ → ℕ → ℕ → List ℕ → List ℕ → List ℕ → List ℕ → Placed → Type 0
 RunAnswer s c from at limit out area out' area' (To slot next) = RunPlaced s c from at limit out area out' area' slot next
 RunAnswer s c from at limit out area out' area' Infeasible =
-    (x : Beside) (ps : List PseudoJob) → limit ≤ x.slots → UnderwayBy s c x from (standing (pseudo_job c ∷ ps) 0) out area at →
+    (x : Beside) (ps : List PseudoJob) → UnderwayBy s c x from (standing (pseudo_job c ∷ ps) 0) out area at →
     WorkLeft (book_of s) c.flow x limit out' area'
 
 -- ---- without rows
@@ -115,7 +114,7 @@ RunGoes listed s c from held limit out area out' area' Infeasible =
 -- the lists hold flow f of the book in these bytes, which passes: its caps, and its starts, ends, last takes and least starts on endless
 -- processors
 pub record FlowHeld (s : List ℕ) (f : ℕ) (caps starts ends lasts firsts : List ℕ) (count path : ℕ) : Type 0 where
-  pub passes : book_fault mill s ≡ Pass
+  pub passes : book_fault s ≡ Pass
   pub flow_in_is : f < flow_count (book_of s)
   pub jobs : FlowJobs
   pub ideal : Ideal
@@ -135,25 +134,25 @@ stands_at b f limit rows = progress (flow_of b f) (free_processors b f rows) lim
 abbrev pub new_rows : Book → ℕ → ℕ → List Row → List Row
 new_rows b f limit rows = flow_rows (flow_of b f) f (free_processors b f rows) limit
 
--- it is finished, and its rows are put and counted in, in an area of n slots
-pub record FlowDone (n : ℕ) (b : Book) (f limit : ℕ) (rows : List Row) (area out : List ℕ) (at : ℕ) (out' area' : List ℕ) (finish next : ℕ) : Type 0 where
+-- it is finished, and its rows are put and counted in
+pub record FlowDone (b : Book) (f limit : ℕ) (rows : List Row) (area out : List ℕ) (at : ℕ) (out' area' : List ℕ) (finish next : ℕ) : Type 0 where
   pub finished : (stands_at b f limit rows).left ≡ []
   pub put : Put out at (new_rows b f limit rows) out' next
-  pub area_used : area' ≡ work_used n (rows ++ new_rows b f limit rows) area
+  pub area_used : area' ≡ work_used slots (rows ++ new_rows b f limit rows) area
   pub ends : finish ≡ finish_of (new_rows b f limit rows) f
   pub within : (t : ℕ) → used_in (rows ++ new_rows b f limit rows) t ≤ b.processors
   pub next_within : next ≤ at + 3145728
   pub finish_within : finish ≤ limit
 
 -- it makes the book infeasible
-pub record FlowInfeasible (n : ℕ) (b : Book) (f limit : ℕ) (rows : List Row) (area out out' area' : List ℕ) : Type 0 where
+pub record FlowInfeasible (b : Book) (f limit : ℕ) (rows : List Row) (area out out' area' : List ℕ) : Type 0 where
   pub unfinished : (stands_at b f limit rows).left ≡ [] → ⊥
   pub others : List Row
-  pub area_used : area' ≡ work_used n others area
+  pub area_used : area' ≡ work_used slots others area
   pub length_kept : length out' ≡ length out
 
 -- what the placing of flow f in the slots below a limit answers
-abbrev pub FlowPlaced : Bool → ℕ → Book → ℕ → ℕ → List Row → List ℕ → List ℕ → ℕ → List ℕ → List ℕ → Placed → Type 0
-FlowPlaced listed n b f limit rows area out at out' area' (To finish next) =
-    (offset : ℕ) × OffsetIf listed offset next × FlowDone n b f limit rows area out at out' area' finish offset
-FlowPlaced listed n b f limit rows area out at out' area' Infeasible = FlowInfeasible n b f limit rows area out out' area'
+abbrev pub FlowPlaced : Bool → Book → ℕ → ℕ → List Row → List ℕ → List ℕ → ℕ → List ℕ → List ℕ → Placed → Type 0
+FlowPlaced listed b f limit rows area out at out' area' (To finish next) =
+    (offset : ℕ) × OffsetIf listed offset next × FlowDone b f limit rows area out at out' area' finish offset
+FlowPlaced listed b f limit rows area out at out' area' Infeasible = FlowInfeasible b f limit rows area out out' area'

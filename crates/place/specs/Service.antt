@@ -2,7 +2,6 @@
 use Rattle.std.specs.Prelude.{◌≡◌, ℕ, ◌+◌, ◌*◌, ◌-◌, ◌/◌, ◌%◌, ◌<◌, ◌≤◌, min, max, List, [], ◌∷◌, length, get_or}
 use Rattle.rules.specs.declared.Verdict.TheVariants.{Pass}
 use Rattle.rules.specs.Walks.{join_from}
-use Rattle.rules.specs.Ranges.{mill}
 use Rattle.rules.specs.Book.{Flow, flow_count, job_count, flow_of}
 use Rattle.rules.specs.Reading.{book_of, book_fault}
 use Rattle.rules.specs.Ideal.{take_of}
@@ -29,7 +28,7 @@ Packs v f j n = (t : ℕ) → packed_row t v ≡ record { slot = t; flow = f; jo
 
 -- the values that the code holds are those of the book in these bytes, which passes
 pub record InService (s : List ℕ) (c : Current) : Type 0 where
-  pub passes : book_fault mill s ≡ Pass
+  pub passes : book_fault s ≡ Pass
   pub flow_in_is : c.flow < flow_count (book_of s)
   pub processors : c.processors ≡ (book_of s).processors
   pub rate : c.rate ≡ rate (current_flow s c) (pseudo_job c)

@@ -1,6 +1,7 @@
 // The placing of one flow beside those before it: its pseudo-jobs slot by slot, with rows or without.
 ghost use Rattle.std.specs.Prelude.{◌≡◌, ℕ, ◌+◌, ◌*◌, ◌-◌, ◌<◌, ◌≤◌, min, max, length, get_or, List, [], ◌∷◌};
 ghost use Rattle.rules.specs.PseudoJobs.{work};
+ghost use Rattle.rules.specs.Limits.{slots, work_bytes};
 ghost use Rattle.rules.specs.Reading.{book_of};
 ghost use Rattle.rules.specs.Rows.{Row, row_for, used_in, work_used};
 ghost use Rattle.book.specs.Promise.{FlowStands};
@@ -226,7 +227,7 @@ pub fn serve_slot(
     done: u64,
     slot: usize,
 ) -> Served
-    requires { Serving book.now c names.now takes.now rows.now × (2 * slot + 2 ≤ length area.old) × (done ≤ work (current_flow book.now c) (pseudo_job c)) × (slot < 8192) × (at + 384 < 4294967296) }
+    requires { Serving book.now c names.now takes.now rows.now × (work_bytes ≤ length area.old) × (done ≤ work (current_flow book.now c) (pseudo_job c)) × (slot < 8192) × (at + 384 < 4294967296) }
     ensures { SlotServed book.now c at done slot out.old area.old out.new area.new result }
 {
     let used = bytes::read16(area, 2 * slot);
@@ -252,7 +253,7 @@ pub fn place_run(
     from: usize,
     limit: usize,
 ) -> Placed
-    requires { Serving book.now c names.now takes.now rows.now × (2 * limit ≤ length area.old) × (from ≤ limit) × (limit ≤ 8192) × (at + 384 * (8192 - from) < 4294967296) }
+    requires { Serving book.now c names.now takes.now rows.now × (work_bytes ≤ length area.old) × (from ≤ limit) × (limit ≤ 8192) × (at + 384 * (8192 - from) < 4294967296) }
     ensures { RunAnswer book.now c from at limit out.old area.old out.new area.new result }
 {
     let total = work_of(c.width, c.rate);
@@ -284,7 +285,7 @@ pub fn place_run(
 
 // Rule 4 in one slot without rows: what the pseudo-job in service gets, of whose units `left` are not given.
 pub fn use_slot(book: &[u8], area: &mut [u8], c: Current, left: u64, slot: usize) -> u32
-    requires { InService book.now c × (2 * slot + 2 ≤ length area.old) × (left ≤ work (current_flow book.now c) (pseudo_job c)) × (slot < 8192) }
+    requires { InService book.now c × (work_bytes ≤ length area.old) × (left ≤ work (current_flow book.now c) (pseudo_job c)) × (slot < 8192) }
     ensures { SlotUsed book.now c (work (current_flow book.now c) (pseudo_job c) - left) slot area.old area.new result }
 {
     let used = bytes::read16(area, 2 * slot);
@@ -305,7 +306,7 @@ pub fn use_run(
     from: usize,
     limit: usize,
 ) -> Placed
-    requires { InService book.now c × (2 * limit ≤ length area.old) × (from ≤ limit) × (limit ≤ 8192) }
+    requires { InService book.now c × (work_bytes ≤ length area.old) × (from ≤ limit) × (limit ≤ 8192) }
     ensures { RunUsed book.now c from limit area.old area.new result }
 {
     let mut left = work_of(c.width, c.rate);
@@ -335,7 +336,7 @@ pub fn run_as(
     from: usize,
     limit: usize,
 ) -> Placed
-    requires { PartsHeld book.now c names.now takes.now × (c.parts ≤ length rows.old) × (2 * limit ≤ length area.old) × (from ≤ limit) × (limit ≤ 8192) × OutputRoom listed (length out.old) (at + 384 * (8192 - from)) }
+    requires { PartsHeld book.now c names.now takes.now × (c.parts ≤ length rows.old) × (work_bytes ≤ length area.old) × (from ≤ limit) × (limit ≤ 8192) × OutputRoom listed (length out.old) (at + 384 * (8192 - from)) }
     ensures { RunGoes listed book.now c from at limit out.old area.old out.new area.new result }
 {
     if listed {
@@ -368,8 +369,8 @@ pub fn place_cuts(
     limit: usize,
     release: usize,
 ) -> Placed
-    requires { FlowHeld book.now f caps.now starts.now ends.now lasts.now firsts.now count path × (count ≤ length names.old) × (count ≤ length takes.old) × (count ≤ length rows.old) × (processors ≡ (book_of book.now).processors) × (release ≡ (flow_of (book_of book.now) f).release) × (release ≤ limit) × (limit ≤ 8192) × (2 * limit ≤ length area.old) × OutputRoom listed (length out.old) (at + 3145728) }
-    ensures { (n : ℕ) (rows : List Row) (bytes : List ℕ) → limit ≤ n → area.old ≡ work_used n rows bytes → ((t : ℕ) → used_in rows t ≤ processors) → FlowPlaced listed n (book_of book.now) f limit rows bytes out.old at out.new area.new result }
+    requires { FlowHeld book.now f caps.now starts.now ends.now lasts.now firsts.now count path × (count ≤ length names.old) × (count ≤ length takes.old) × (count ≤ length rows.old) × (processors ≡ (book_of book.now).processors) × (release ≡ (flow_of (book_of book.now) f).release) × (release ≤ limit) × (limit ≤ 8192) × (work_bytes ≤ length area.old) × OutputRoom listed (length out.old) (at + 3145728) }
+    ensures { (rows : List Row) (bytes : List ℕ) → area.old ≡ work_used slots rows bytes → ((t : ℕ) → used_in rows t ≤ processors) → FlowPlaced listed (book_of book.now) f limit rows bytes out.old at out.new area.new result }
 {
     let mut from: usize = 0;
     let mut t: u32 = 0;
@@ -412,8 +413,8 @@ pub fn place_flow(
     processors: u16,
     limit: u16,
 ) -> Placed
-    requires { FlowStands book.now f records × (processors ≡ (book_of book.now).processors) × (limit ≤ 8192) × (2 * limit ≤ length area.old) × OutputRoom listed (length out.old) (at + 3145728) }
-    ensures { (n : ℕ) (rows : List Row) (bytes : List ℕ) → limit ≤ n → area.old ≡ work_used n rows bytes → ((t : ℕ) → used_in rows t ≤ processors) → FlowPlaced listed n (book_of book.now) f limit rows bytes out.old at out.new area.new result }
+    requires { FlowStands book.now f records × (processors ≡ (book_of book.now).processors) × (limit ≤ 8192) × (work_bytes ≤ length area.old) × OutputRoom listed (length out.old) (at + 3145728) }
+    ensures { (rows : List Row) (bytes : List ℕ) → area.old ≡ work_used slots rows bytes → ((t : ℕ) → used_in rows t ≤ processors) → FlowPlaced listed (book_of book.now) f limit rows bytes out.old at out.new area.new result }
 {
     let mut sizes = [0u32; 64];
     let mut caps = [0u32; 64];

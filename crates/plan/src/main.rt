@@ -4,17 +4,17 @@
 // is cut short by it is turned down by 1. A write that fails is told in a line on standard error. The exit status is 0
 // in either case: a Rattle program cannot set it.
 ghost use Rattle.std.specs.Prelude.{◌≡◌, ◌≤◌, length};
-ghost use Rattle.rules.specs.Ranges.{mill};
+ghost use Rattle.rules.specs.Limits.{work_bytes};
 ghost use Rattle.plan_text.specs.Put.{TextPut};
 ghost use Rattle.plan_text.specs.Printed.{lent_bytes, text_bytes, printed, Prints};
 
 use libc::{STDERR_FILENO, STDOUT_FILENO};
 use plan_text::lines;
-use rules::{Limits, PlanAnswer};
+use rules::PlanAnswer;
 
 // The planner's answer to an input, with a calendar that has no windows; one that is longer than the bytes lent for a book is turned down by 1.
 fn plan_input(input: &[u8], output: &mut [u8], work: &mut [u8]) -> PlanAnswer
-    requires { (length output.old ≡ lent_bytes) × (mill.bytes ≤ length work.old) }
+    requires { (length output.old ≡ lent_bytes) × (work_bytes ≤ length work.old) }
     ensures { Prints (printed input.now) output.new result }
 {
     if 65536 < input.len() {
@@ -27,7 +27,7 @@ fn plan_input(input: &[u8], output: &mut [u8], work: &mut [u8]) -> PlanAnswer
         };
     }
     let calendar = [0u8, 0, 0, 6, 1, 0];
-    planner::plan_book(input, &calendar, output, work, Limits::mill())
+    planner::plan_book(input, &calendar, output, work)
 }
 
 // The text for an input.

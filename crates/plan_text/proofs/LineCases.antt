@@ -15,7 +15,7 @@ use Rattle.rules.specs.Fields.{byte, field}
 use Rattle.rules.specs.Table.{row_at}
 use Rattle.rules.specs.Text.{table_line, finish_line, row_line, refusal_line}
 use Rattle.plan_text.specs.Put.{TextPut, longest_line}
-use Rattle.plan_text.proofs.Pieces.{put_as, put-after, table-line_most, finish-line_most, row-line_most, refusal-line_most}
+use Rattle.plan_text.proofs.Pieces.{put_as, put-after, table_line_most, finish_line_most, row_line_most, refusal_line_most}
 use Rattle.plan_text.specs.Lines.{TableWithin, flows_in, table_line_at, table_lines, line_at, line_count, first_lines, text_of}
 
 -- the values read one by one are the row
@@ -77,13 +77,13 @@ either_most false x y p q = q
 table_most : (table : List ℕ) (bytes late n : ℕ) → length (table_line_at table bytes late n) ≤ longest_line
 unfolding table_line_at
 table_most table bytes late n =
-    either_most (eqb n 0) _ _ (table-line_most bytes late)
-    (either_most (leb n (flows_in table)) _ _ (finish-line_most (n - 1) (field 2 table (6 + 2 * n))) (row-line_most _))
+    either_most (eqb n 0) _ _ (table_line_most bytes late)
+    (either_most (leb n (flows_in table)) _ _ (finish_line_most (n - 1) (field 2 table (6 + 2 * n))) (row_line_most _))
 
 pub line_most : (table : List ℕ) (a : PlanAnswer) (n : ℕ) → length (line_at table a n) ≤ longest_line
 unfolding line_at
 line_most table a n =
-    either_most (eqb a.number 0) _ _ (table_most table a.length a.late n) (refusal-line_most a.number a.flow a.job)
+    either_most (eqb a.number 0) _ _ (table_most table a.length a.late n) (refusal_line_most a.number a.flow a.job)
 
 -- ---- lines put one after the other
 pub text-none : (table : List ℕ) (a : PlanAnswer) {l : List ℕ} → TextPut l 0 (first_lines table a 0) l 0

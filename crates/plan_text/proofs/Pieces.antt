@@ -99,13 +99,13 @@ pub put-pair_line : (first : List ℕ) (x : ℕ) (second : List ℕ) (y : ℕ) {
     TextPut l at (first ++ decimal x) m j → TextPut m j (second ++ decimal y) n k → TextPut n k word_end r next → TextPut l at (pair_line first x second y) r next
 put-pair_line first x second y p q e = put_as (simp append_assoc) (put-after p (put-after q e))
 
-pub table-line : (bytes late : ℕ) → pair_line word_table bytes word_late late ≡ table_line bytes late
+pub table_line_lem : (bytes late : ℕ) → pair_line word_table bytes word_late late ≡ table_line bytes late
 unfolding table_line
-table-line bytes late = refl
+table_line_lem bytes late = refl
 
-pub finish-line : (flow finish : ℕ) → pair_line word_finish flow word_space finish ≡ finish_line flow finish
+pub finish_line_lem : (flow finish : ℕ) → pair_line word_finish flow word_space finish ≡ finish_line flow finish
 unfolding finish_line
-finish-line flow finish = refl
+finish_line_lem flow finish = refl
 
 pub put-row : (row : Row) {l m n r : List ℕ} {at j k next : ℕ} →
     TextPut l at (word_slot ++ decimal row.slot) m j → TextPut m j (word_flow ++ decimal row.flow) n k →
@@ -119,19 +119,19 @@ unfolding refusal_line
 put-refusal number flow job p q = put_as (simp append_assoc) (put-after p q)
 
 -- ---- no line is longer than 64 bytes
-pub table-line_most : (bytes late : ℕ) → length (table_line bytes late) ≤ longest_line
+pub table_line_most : (bytes late : ℕ) → length (table_line bytes late) ≤ longest_line
 unfolding table_line bytes_of
-table-line_most bytes late = simp length-append (omega (arith, digits_most 9 bytes, digits_most 9 late))
+table_line_most bytes late = simp length-append (omega (arith, digits_most 9 bytes, digits_most 9 late))
 
-pub finish-line_most : (flow finish : ℕ) → length (finish_line flow finish) ≤ longest_line
+pub finish_line_most : (flow finish : ℕ) → length (finish_line flow finish) ≤ longest_line
 unfolding finish_line bytes_of
-finish-line_most flow finish = simp length-append (omega (arith, digits_most 9 flow, digits_most 9 finish))
+finish_line_most flow finish = simp length-append (omega (arith, digits_most 9 flow, digits_most 9 finish))
 
-pub row-line_most : (r : Row) → length (row_line r) ≤ longest_line
+pub row_line_most : (r : Row) → length (row_line r) ≤ longest_line
 unfolding row_line bytes_of
-row-line_most r =
+row_line_most r =
     simp length-append (omega (arith, digits_most 9 r.slot, digits_most 9 r.flow, digits_most 9 r.job, digits_most 9 r.processors))
 
-pub refusal-line_most : (number flow job : ℕ) → length (refusal_line number flow job) ≤ longest_line
+pub refusal_line_most : (number flow job : ℕ) → length (refusal_line number flow job) ≤ longest_line
 unfolding refusal_line bytes_of
-refusal-line_most number flow job = simp length-append (omega (arith, digits_most 9 number, digits_most 9 flow, digits_most 9 job))
+refusal_line_most number flow job = simp length-append (omega (arith, digits_most 9 number, digits_most 9 flow, digits_most 9 job))

@@ -11,7 +11,7 @@ use borrow.Author.Tests.{lt-ltb, le-ltb}
 use Rattle.rules.specs.declared.PlanAnswer.{PlanAnswer}
 use Rattle.rules.specs.Walks.{join_from}
 use Rattle.rules.specs.Answers.{none, plan_accepted, plan_refused}
-use Rattle.rules.specs.Ranges.{mill}
+use Rattle.rules.specs.Limits.{work_bytes}
 use Rattle.rules.specs.Calendar.{no_windows}
 use Rattle.rules.specs.Book.{Book, InRange}
 use Rattle.rules.specs.Reading.{Reading, read, unread, read_book}
@@ -52,7 +52,7 @@ unfolding printed
 long-input_prints input out l = rw (lt-ltb lent_bytes (length input) l) (refusal_prints out 1 none none (omega arith))
 
 -- a planned table that fits is printed as the plan's text
-module _ (b : Book) (range : InRange mill b) (rows : List Row) (e : plan b ≡ planned rows) where
+module _ (b : Book) (range : InRange b) (rows : List Row) (e : plan b ≡ planned rows) where
   abbrev answer : PlanAnswer
   answer = plan_accepted (late_flows b rows) (table_length b rows)
 
@@ -83,15 +83,15 @@ module _ (b : Book) (range : InRange mill b) (rows : List Row) (e : plan b ≡ p
       }
 
 -- ---- every call
-module _ (out area : List ℕ) (lent : length out ≡ lent_bytes) (long : mill.bytes ≤ length area) where
-  outcome_prints : (b : Book) → InRange mill b → (p : Plan) → plan b ≡ p →
-      Prints (outcome_text b p) (plan_outcome mill b out area p).output (plan_outcome mill b out area p).answer
+module _ (out area : List ℕ) (lent : length out ≡ lent_bytes) (long : work_bytes ≤ length area) where
+  outcome_prints : (b : Book) → InRange b → (p : Plan) → plan b ≡ p →
+      Prints (outcome_text b p) (plan_outcome b out area p).output (plan_outcome b out area p).answer
   unfolding outcome_text plan_outcome
   outcome_prints b range (infeasible f) e = refusal_prints out 12 f none (omega arith)
   outcome_prints b range (planned rows) e = go (lt-or_ge (length out) (table_length b rows))
     where
       go : (length out < table_length b rows) ⊎ (table_length b rows ≤ length out) →
-          Prints (outcome_text b (planned rows)) (plan_outcome mill b out area (planned rows)).output (plan_outcome mill b out area (planned rows)).answer
+          Prints (outcome_text b (planned rows)) (plan_outcome b out area (planned rows)).output (plan_outcome b out area (planned rows)).answer
       go (inl l) =
           rw (lt-ltb (length out) (table_length b rows) l, lt-ltb lent_bytes (table_length b rows) (omega arith))
           (refusal_prints out 13 none none (omega arith))
@@ -99,14 +99,14 @@ module _ (out area : List ℕ) (lent : length out ≡ lent_bytes) (long : mill.b
           rw (le-ltb (length out) (table_length b rows) l, le-ltb lent_bytes (table_length b rows) (omega arith))
           (planned_prints b range rows e out l lent)
 
-  reading_prints : (input : List ℕ) (r : Reading) → read_book mill input no_windows ≡ r →
-      Prints (reading_text r) (plan_reading mill out area r).output (plan_reading mill out area r).answer
+  reading_prints : (input : List ℕ) (r : Reading) → read_book input no_windows ≡ r →
+      Prints (reading_text r) (plan_reading out area r).output (plan_reading out area r).answer
   unfolding reading_text plan_reading
-  reading_prints input (unread n f j) e = refusal_prints out n f j (unread_numbered mill input no_windows n f j e).0
-  reading_prints input (read b) e = rw (le-ltb (length area) mill.bytes long) (outcome_prints b (read_in-range mill input no_windows b e) (plan b) refl)
+  reading_prints input (unread n f j) e = refusal_prints out n f j (unread_numbered input no_windows n f j e).0
+  reading_prints input (read b) e = rw (le-ltb (length area) work_bytes long) (outcome_prints b (read_in-range input no_windows b e) (plan b) refl)
 
   -- any other input is answered by the planner
   pub call_prints : (input : List ℕ) → length input ≤ lent_bytes →
-      Prints (printed input) (plan_call mill input no_windows out area).output (plan_call mill input no_windows out area).answer
+      Prints (printed input) (plan_call input no_windows out area).output (plan_call input no_windows out area).answer
   unfolding printed plan_call
-  call_prints input l = rw (le-ltb lent_bytes (length input) l) (reading_prints input (read_book mill input no_windows) refl)
+  call_prints input l = rw (le-ltb lent_bytes (length input) l) (reading_prints input (read_book input no_windows) refl)

@@ -7,19 +7,17 @@ use native.Mathlib.Omega.{arith}
 use mathlib.Core.List.{List, ◌++◌, append-nil}
 use Rattle.rules.specs.Walks.{list_from, join_from}
 use Rattle.rules.specs.Fields.{byte, field, bytes_of}
-use Rattle.rules.specs.Ranges.{mill}
 use Rattle.rules.specs.Book.{Book, flow_count, flow_of, InRange}
 use Rattle.rules.specs.Rows.{Row, finish_of, late_flows}
 use Rattle.rules.specs.Placing.{planned, plan}
 use Rattle.rules.specs.Table.{table_head, row_length, table_length, table_bytes, row_at}
 use Rattle.rules.specs.Check.{table_rows}
 use Rattle.rules.specs.Text.{table_line, finish_line, row_line}
-use Rattle.rules.proofs.Reading.Wider.{mill_fits}
 use Rattle.rules.proofs.Reading.Caps.{used_in-range}
 use Rattle.rules.proofs.Laws.Walks.{join-split, join-ext, join-moved}
 use Rattle.rules.proofs.Rows.Rising.{◌∈◌}
 use Rattle.rules.proofs.Placing.OpenSlots.{limit_most}
-use Rattle.rules.proofs.Placing.PlannedValid.{planned-rows_fit}
+use Rattle.rules.proofs.Placing.PlannedValid.{planned-rows-fit}
 use Rattle.rules.proofs.Demands.Demand3Values.{planned-finish-fits}
 use Rattle.rules.proofs.Tables.TableBytes.{RowFits, table-bytes-length, table-rows_written, finish-written}
 use Rattle.plan_text.specs.Lines.{flows_in, rows_from, table_lines, table_line_at}
@@ -77,13 +75,13 @@ unfolding table_bytes bytes_of
 flows-written b rows l = rw (div-one, mod-eq_of_lt l)
 
 -- the rows of a plan fit their fields
-module _ (b : Book) (range : InRange mill b) (rows : List Row) (e : plan b ≡ planned rows) where
+module _ (b : Book) (range : InRange b) (rows : List Row) (e : plan b ≡ planned rows) where
   fields_fit : (r : Row) → r ∈ rows → RowFits r
   fields_fit r m =
-      let fit = planned-rows_fit mill mill_fits b range rows e r m in
-      let flow = used_in-range mill range r.flow fit.flow_in_is in
+      let fit = planned-rows-fit b range rows e r m in
+      let flow = used_in-range range r.flow fit.flow_in_is in
       record {
-        slot_fits = omega (arith, fit.slot_in, limit_most mill mill_fits b (flow_of b r.flow) range.calendar_in_range flow.deadline_most);
+        slot_fits = omega (arith, fit.slot_in, limit_most b (flow_of b r.flow));
         flow_fits = omega (arith, fit.flow_in_is, range.flows_most);
         job_fits = omega (arith, fit.job_in, flow.jobs_most);
         processors_fit = omega (arith, fit.processors_most, (flow.each_job r.job fit.job_in).cap_most, range.processors_most);
@@ -100,7 +98,7 @@ module _ (b : Book) (range : InRange mill b) (rows : List Row) (e : plan b ≡ p
   finishes-read =
       ap (λ (n : ℕ). join_from (λ f. finish_line f (field 2 table (8 + 2 * f))) n 0) flows_in_lem
       ∙ join-ext (λ f. finish_line f (field 2 table (8 + 2 * f))) (λ f. finish_line f (finish_of rows f)) (flow_count b) 0
-      (λ k l. ap (finish_line (0 + k)) (finish-written b rows (0 + k) (omega arith) (planned-finish-fits mill mill_fits b range rows e (0 + k) (omega arith))))
+      (λ k l. ap (finish_line (0 + k)) (finish-written b rows (0 + k) (omega arith) (planned-finish-fits b range rows e (0 + k) (omega arith))))
 
   rows-read : list_from (λ k. row_at table (rows_from table + row_length * k)) ((table_length b rows - rows_from table) / row_length) 0 ≡ rows
   unfolding table_rows

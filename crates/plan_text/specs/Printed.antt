@@ -3,7 +3,6 @@ use Rattle.std.specs.Prelude.{◌≡◌, ℕ, ◌*◌, ◌≤◌, List, [], ◌�
 use Rattle.rules.specs.declared.PlanAnswer.{PlanAnswer}
 use Rattle.rules.specs.Walks.{if◌then◌else◌, join_from}
 use Rattle.rules.specs.Answers.{none}
-use Rattle.rules.specs.Ranges.{mill}
 use Rattle.rules.specs.Calendar.{no_windows}
 use Rattle.rules.specs.Book.{Book, flow_count}
 use Rattle.rules.specs.Reading.{Reading, read, unread, read_book}
@@ -39,7 +38,7 @@ reading_text (read b) = outcome_text b (plan b)
 
 -- "an input longer than that is turned down by 1"; "the printing program plans with none" (02, Req 07), that is with no windows
 unfoldable pub printed : List ℕ → List ℕ
-printed input = if ltb lent_bytes (length input) then refusal_line 1 none none else reading_text (read_book mill input no_windows)
+printed input = if ltb lent_bytes (length input) then refusal_line 1 none none else reading_text (read_book input no_windows)
 
 -- room for the text of any answer, 64 bytes for each line
 abbrev pub text_bytes : ℕ

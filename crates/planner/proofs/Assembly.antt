@@ -23,14 +23,14 @@ use Rattle.planner.specs.Head.{table_head_bytes, finish_bytes}
 
 -- ---- rows
 -- rows that all fit are their bytes, stored
-pub put-all_fit : (out : List ℕ) (at : ℕ) (rows : List Row) → at + 6 * length rows ≤ length out → put_rows out at rows ≡ sets out at (rows_bytes rows)
+pub put-all-fit : (out : List ℕ) (at : ℕ) (rows : List Row) → at + 6 * length rows ≤ length out → put_rows out at rows ≡ sets out at (rows_bytes rows)
 unfolding put_rows put_row rows_bytes
-put-all_fit out at [] h = refl
-put-all_fit out at (r ∷ rs) h =
+put-all-fit out at [] h = refl
+put-all-fit out at (r ∷ rs) h =
     let fits : at + 6 ≤ length out = omega arith in
     let kept : length (sets out at (row_bytes r)) ≡ length out = length-sets out at (row_bytes r) in
     rw (le-leb (at + 6) (length out) fits) (
-    put-all_fit (sets out at (row_bytes r)) (at + 6) rs (omega arith)
+    put-all-fit (sets out at (row_bytes r)) (at + 6) rs (omega arith)
     ∙ ap (λ n. sets (sets out at (row_bytes r)) (at + n) (rows_bytes rs)) (sym (row-bytes-length r))
     ∙ sets-append out at (row_bytes r) (rows_bytes rs))
 
@@ -99,6 +99,6 @@ table-stored out finishes b rows l e =
     let lf : length f ≡ 2 * flow_count b = finishes-length finishes (flow_count b) in
     let lr : length r ≡ 6 * length rows = rows-bytes-length rows in
     let stored = parts-stored out h f r (omega arith) in
-    ap (λ x. sets (sets x 8 f) 0 h) (put-all_fit out (table_head b) rows l)
+    ap (λ x. sets (sets x 8 f) 0 h) (put-all-fit out (table_head b) rows l)
     ∙ rw (lh, lf, lr) at stored
     ∙ ap (λ x. h ++ x ++ r ++ drop (table_length b rows) out) (finishes_of finishes b rows e)

@@ -8,7 +8,7 @@ use mathlib.Core.List.{List, [], ◌++◌}
 use mathlib.Core.Logic.{◌⊎◌, inl, inr}
 use lib.ListN.{length, get_or, set, replicate, length-append, length-replicate, length-set}
 use lib.Seq.{get_or-set_same, get_or-set_other}
-use Rattle.rules.specs.Ranges.{mill}
+use Rattle.rules.specs.Limits.{slots}
 use Rattle.rules.specs.Calendar.{CalendarInRange}
 use Rattle.rules.specs.Book.{Book, flow_count}
 use Rattle.rules.specs.Service.{served_at}
@@ -29,14 +29,14 @@ use Rattle.planner.specs.declared.Whole.{Whole}
 use Rattle.planner.specs.Whole.{RowsPut, ended_of, FlowsPlaced, FirstPlaced}
 
 -- a flow whose rows are put is done at the offset that the code holds
-pub listed-done : {m : ℕ} {b : Book} {f limit : ℕ} {rows : List Row} {area out out' area' : List ℕ} {at finish next : ℕ} →
-    FlowPlaced true m b f limit rows area out at out' area' (To finish next) → FlowDone m b f limit rows area out at out' area' finish next
-listed-done {m} {b} {f} {limit} {rows} {area} {out} {out'} {area'} {at} {finish} p =
-    subst (λ (n : ℕ). FlowDone m b f limit rows area out at out' area' finish n) (p.1 refl) p.2
+pub listed-done : {b : Book} {f limit : ℕ} {rows : List Row} {area out out' area' : List ℕ} {at finish next : ℕ} →
+    FlowPlaced true b f limit rows area out at out' area' (To finish next) → FlowDone b f limit rows area out at out' area' finish next
+listed-done {b} {f} {limit} {rows} {area} {out} {out'} {area'} {at} {finish} p =
+    subst (λ (n : ℕ). FlowDone b f limit rows area out at out' area' finish n) (p.1 refl) p.2
 
 -- ---- where the planner is after k flows
-pub record PutSoFar (n : ℕ) (b : Book) (k : ℕ) (rows : List Row) (out area out' area' finishes : List ℕ) (next : ℕ) : Type 0 where
-  pub stands : Stands n b k rows area area'
+pub record PutSoFar (b : Book) (k : ℕ) (rows : List Row) (out area out' area' finishes : List ℕ) (next : ℕ) : Type 0 where
+  pub stands : Stands b k rows area area'
   pub rows_put : RowsPut b k rows out out' finishes next
   pub size : length finishes ≡ 64
 
@@ -51,21 +51,21 @@ zero-at zero i = refl
 zero-at (suc n) zero = refl
 zero-at (suc n) (suc i) = zero-at n i
 
-pub put-none_yet : (m : ℕ) (b : Book) (out area : List ℕ) (next n : ℕ) → CalendarInRange mill b.calendar → area ≡ work_used m (shut_rows b) area →
-    next ≡ table_head b → n ≡ 64 → PutSoFar m b 0 [] out area out area (replicate n 0) next
+pub put-none_yet : (b : Book) (out area : List ℕ) (next n : ℕ) → CalendarInRange b.calendar → area ≡ work_used slots (shut_rows b) area →
+    next ≡ table_head b → n ≡ 64 → PutSoFar b 0 [] out area out area (replicate n 0) next
 unfolding put_rows finish_of
-put-none_yet m b out area next n range holds e whole = record {
-  stands = stands-none m b area range holds;
+put-none_yet b out area next n range holds e whole = record {
+  stands = stands-none b area range holds;
   rows_put = record { put = record { output = refl; offset = omega arith }; finish = λ f l. zero-at n f; few = omega arith };
   size = length-replicate n 0 ∙ whole;
 }
 
 -- ---- one flow more: flow f, which is served at position k
-pub goes_on : {n : ℕ} {b : Book} {k f : ℕ} {rows : List Row} {out area out' area' finishes : List ℕ} {next : ℕ} →
-    PutSoFar n b k rows out area out' area' finishes next → k < flow_count b → f ≡ served_at b k → flow_count b ≤ 64 →
-    {out'' area'' : List ℕ} {finish next'' : ℕ} → FlowAdded n b f rows area out' next out'' area'' finish next'' →
-    PutSoFar n b (k + 1) (rows ++ added_rows b f rows) out area out'' area'' (set finishes f finish) next''
-goes_on {b = b} {k} {f} {rows} {out} {area} {out'} {area'} {finishes} {next} s l q few_flows {out''} {area''} {finish} {next''} d = record {
+pub goes_on : {b : Book} {k f : ℕ} {rows : List Row} {out area out' area' finishes : List ℕ} {next : ℕ} →
+    PutSoFar b k rows out area out' area' finishes next → k < flow_count b → f ≡ served_at b k → flow_count b ≤ 64 →
+    {out'' area'' : List ℕ} {finish next'' : ℕ} → FlowAdded b f rows area out' next out'' area'' finish next'' →
+    PutSoFar b (k + 1) (rows ++ added_rows b f rows) out area out'' area'' (set finishes f finish) next''
+goes_on {b} {k} {f} {rows} {out} {area} {out'} {area'} {finishes} {next} s l q few_flows {out''} {area''} {finish} {next''} d = record {
   stands = stands-next s.stands l q d;
   rows_put = record {
     put = put-more out out' out'' (table_head b) next next'' rows new s.rows_put.put d.put;
@@ -96,12 +96,12 @@ goes_on {b = b} {k} {f} {rows} {out} {area} {out'} {area'} {finishes} {next} s l
         go (inr m) (inr o) = own (omega arith)
 
 -- ---- the end
-module _ (n : ℕ) (b : Book) (k : ℕ) (out area out' area' : List ℕ) (r : Whole) where
+module _ (b : Book) (k : ℕ) (out area out' area' : List ℕ) (r : Whole) where
   -- all are placed
-  pub ends-planned : (j : ℕ) (rows : List Row) (next : ℕ) → PutSoFar n b j rows out area out' area' r.finish next → j ≡ k → r.ended ≡ Planned next →
-      FlowsPlaced n b k out area out' area' r
+  pub ends-planned : (j : ℕ) (rows : List Row) (next : ℕ) → PutSoFar b j rows out area out' area' r.finish next → j ≡ k → r.ended ≡ Planned next →
+      FlowsPlaced b k out area out' area' r
   unfolding table_length
-  ends-planned j rows next stood q e = let s : PutSoFar n b k rows out area out' area' r.finish next = rw q at stood in record {
+  ends-planned j rows next stood q e = let s : PutSoFar b k rows out area out' area' r.finish next = rw q at stood in record {
     ends = e ∙ ap Planned s.rows_put.put.offset ∙ ap (ended_of b) (sym s.stands.placed);
     rows_put = λ others d. let p = s.stands.placed in let e : others ≡ rows = cc in rw (e, ← s.rows_put.put.offset) s.rows_put;
     stands = λ others d. let p = s.stands.placed in let e : others ≡ rows = cc in rw e s.stands;
@@ -110,8 +110,8 @@ module _ (n : ℕ) (b : Book) (k : ℕ) (out area out' area' : List ℕ) (r : Wh
   }
 
   -- one of them is infeasible
-  pub ends-infeasible : (f : ℕ) (others : List Row) → place_first b k ≡ infeasible f → area' ≡ work_used n others area → r.ended ≡ Infeasible f →
-      FlowsPlaced n b k out area out' area' r
+  pub ends-infeasible : (f : ℕ) (others : List Row) → place_first b k ≡ infeasible f → area' ≡ work_used slots others area → r.ended ≡ Infeasible f →
+      FlowsPlaced b k out area out' area' r
   ends-infeasible f others p a e = record {
     ends = e ∙ ap (ended_of b) (sym p);
     rows_put = λ rows d. absurd (let z : ◌≡◌ {A = ℕ} 0 1 = cc in omega arith);
@@ -121,11 +121,11 @@ module _ (n : ℕ) (b : Book) (k : ℕ) (out area out' area' : List ℕ) (r : Wh
   }
 
   -- the maintenance is taken out of the area again
-  pub first-placed : (area₁ area₂ : List ℕ) → CalendarInRange mill b.calendar → area₁ ≡ work_used n (shut_rows b) area → FlowsPlaced n b k out area₁ out' area₂ r →
-      ShutTo n b.calendar 0 area₂ area' → FirstPlaced n b k out area out' area' r
+  pub first-placed : (area₁ area₂ : List ℕ) → CalendarInRange b.calendar → area₁ ≡ work_used slots (shut_rows b) area → FlowsPlaced b k out area₁ out' area₂ r →
+      ShutTo b.calendar 0 area₂ area' → FirstPlaced b k out area out' area' r
   first-placed area₁ area₂ range e p set = record {
     ends = p.ends;
     rows_put = p.rows_put;
-    area_used = λ rows d. flows-left n b area area₁ area₂ area' range e set (p.stands rows d);
-    cleared = nothing_left n b area area₁ area₂ area' range e set p.others p.area_used;
+    area_used = λ rows d. flows-left b area area₁ area₂ area' range e set (p.stands rows d);
+    cleared = nothing_left b area area₁ area₂ area' range e set p.others p.area_used;
   }

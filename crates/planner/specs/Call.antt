@@ -1,7 +1,7 @@
 -- What a call of the planner leaves behind, and what its last part asks. Assumes nothing.
 use Rattle.std.specs.Prelude.{◌≡◌, ℕ, ◌≤◌, List}
 use Rattle.rules.specs.declared.PlanAnswer.{PlanAnswer}
-use Rattle.rules.specs.declared.Limits.{Limits}
+use Rattle.rules.specs.Limits.{slots}
 use Rattle.rules.specs.Calendar.{Calendar}
 use Rattle.rules.specs.Book.{Book, with_calendar}
 use Rattle.rules.specs.Reading.{book_of}
@@ -19,15 +19,15 @@ pub record Leaves (o : PlanOutcome) (answer : PlanAnswer) (output area : List �
   pub area_left : area ≡ o.area
 
 -- the outcome of a book in these bytes and a calendar, which pass, with a work area that is long enough
-abbrev pub plan_of : Limits → Calendar → List ℕ → List ℕ → List ℕ → PlanOutcome
-plan_of L c s out area = plan_outcome L (with_calendar c (book_of s)) out area (plan (with_calendar c (book_of s)))
+abbrev pub plan_of : Calendar → List ℕ → List ℕ → List ℕ → PlanOutcome
+plan_of c s out area = plan_outcome (with_calendar c (book_of s)) out area (plan (with_calendar c (book_of s)))
 
--- all flows are placed once, to count the rows: the output is as it was, and the area's n slots are cleared
-pub record Counted (n : ℕ) (b : Book) (out area out' area' : List ℕ) (r : Ended) : Type 0 where
+-- all flows are placed once, to count the rows: the output is as it was, and the area is cleared
+pub record Counted (b : Book) (out area out' area' : List ℕ) (r : Ended) : Type 0 where
   pub ends : r ≡ ended_of b (plan b)
   pub fits : (rows : List Row) → plan b ≡ planned rows → table_length b rows ≤ 201326728
   pub output_kept : out' ≡ out
-  pub area_zero : area' ≡ work_zero n area
+  pub area_zero : area' ≡ work_zero slots area
 
 -- all flows of the book are planned, and their table is `size` bytes long, which four bytes can hold
 pub record Sized (b : Book) (size : ℕ) : Type 0 where

@@ -1,5 +1,6 @@
 -- The placing of the first flows in service order with their rows, as the planner holds it. Assumes nothing.
 use Rattle.std.specs.Prelude.{◌≡◌, ℕ, ◌*◌, ◌<◌, ◌≤◌, List, length, get_or}
+use Rattle.rules.specs.Limits.{slots}
 use Rattle.rules.specs.Book.{Book, flow_count}
 use Rattle.rules.specs.Rows.{Row, finish_of, work_used, work_zero}
 use Rattle.rules.specs.Placing.{Plan, planned, infeasible, place_first}
@@ -21,17 +22,17 @@ abbrev pub ended_of : Book → Plan → Ended
 ended_of b (planned rows) = Planned (table_length b rows)
 ended_of b (infeasible f) = Infeasible f
 
--- the flows are placed beside the maintenance, which the area of n slots holds before and after
-pub record FlowsPlaced (n : ℕ) (b : Book) (k : ℕ) (out area out' area' : List ℕ) (r : Whole) : Type 0 where
+-- the flows are placed beside the maintenance, which the area holds before and after
+pub record FlowsPlaced (b : Book) (k : ℕ) (out area out' area' : List ℕ) (r : Whole) : Type 0 where
   pub ends : r.ended ≡ ended_of b (place_first b k)
   pub rows_put : (rows : List Row) → place_first b k ≡ planned rows → RowsPut b k rows out out' r.finish (table_length b rows)
-  pub stands : (rows : List Row) → place_first b k ≡ planned rows → Stands n b k rows area area'
+  pub stands : (rows : List Row) → place_first b k ≡ planned rows → Stands b k rows area area'
   pub others : List Row
-  pub area_used : area' ≡ work_used n others area
+  pub area_used : area' ≡ work_used slots others area
 
 -- .. and beside nothing: the maintenance is taken out of the area again
-pub record FirstPlaced (n : ℕ) (b : Book) (k : ℕ) (out area out' area' : List ℕ) (r : Whole) : Type 0 where
+pub record FirstPlaced (b : Book) (k : ℕ) (out area out' area' : List ℕ) (r : Whole) : Type 0 where
   pub ends : r.ended ≡ ended_of b (place_first b k)
   pub rows_put : (rows : List Row) → place_first b k ≡ planned rows → RowsPut b k rows out out' r.finish (table_length b rows)
-  pub area_used : (rows : List Row) → place_first b k ≡ planned rows → area' ≡ work_used n rows area
-  pub cleared : work_zero n area' ≡ work_zero n area
+  pub area_used : (rows : List Row) → place_first b k ≡ planned rows → area' ≡ work_used slots rows area
+  pub cleared : work_zero slots area' ≡ work_zero slots area

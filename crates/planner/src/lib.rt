@@ -1,9 +1,8 @@
 // The planner's core: flows placed in service order with their rows, the table, a call.
 ghost use Rattle.std.specs.Prelude.{◌≡◌, ◌≤◌, length, []};
 ghost use Rattle.rules.specs.declared.Verdict.TheVariants.{Pass};
-ghost use Rattle.rules.specs.declared.Limits.{Limits};
 ghost use Rattle.rules.specs.Answers.{planRefused};
-ghost use Rattle.rules.specs.Ranges.{Fits};
+ghost use Rattle.rules.specs.Limits.{work_bytes};
 ghost use Rattle.rules.specs.Calendar.{CalendarInRange};
 ghost use Rattle.rules.specs.Book.{with_calendar};
 ghost use Rattle.rules.specs.Reading.{book_of, book_fault};
@@ -17,7 +16,7 @@ ghost use Rattle.planner.specs.Whole.{FlowsPlaced, FirstPlaced};
 use book::{Index, bytes};
 use calendar::Calendar;
 use place::Placed;
-use rules::{Limits, PlanAnswer, Verdict};
+use rules::{PlanAnswer, Verdict};
 
 pub mod table;
 
@@ -45,9 +44,8 @@ pub fn place_flows(
     order: [u8; 64],
     count: usize,
 ) -> Whole
-    requires { (L : Limits) × Asked L book.now (held_windows calendar) x order count (shut_rows (with_calendar (held_windows calendar) (book_of book.now))) work.old }
-    ensures { (L : Limits) → Asked L book.now (held_windows calendar) x order count (shut_rows (with_calendar (held_windows calendar) (book_of book.now))) work.old →
-        FlowsPlaced L.slots (with_calendar (held_windows calendar) (book_of book.now)) count out.old work.old out.new work.new result }
+    requires { Asked book.now (held_windows calendar) x order count (shut_rows (with_calendar (held_windows calendar) (book_of book.now))) work.old }
+    ensures { FlowsPlaced (with_calendar (held_windows calendar) (book_of book.now)) count out.old work.old out.new work.new result }
 {
     let processors = x.processors;
     let mut finish = [0u16; 64];
@@ -94,9 +92,8 @@ pub fn place_first(
     order: [u8; 64],
     count: usize,
 ) -> Whole
-    requires { (L : Limits) × Asked L book.now (held_windows calendar) x order count [] work.old }
-    ensures { (L : Limits) → Asked L book.now (held_windows calendar) x order count [] work.old →
-        FirstPlaced L.slots (with_calendar (held_windows calendar) (book_of book.now)) count out.old work.old out.new work.new result }
+    requires { Asked book.now (held_windows calendar) x order count [] work.old }
+    ensures { FirstPlaced (with_calendar (held_windows calendar) (book_of book.now)) count out.old work.old out.new work.new result }
 {
     calendar::set_shut(work, calendar, x.processors);
     let whole = place_flows(book, out, work, x, calendar, order, count);
@@ -127,9 +124,8 @@ pub fn write_table(
     order: [u8; 64],
     size: usize,
 ) -> PlanAnswer
-    requires { ((L : Limits) × Asked L book.now (held_windows calendar) x order x.flows [] work.old) × Sized (with_calendar (held_windows calendar) (book_of book.now)) size }
-    ensures { (L : Limits) → Asked L book.now (held_windows calendar) x order x.flows [] work.old →
-        Leaves (plan_of L (held_windows calendar) book.now output.old work.old) result output.new work.new }
+    requires { Asked book.now (held_windows calendar) x order x.flows [] work.old × Sized (with_calendar (held_windows calendar) (book_of book.now)) size }
+    ensures { Leaves (plan_of (held_windows calendar) book.now output.old work.old) result output.new work.new }
 {
     if output.len() < size {
         return refusal(13, 255, 255);
@@ -158,15 +154,14 @@ pub fn count_rows(
     x: Index,
     calendar: Calendar,
     order: [u8; 64],
-    limits: Limits,
 ) -> Ended
-    requires { Fits limits × (book_fault limits book.now ≡ Pass) × Indexed book.now x × CalendarInRange limits (held_windows calendar) × InOrder book.now order × (limits.bytes ≤ length work.old) }
-    ensures { Counted limits.slots (with_calendar (held_windows calendar) (book_of book.now)) output.old work.old output.new work.new result }
+    requires { Indexed book.now x × CalendarInRange (held_windows calendar) × InOrder book.now order × (work_bytes ≤ length work.old) }
+    ensures { Counted (with_calendar (held_windows calendar) (book_of book.now)) output.old work.old output.new work.new result }
 {
     let flows = x.flows;
-    bytes::clear(work, limits.slots);
+    bytes::clear(work);
     let first = place_first(book, &mut output[..0], work, x, calendar, order, flows);
-    bytes::clear(work, limits.slots);
+    bytes::clear(work);
     first.ended
 }
 
@@ -176,41 +171,33 @@ pub fn plan_passing(
     calendar: Calendar,
     output: &mut [u8],
     work: &mut [u8],
-    limits: Limits,
 ) -> PlanAnswer
-    requires { Fits limits × (book_fault limits book.now ≡ Pass) × CalendarInRange limits (held_windows calendar) × (limits.bytes ≤ length work.old) }
-    ensures { Leaves (plan_of limits (held_windows calendar) book.now output.old work.old) result output.new work.new }
+    requires { (book_fault book.now ≡ Pass) × CalendarInRange (held_windows calendar) × (work_bytes ≤ length work.old) }
+    ensures { Leaves (plan_of (held_windows calendar) book.now output.old work.old) result output.new work.new }
 {
     let x = book::index_of(book);
     let order = book::service_order(book, x);
-    let ended = count_rows(book, output, work, x, calendar, order, limits);
+    let ended = count_rows(book, output, work, x, calendar, order);
     match ended {
         Ended::Infeasible(f) => refusal(12, f, 255),
         Ended::Planned(size) => write_table(book, output, work, x, calendar, order, size),
     }
 }
 
-// The planner: the whole outcome of a call by a caller's limits, for every book, calendar, output and work area.
-pub fn plan_book(
-    book: &[u8],
-    calendar: &[u8],
-    output: &mut [u8],
-    work: &mut [u8],
-    limits: Limits,
-) -> PlanAnswer
-    requires { Fits limits }
-    ensures { Leaves (plan_call limits book.now calendar.now output.old work.old) result output.new work.new }
+// The planner: the whole outcome of a call, for every book, calendar, output and work area.
+pub fn plan_book(book: &[u8], calendar: &[u8], output: &mut [u8], work: &mut [u8]) -> PlanAnswer
+    ensures { Leaves (plan_call book.now calendar.now output.old work.old) result output.new work.new }
 {
-    let v = book::verdict_of(book, limits);
+    let v = book::verdict_of(book);
     if let Verdict::Refused { number, flow, job } = v {
         return refusal(number, flow, job);
     }
-    let w = calendar::verdict_of(calendar, limits);
+    let w = calendar::verdict_of(calendar);
     if let Verdict::Refused { number, flow, job } = w {
         return refusal(number, flow, job);
     }
-    if work.len() < limits.bytes {
+    if work.len() < 16384 {
         return refusal(11, 255, 255);
     }
-    plan_passing(book, calendar::calendar_of(calendar), output, work, limits)
+    plan_passing(book, calendar::calendar_of(calendar), output, work)
 }

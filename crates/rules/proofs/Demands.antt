@@ -17,11 +17,7 @@ pub mod Calendars
 pub mod NoWindows
 pub mod Quotes
 pub mod Appends
-pub mod Callers
-use Rattle.rules.specs.declared.Limits.{Limits}
-use Rattle.rules.specs.Ranges.{Fits, line}
-use Rattle.rules.specs.Demands.{Demands, Owed}
-use Rattle.rules.proofs.Reading.Wider.{mill_fits, line_fits, fits-within}
+use Rattle.rules.specs.Demands.{Demands}
 use Rattle.rules.proofs.Demands.Refusals.{demand_1}
 use Rattle.rules.proofs.Demands.PlansByTheRules.{plans_by_the_rules, plan_numbers}
 use Rattle.rules.proofs.Demands.AcceptsExactly.{accepts_exactly}
@@ -38,37 +34,27 @@ use Rattle.rules.proofs.Demands.Calendars.{calendars, limit_by_rule}
 use Rattle.rules.proofs.Demands.NoWindows.{no_windows_is}
 use Rattle.rules.proofs.Demands.Quotes.{quotes}
 use Rattle.rules.proofs.Demands.Appends.{appends}
-use Rattle.rules.proofs.Demands.Callers.{served_alike}
 
-pub demands : (L : Limits) → Fits L → Demands L
-demands L fit = record {
-  refuses_by_the_list = demand_1 L;
-  books_read = books_read L fit;
-  version_1_kept = version_1_kept L fit;
-  caps_lowered = caps_lowered L fit;
-  plans_by_the_rules = plans_by_the_rules L;
-  plan_numbers = plan_numbers L;
-  accepts_exactly = accepts_exactly L fit;
-  accepts_plans = accepts_plans L fit;
-  planned_or_infeasible = demand_3 L fit;
-  of_whole_book = of_whole_book L fit;
-  bounds = bounds L fit;
-  dispatches = dispatches L fit;
-  finishes = finishes L fit;
-  write_back = write_back L fit;
-  calendars = calendars L;
-  rows_shut = rows_shut L;
-  limit_by_rule = limit_by_rule L fit;
-  no_windows_is = no_windows_is L fit;
-  quotes = quotes L fit;
-  appends = appends L fit;
-}
-
-pub owed : Owed
-owed = record {
-  at_limits = demands;
-  mill_fits = mill_fits;
-  line_fits = line_fits;
-  served_alike = served_alike;
-  line_within = fits-within line line_fits;
+pub demands : Demands
+demands = record {
+  refuses_by_the_list = demand_1;
+  books_read = books_read;
+  version_1_kept = version_1_kept;
+  caps_lowered = caps_lowered;
+  plans_by_the_rules = plans_by_the_rules;
+  plan_numbers = plan_numbers;
+  accepts_exactly = accepts_exactly;
+  accepts_plans = accepts_plans;
+  planned_or_infeasible = demand_3;
+  of_whole_book = of_whole_book;
+  bounds = bounds;
+  dispatches = dispatches;
+  finishes = finishes;
+  write_back = write_back;
+  calendars = calendars;
+  rows_shut = rows_shut;
+  limit_by_rule = limit_by_rule;
+  no_windows_is = no_windows_is;
+  quotes = quotes;
+  appends = appends;
 }

@@ -1,7 +1,6 @@
 -- The reading of books, their versions and caps, service order, books that are cut.
 pub mod Caps
 pub mod Passing
-pub mod Wider
 pub mod RoundTrip
 pub mod Encodings
 pub mod Versions

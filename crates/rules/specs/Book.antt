@@ -1,7 +1,6 @@
 -- The values of an order book ("book" is document 01's word). Assumes nothing.
 use Rattle.std.specs.Prelude.{ℕ, ◌*◌, ◌/◌, ◌%◌, ◌^◌, ◌<◌, ◌≤◌, min, Bool, ◌&&◌, List, [], map, length, get_or, leb, eqb}
-use Rattle.rules.specs.declared.Limits.{Limits}
-use Rattle.rules.specs.Ranges.{most_processors, most_jobs, most_size, most_cap}
+use Rattle.rules.specs.Limits.{most_processors, most_flows, most_deadline, most_jobs, most_size, most_cap}
 use Rattle.rules.specs.Calendar.{Calendar, is_open, open_before, CalendarInRange}
 
 -- "each job: size in processor-slots (4), cap (2), predecessors (8)"
@@ -91,17 +90,17 @@ pub record JobInRange (cap_limit i : ℕ) (j : Job) : Type 0 where
   -- no predecessor bit at or above the job's own number
   pub predecessors_below : j.predecessors < 2 ^ i
 
-pub record FlowInRange (L : Limits) (cap_limit : ℕ) (w : Flow) : Type 0 where
+pub record FlowInRange (cap_limit : ℕ) (w : Flow) : Type 0 where
   pub deadline_least : 1 ≤ w.deadline
-  pub deadline_most : w.deadline ≤ L.deadline
+  pub deadline_most : w.deadline ≤ most_deadline
   pub release_below : w.release < w.deadline
   pub jobs_least : 1 ≤ job_count w
   pub jobs_most : job_count w ≤ most_jobs
   pub each_job : (i : ℕ) → i < job_count w → JobInRange cap_limit i (job_of w i)
 
-pub record InRange (L : Limits) (b : Book) : Type 0 where
+pub record InRange (b : Book) : Type 0 where
   pub processors_least : 1 ≤ b.processors
   pub processors_most : b.processors ≤ most_processors
-  pub flows_most : flow_count b ≤ L.flows
-  pub each_flow : (f : ℕ) → f < flow_count b → FlowInRange L most_cap (flow_in b f)
-  pub calendar_in_range : CalendarInRange L b.calendar
+  pub flows_most : flow_count b ≤ most_flows
+  pub each_flow : (f : ℕ) → f < flow_count b → FlowInRange most_cap (flow_in b f)
+  pub calendar_in_range : CalendarInRange b.calendar

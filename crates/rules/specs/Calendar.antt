@@ -3,11 +3,10 @@
 use Rattle.std.specs.Prelude.{ℕ, zero, suc, ◌+◌, ◌*◌, ◌<◌, ◌≤◌, Bool, true, false, not, ◌&&◌, ◌||◌, List, [], ◌∷◌, ◌++◌, length, get_or, ltb, leb, eqb}
 use Rattle.rules.specs.declared.Verdict.{Verdict}
 use Rattle.rules.specs.declared.Verdict.TheVariants.{Pass, Refused}
-use Rattle.rules.specs.declared.Limits.{Limits}
 use Rattle.rules.specs.Walks.{if◌then◌else◌, count_to, any_to, list_from, join_from}
 use Rattle.rules.specs.Fields.{byte, field, bytes_of}
 use Rattle.rules.specs.Answers.{none}
-use Rattle.rules.specs.Ranges.{most_windows, mill}
+use Rattle.rules.specs.Limits.{most_windows, most_reopening, slots}
 
 -- "each window as first slot shut (2) and first slot open again (2)"
 pub record Window : Type 0 where
@@ -37,11 +36,10 @@ pass_open c zero n t = t
 pass_open c (suc m) zero t = t
 pass_open c (suc m) (suc n) t = pass_open c m (if is_open c t then n else suc n) (t + 1)
 
--- "when that many open slots from slot 0 have passed": the first slot before which n open slots stand; where fewer than n stand before slot 8,192, it is that
--- one, whoever calls. Since every window has reopened by the caller's last deadline, twice the open slots before a deadline are always met
--- (`Demands.Calendar`, `LimitByRule`).
+-- "when that many open slots from slot 0 have passed": the first slot before which n open slots stand, or 8,192 where fewer than n stand before it. Since every
+-- window has reopened by slot 4,096, twice the open slots before a deadline are always met (`Demands.Calendar`, `LimitByRule`).
 unfoldable pub slot_after : Calendar → ℕ → ℕ
-slot_after c n = pass_open c mill.slots n 0
+slot_after c n = pass_open c slots n 0
 
 -- window k of a calendar; past the last one, a window of no slots
 abbrev pub no_window : Window
@@ -82,26 +80,25 @@ unfoldable pub begins_early : List ℕ → ℕ → Bool
 begins_early s zero = false
 begins_early s (suc k) = leb (window_at s (suc k)).shut (window_at s k).reopening
 
--- "A window is not empty, begins later than the one before it reopened, and reopens at slot 4,096 or sooner.", by the caller's limit (02, Req 09): window k
--- breaks these rules
-unfoldable pub window_fault : Limits → List ℕ → ℕ → Bool
-window_fault L s k = leb (window_at s k).reopening (window_at s k).shut || begins_early s k || ltb L.reopening (window_at s k).reopening
+-- "A window is not empty, begins later than the one before it reopened, and reopens at slot 4,096 or sooner.": window k breaks these rules
+unfoldable pub window_fault : List ℕ → ℕ → Bool
+window_fault s k = leb (window_at s k).reopening (window_at s k).shut || begins_early s k || ltb most_reopening (window_at s k).reopening
 
 -- "24 when the calendar breaks its layout, .. with 255 and 255": too short, length field, version, count above 32, bytes unlike the count, a window that
 -- breaks its rules
-unfoldable pub calendar_fault : Limits → List ℕ → Verdict
-calendar_fault L s =
+unfoldable pub calendar_fault : List ℕ → Verdict
+calendar_fault s =
     if ltb (length s) calendar_head
     || not (eqb (field 4 s 0) (length s))
     || not (eqb (byte s 4) 1)
     || ltb most_windows (byte s 5)
     || not (eqb (length s) (calendar_head + window_length * byte s 5))
-    || any_to (window_fault L s) (byte s 5)
+    || any_to (window_fault s) (byte s 5)
     then Refused 24 none none else Pass
 
 -- ---- the ranges: what 24 leaves
-pub record CalendarInRange (L : Limits) (c : Calendar) : Type 0 where
+pub record CalendarInRange (c : Calendar) : Type 0 where
   pub windows_most : length c ≤ most_windows
   pub not_empty : (k : ℕ) → k < length c → (window_of c k).shut < (window_of c k).reopening
   pub apart : (k : ℕ) → suc k < length c → (window_of c k).reopening < (window_of c (suc k)).shut
-  pub reopens : (k : ℕ) → k < length c → (window_of c k).reopening ≤ L.reopening
+  pub reopens : (k : ℕ) → k < length c → (window_of c k).reopening ≤ most_reopening

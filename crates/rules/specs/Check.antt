@@ -5,10 +5,10 @@ use Rattle.std.specs.Prelude.{ℕ, zero, suc, ◌+◌, ◌*◌, ◌-◌, ◌/◌
 use Rattle.rules.specs.declared.Verdict.{Verdict}
 use Rattle.rules.specs.declared.Verdict.TheVariants.{Pass, Refused}
 use Rattle.rules.specs.declared.CheckAnswer.{CheckAnswer}
-use Rattle.rules.specs.declared.Limits.{Limits}
 use Rattle.rules.specs.Walks.{if◌then◌else◌, any_to, list_from}
 use Rattle.rules.specs.Fields.{byte, field}
 use Rattle.rules.specs.Answers.{none, ◌and_then◌, first_fault, check_accepted, check_refused}
+use Rattle.rules.specs.Limits.{slots, work_bytes}
 use Rattle.rules.specs.Calendar.{is_open}
 use Rattle.rules.specs.Book.{Book, flow_count, job_count, flow_of, job_of, precedes}
 use Rattle.rules.specs.Reading.{Reading, read, unread, read_book}
@@ -57,14 +57,14 @@ lacks_predecessor b so_far r =
 unfoldable pub before_release : Book → Row → Bool
 before_release b r = ltb r.slot (flow_of b r.flow).release
 
--- 15: "row's slot above 8,191, flow or job not in the book, or 0 processors", with the caller's last slot (02, Req 09); "25 when a row uses a shut slot, between
--- 15 and 16, with the row's place" (02, Req 07), by a test of the slots that are open; 16: "row not after the one before it"; 17: "more than the
+-- 15: "row's slot above 8,191, flow or job not in the book, or 0 processors"; "25 when a row uses a shut slot, between 15 and 16, with the row's place"
+-- (02, Req 07), by a test of the slots that are open; 16: "row not after the one before it"; 17: "more than the
 -- cap", lowered to P (02, Req 02); 18: "more than P used in the slot by the rows so far, this one counted"; 19. The place is that of the row.
-unfoldable pub row_fault : Limits → Book → (ℕ → Bool) → List Row → ℕ → Verdict
-row_fault L b opened rows k =
+unfoldable pub row_fault : Book → (ℕ → Bool) → List Row → ℕ → Verdict
+row_fault b opened rows k =
     let r = get_or rows k no_row in
     let so_far = take k rows in
-    if leb L.slots r.slot
+    if leb slots r.slot
     || leb (flow_count b) r.flow
     || leb (job_count (flow_of b r.flow)) r.job
     || eqb r.processors 0 then Refused 15 r.flow r.job
@@ -86,10 +86,10 @@ finish_fault s rows f = if eqb (finish_in s f) (finish_of rows f) then Pass else
 
 -- ---- the check of a table against a book: "14, then 15 to 19 in order for each row, then 20, 21; the first fault met ends the walk", 25
 -- between 15 and 16
-unfoldable pub table_fault : Limits → Book → List ℕ → Verdict
-table_fault L b s =
+unfoldable pub table_fault : Book → List ℕ → Verdict
+table_fault b s =
     table_head_fault b s
-    and_then first_fault (row_fault L b (is_open b.calendar) (table_rows b s)) (length (table_rows b s))
+    and_then first_fault (row_fault b (is_open b.calendar) (table_rows b s)) (length (table_rows b s))
     and_then first_fault (λ f. first_fault (total_fault b (table_rows b s) f) (job_count (flow_of b f))) (flow_count b)
     and_then first_fault (finish_fault s (table_rows b s)) (flow_count b)
 
@@ -98,17 +98,17 @@ pub record CheckOutcome : Type 0 where
   pub answer : CheckAnswer
   pub area : List ℕ
 
-unfoldable pub check_outcome : Limits → Book → List ℕ → List ℕ → Verdict → CheckOutcome
-check_outcome L b s area (Refused n f j) = record { answer = check_refused n f j; area = work_zero L.slots area }
-check_outcome L b s area Pass = record { answer = check_accepted (late_flows b (table_rows b s)); area = work_used L.slots (table_rows b s) area }
+unfoldable pub check_outcome : Book → List ℕ → List ℕ → Verdict → CheckOutcome
+check_outcome b s area (Refused n f j) = record { answer = check_refused n f j; area = work_zero slots area }
+check_outcome b s area Pass = record { answer = check_accepted (late_flows b (table_rows b s)); area = work_used slots (table_rows b s) area }
 
 -- 1 to 10, 22 and 24 by the reading, then 11, then the table
-unfoldable pub check_reading : Limits → List ℕ → List ℕ → Reading → CheckOutcome
-check_reading L s area (unread n f j) = record { answer = check_refused n f j; area = area }
-check_reading L s area (read b) =
-    if ltb (length area) L.bytes
+unfoldable pub check_reading : List ℕ → List ℕ → Reading → CheckOutcome
+check_reading s area (unread n f j) = record { answer = check_refused n f j; area = area }
+check_reading s area (read b) =
+    if ltb (length area) work_bytes
     then record { answer = check_refused 11 none none; area = area }
-    else check_outcome L b s area (table_fault L b s)
+    else check_outcome b s area (table_fault b s)
 
-unfoldable pub check_call : Limits → List ℕ → List ℕ → List ℕ → List ℕ → CheckOutcome
-check_call L book calendar s area = check_reading L s area (read_book L book calendar)
+unfoldable pub check_call : List ℕ → List ℕ → List ℕ → List ℕ → CheckOutcome
+check_call book calendar s area = check_reading s area (read_book book calendar)

@@ -2,10 +2,10 @@
 -- answer, output and work area for every book, calendar, table, output and work area. Assumes nothing.
 use Rattle.std.specs.Prelude.{ℕ, ◌+◌, ◌*◌, ◌-◌, ◌/◌, Bool, ◌&&◌, ◌||◌, List, [], ◌∷◌, ◌++◌, length, drop, ltb, eqb}
 use Rattle.rules.specs.declared.ListAnswer.{ListAnswer}
-use Rattle.rules.specs.declared.Limits.{Limits}
 use Rattle.rules.specs.Walks.{if◌then◌else◌, list_from}
 use Rattle.rules.specs.Fields.{bytes_of}
 use Rattle.rules.specs.Answers.{none, list_accepted, list_refused}
+use Rattle.rules.specs.Limits.{slots}
 use Rattle.rules.specs.Book.{Book}
 use Rattle.rules.specs.Reading.{book_of}
 use Rattle.rules.specs.Rows.{Row, work_zero}
@@ -53,19 +53,19 @@ pub record DispatchOutcome : Type 0 where
 
 -- "then 13 if the list is longer than the lent output. The answer is the list's length; output past it is untouched, and the work area ends as
 -- the check leaves it, or zeroed where the refusal is that 13": the rows of an accepted table, an area that was `area`, and `left` by the check
-unfoldable pub list_outcome : Limits → Book → List Row → List ℕ → List ℕ → List ℕ → DispatchOutcome
-list_outcome L b rows out area left =
+unfoldable pub list_outcome : Book → List Row → List ℕ → List ℕ → List ℕ → DispatchOutcome
+list_outcome b rows out area left =
     if ltb (length out) (list_length rows)
-    then record { answer = list_refused 13 none none; output = out; area = work_zero L.slots area }
+    then record { answer = list_refused 13 none none; output = out; area = work_zero slots area }
     else record { answer = list_accepted (list_length rows); output = list_bytes b rows ++ drop (list_length rows) out; area = left }
 
 -- "The refusals of the check apply first", each with its number, place and area; a refusal leaves the output untouched
-unfoldable pub dispatch_checked : Limits → Book → List Row → List ℕ → List ℕ → CheckOutcome → DispatchOutcome
-dispatch_checked L b rows out area o =
-    if eqb o.answer.number 0 then list_outcome L b rows out area o.area
+unfoldable pub dispatch_checked : Book → List Row → List ℕ → List ℕ → CheckOutcome → DispatchOutcome
+dispatch_checked b rows out area o =
+    if eqb o.answer.number 0 then list_outcome b rows out area o.area
     else record { answer = list_refused o.answer.number o.answer.flow o.answer.job; output = out; area = o.area }
 
 -- "From a book and a table that the check accepts, write a dispatch list". Of the book it states P alone.
-unfoldable pub dispatch_call : Limits → List ℕ → List ℕ → List ℕ → List ℕ → List ℕ → DispatchOutcome
-dispatch_call L book calendar table out area =
-    dispatch_checked L (book_of book) (table_rows (book_of book) table) out area (check_call L book calendar table area)
+unfoldable pub dispatch_call : List ℕ → List ℕ → List ℕ → List ℕ → List ℕ → DispatchOutcome
+dispatch_call book calendar table out area =
+    dispatch_checked (book_of book) (table_rows (book_of book) table) out area (check_call book calendar table area)

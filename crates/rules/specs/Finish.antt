@@ -4,9 +4,9 @@ use Rattle.std.specs.Prelude.{ℕ, suc, List, length, ltb, leb}
 use Rattle.rules.specs.declared.Verdict.{Verdict}
 use Rattle.rules.specs.declared.Verdict.TheVariants.{Pass, Refused}
 use Rattle.rules.specs.declared.FinishAnswer.{FinishAnswer}
-use Rattle.rules.specs.declared.Limits.{Limits}
 use Rattle.rules.specs.Walks.{if◌then◌else◌}
 use Rattle.rules.specs.Answers.{none, ◌and_then◌, finish_accepted, finish_refused}
+use Rattle.rules.specs.Limits.{slots, work_bytes}
 use Rattle.rules.specs.Calendar.{calendar_fault}
 use Rattle.rules.specs.Book.{Book, flow_count}
 use Rattle.rules.specs.Reading.{Reading, read, unread, book_of, book_fault, book_with, reading_of}
@@ -25,24 +25,24 @@ up_to_named b f = suc (position b f)
 -- "The result is the finish that the full table shows, or would show without the flows after it. If that flow or one before it is infeasible, it
 -- is that 12", by how the placing of those flows ends. "The work area ends as it would for the book cut after that flow in service order": it
 -- holds their use, or is zeroed after 12.
-unfoldable pub finish_outcome : Limits → ℕ → List ℕ → Plan → FinishOutcome
-finish_outcome L f area (infeasible g) = record { answer = finish_refused 12 g none; area = work_zero L.slots area }
-finish_outcome L f area (planned rows) = record { answer = finish_accepted (finish_of rows f); area = work_used L.slots rows area }
+unfoldable pub finish_outcome : ℕ → List ℕ → Plan → FinishOutcome
+finish_outcome f area (infeasible g) = record { answer = finish_refused 12 g none; area = work_zero slots area }
+finish_outcome f area (planned rows) = record { answer = finish_accepted (finish_of rows f); area = work_used slots rows area }
 
 -- where the input passes, 11; then "place flows only up to the one named". "A fault found before or by 11 leaves the work area as it was"
-unfoldable pub finish_reading : Limits → ℕ → List ℕ → Reading → FinishOutcome
-finish_reading L f area (unread n g j) = record { answer = finish_refused n g j; area = area }
-finish_reading L f area (read b) =
-    if ltb (length area) L.bytes then record { answer = finish_refused 11 none none; area = area }
-    else finish_outcome L f area (place_first b (up_to_named b f))
+unfoldable pub finish_reading : ℕ → List ℕ → Reading → FinishOutcome
+finish_reading f area (unread n g j) = record { answer = finish_refused n g j; area = area }
+finish_reading f area (read b) =
+    if ltb (length area) work_bytes then record { answer = finish_refused 11 none none; area = area }
+    else finish_outcome f area (place_first b (up_to_named b f))
 
 -- "23 when the flow number is not in the book, after every check of the book and before 11, with 255 and 255"
 unfoldable pub unknown_flow : Book → ℕ → Verdict
 unknown_flow b f = if leb (flow_count b) f then Refused 23 none none else Pass
 
 -- "Check the book in full", 1 to 10 and 22; then 23; "24 .. after the book's checks and 23 and before 11" (02, Req 07)
-unfoldable pub input_fault : Limits → List ℕ → List ℕ → ℕ → Verdict
-input_fault L book calendar f = book_fault L book and_then unknown_flow (book_of book) f and_then calendar_fault L calendar
+unfoldable pub input_fault : List ℕ → List ℕ → ℕ → Verdict
+input_fault book calendar f = book_fault book and_then unknown_flow (book_of book) f and_then calendar_fault calendar
 
-unfoldable pub finish_call : Limits → List ℕ → List ℕ → ℕ → List ℕ → FinishOutcome
-finish_call L book calendar f area = finish_reading L f area (reading_of (input_fault L book calendar f) (book_with book calendar))
+unfoldable pub finish_call : List ℕ → List ℕ → ℕ → List ℕ → FinishOutcome
+finish_call book calendar f area = finish_reading f area (reading_of (input_fault book calendar f) (book_with book calendar))

@@ -3,9 +3,9 @@
 use Rattle.std.specs.Prelude.{ℕ, zero, suc, ◌*◌, ◌-◌, true, List, [], ◌++◌, length, ltb, leb}
 use Rattle.rules.specs.declared.Verdict.{Verdict}
 use Rattle.rules.specs.declared.Verdict.TheVariants.{Pass, Refused}
-use Rattle.rules.specs.declared.Limits.{Limits}
 use Rattle.rules.specs.Walks.{if◌then◌else◌}
 use Rattle.rules.specs.Answers.{none, ◌and_then◌, first_fault, finish_refused, plan_refused, check_refused}
+use Rattle.rules.specs.Limits.{work_bytes}
 use Rattle.rules.specs.Book.{Book, flow_count, flow_of, job_count}
 use Rattle.rules.specs.Reading.{book_of, book_fault}
 use Rattle.rules.specs.Service.{served_at}
@@ -33,44 +33,44 @@ former_place_first b zero = planned []
 former_place_first b (suc k) = then_place (former_place_first b k) (former_place_flow b (served_at b k))
 
 -- ---- the check: "14, then 15 to 19 in order for each row, then 20, 21"; with every slot open a row has no other fault than 15 to 19
-unfoldable pub former_table_fault : Limits → Book → List ℕ → Verdict
-former_table_fault L b s =
+unfoldable pub former_table_fault : Book → List ℕ → Verdict
+former_table_fault b s =
     table_head_fault b s
-    and_then first_fault (row_fault L b (λ t. true) (table_rows b s)) (length (table_rows b s))
+    and_then first_fault (row_fault b (λ t. true) (table_rows b s)) (length (table_rows b s))
     and_then first_fault (λ f. first_fault (total_fault b (table_rows b s) f) (job_count (flow_of b f))) (flow_count b)
     and_then first_fault (finish_fault s (table_rows b s)) (flow_count b)
 
 -- ---- the calls: a book with a fault is refused by it; then 11; then the outcome is that of the plan, or of the table's first fault
-abbrev pub former_plan_verdict : Limits → Book → List ℕ → List ℕ → Verdict → PlanOutcome
-former_plan_verdict L b out area (Refused n f j) = record { answer = plan_refused n f j; output = out; area = area }
-former_plan_verdict L b out area Pass =
-    if ltb (length area) L.bytes
+abbrev pub former_plan_verdict : Book → List ℕ → List ℕ → Verdict → PlanOutcome
+former_plan_verdict b out area (Refused n f j) = record { answer = plan_refused n f j; output = out; area = area }
+former_plan_verdict b out area Pass =
+    if ltb (length area) work_bytes
     then record { answer = plan_refused 11 none none; output = out; area = area }
-    else plan_outcome L b out area (former_place_first b (flow_count b))
+    else plan_outcome b out area (former_place_first b (flow_count b))
 
-unfoldable pub former_plan_call : Limits → List ℕ → List ℕ → List ℕ → PlanOutcome
-former_plan_call L book out area = former_plan_verdict L (book_of book) out area (book_fault L book)
+unfoldable pub former_plan_call : List ℕ → List ℕ → List ℕ → PlanOutcome
+former_plan_call book out area = former_plan_verdict (book_of book) out area (book_fault book)
 
-abbrev pub former_check_verdict : Limits → Book → List ℕ → List ℕ → Verdict → CheckOutcome
-former_check_verdict L b table area (Refused n f j) = record { answer = check_refused n f j; area = area }
-former_check_verdict L b table area Pass =
-    if ltb (length area) L.bytes
+abbrev pub former_check_verdict : Book → List ℕ → List ℕ → Verdict → CheckOutcome
+former_check_verdict b table area (Refused n f j) = record { answer = check_refused n f j; area = area }
+former_check_verdict b table area Pass =
+    if ltb (length area) work_bytes
     then record { answer = check_refused 11 none none; area = area }
-    else check_outcome L b table area (former_table_fault L b table)
+    else check_outcome b table area (former_table_fault b table)
 
-unfoldable pub former_check_call : Limits → List ℕ → List ℕ → List ℕ → CheckOutcome
-former_check_call L book table area = former_check_verdict L (book_of book) table area (book_fault L book)
+unfoldable pub former_check_call : List ℕ → List ℕ → List ℕ → CheckOutcome
+former_check_call book table area = former_check_verdict (book_of book) table area (book_fault book)
 
-unfoldable pub former_dispatch_call : Limits → List ℕ → List ℕ → List ℕ → List ℕ → DispatchOutcome
-former_dispatch_call L book table out area =
-    dispatch_checked L (book_of book) (table_rows (book_of book) table) out area (former_check_call L book table area)
+unfoldable pub former_dispatch_call : List ℕ → List ℕ → List ℕ → List ℕ → DispatchOutcome
+former_dispatch_call book table out area =
+    dispatch_checked (book_of book) (table_rows (book_of book) table) out area (former_check_call book table area)
 
-abbrev pub former_finish_verdict : Limits → Book → ℕ → List ℕ → Verdict → FinishOutcome
-former_finish_verdict L b f area (Refused n g j) = record { answer = finish_refused n g j; area = area }
-former_finish_verdict L b f area Pass =
-    if ltb (length area) L.bytes
+abbrev pub former_finish_verdict : Book → ℕ → List ℕ → Verdict → FinishOutcome
+former_finish_verdict b f area (Refused n g j) = record { answer = finish_refused n g j; area = area }
+former_finish_verdict b f area Pass =
+    if ltb (length area) work_bytes
     then record { answer = finish_refused 11 none none; area = area }
-    else finish_outcome L f area (former_place_first b (up_to_named b f))
+    else finish_outcome f area (former_place_first b (up_to_named b f))
 
-unfoldable pub former_finish_call : Limits → List ℕ → ℕ → List ℕ → FinishOutcome
-former_finish_call L book f area = former_finish_verdict L (book_of book) f area (book_fault L book and_then unknown_flow (book_of book) f)
+unfoldable pub former_finish_call : List ℕ → ℕ → List ℕ → FinishOutcome
+former_finish_call book f area = former_finish_verdict (book_of book) f area (book_fault book and_then unknown_flow (book_of book) f)

@@ -2,7 +2,7 @@
 pub mod Walks
 pub mod Fields
 pub mod Answers
-pub mod Ranges
+pub mod Limits
 pub mod Calendar
 pub mod Book
 pub mod Reading

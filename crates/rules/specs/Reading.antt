@@ -4,11 +4,10 @@
 use Rattle.std.specs.Prelude.{ℕ, zero, suc, ◌+◌, ◌*◌, ◌^◌, not, ◌||◌, List, [], ◌++◌, length, ltb, leb, eqb}
 use Rattle.rules.specs.declared.Verdict.{Verdict}
 use Rattle.rules.specs.declared.Verdict.TheVariants.{Pass, Refused}
-use Rattle.rules.specs.declared.Limits.{Limits}
 use Rattle.rules.specs.Walks.{if◌then◌else◌, list_from, join_from}
 use Rattle.rules.specs.Fields.{byte, field, bytes_of}
 use Rattle.rules.specs.Answers.{none, ◌and_then◌, first_fault}
-use Rattle.rules.specs.Ranges.{outside, most_processors, most_jobs, most_size, most_cap}
+use Rattle.rules.specs.Limits.{outside, most_processors, most_flows, most_deadline, most_jobs, most_size, most_cap}
 use Rattle.rules.specs.Calendar.{calendar_of, calendar_fault}
 use Rattle.rules.specs.Book.{Job, Flow, Book, with_calendar, flow_count, job_count, flow_in, job_of}
 
@@ -67,10 +66,10 @@ book_of s = record { processors = field 2 s 5; flows = list_from (λ f. flow_at 
 -- ---- the faults
 -- "5, 6, 7 for the head": the head of flow f, which starts at `at`, is cut short; deadline out of range; job count out of range. "22 when the
 -- release is not below the deadline, directly after 6, with flow and 255" (02, Req 01)
-unfoldable pub flow_head_fault : Limits → List ℕ → ℕ → ℕ → Verdict
-flow_head_fault L s f at =
+unfoldable pub flow_head_fault : List ℕ → ℕ → ℕ → Verdict
+flow_head_fault s f at =
     if ltb (length s) (at + flow_head (version_of s)) then Refused 5 f none
-    else if outside 1 L.deadline (field 2 s at) then Refused 6 f none
+    else if outside 1 most_deadline (field 2 s at) then Refused 6 f none
     else if leb (field 2 s at) (release_at s at) then Refused 22 f none
     else if outside 1 most_jobs (jobs_at s at) then Refused 7 f none
     else Pass
@@ -86,22 +85,22 @@ job_fault s f i at =
     else Pass
 
 -- a flow: its head, then its jobs
-unfoldable pub flow_fault : Limits → List ℕ → ℕ → ℕ → Verdict
-flow_fault L s f at = flow_head_fault L s f at and_then first_fault (λ i. job_fault s f i (job_start s at i)) (jobs_at s at)
+unfoldable pub flow_fault : List ℕ → ℕ → ℕ → Verdict
+flow_fault s f at = flow_head_fault s f at and_then first_fault (λ i. job_fault s f i (job_start s at i)) (jobs_at s at)
 
 -- "bytes left over (255, 255)"
 unfoldable pub leftover_fault : List ℕ → Verdict
 leftover_fault s = if eqb (flow_start s (byte s 7)) (length s) then Pass else Refused 5 none none
 
 -- "book under 8 bytes, or its length field differs from the bytes given"; "number 2 now means neither 1 nor 2" (02, Req 01); "P out of range";
--- "more than 64 flows", by the caller's limit as 6 is (02, Req 09). "Numbers 1 to 4 are tested in that order. Then come the flows: ..; leftover bytes last"
-unfoldable pub book_fault : Limits → List ℕ → Verdict
-book_fault L s =
+-- "more than 64 flows". "Numbers 1 to 4 are tested in that order. Then come the flows: ..; leftover bytes last"
+unfoldable pub book_fault : List ℕ → Verdict
+book_fault s =
     if ltb (length s) book_head || not (eqb (field 4 s 0) (length s)) then Refused 1 none none
     else if not (eqb (version_of s) 1 || eqb (version_of s) 2) then Refused 2 none none
     else if outside 1 most_processors (field 2 s 5) then Refused 3 none none
-    else if ltb L.flows (byte s 7) then Refused 4 none none
-    else first_fault (λ f. flow_fault L s f (flow_start s f)) (byte s 7) and_then leftover_fault s
+    else if ltb most_flows (byte s 7) then Refused 4 none none
+    else first_fault (λ f. flow_fault s f (flow_start s f)) (byte s 7) and_then leftover_fault s
 
 -- ---- the reading of a book and the calendar that goes with it: its values, or the number and place of the first fault
 pub data Reading : Type 0 where
@@ -117,11 +116,11 @@ abbrev pub book_with : List ℕ → List ℕ → Book
 book_with s calendar = with_calendar (calendar_of calendar) (book_of s)
 
 -- the verdict on a book and the calendar that goes with it: "24 when the calendar breaks its layout, after the book's checks" (02, Req 07)
-abbrev pub book_verdict : Limits → List ℕ → List ℕ → Verdict
-book_verdict L s calendar = book_fault L s and_then calendar_fault L calendar
+abbrev pub book_verdict : List ℕ → List ℕ → Verdict
+book_verdict s calendar = book_fault s and_then calendar_fault calendar
 
-unfoldable pub read_book : Limits → List ℕ → List ℕ → Reading
-read_book L s calendar = reading_of (book_verdict L s calendar) (book_with s calendar)
+unfoldable pub read_book : List ℕ → List ℕ → Reading
+read_book s calendar = reading_of (book_verdict s calendar) (book_with s calendar)
 
 -- ---- the encoding of values in a version: "a book of its own", "under a length and flow count that fit"; caps as they stand
 unfoldable pub job_bytes : Job → List ℕ

@@ -55,6 +55,6 @@ late_flows b rows = count_to (λ f. is_late (flow_of b f) (finish_of rows f)) (f
 unfoldable pub work_used : ℕ → List Row → List ℕ → List ℕ
 work_used n rows area = join_from (λ t. bytes_of 2 (used_in rows t)) n 0 ++ drop (2 * n) area
 
--- "one found after 11 zeroes its first 16,384 bytes", two for each of the caller's slots (02, Req 09)
+-- "one found after 11 zeroes its first 16,384 bytes"
 unfoldable pub work_zero : ℕ → List ℕ → List ℕ
 work_zero n area = replicate (2 * n) 0 ++ drop (2 * n) area

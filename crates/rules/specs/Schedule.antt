@@ -1,7 +1,7 @@
 -- Valid schedules, whoever made them, and when a flow ends. Assumes nothing.
 use Rattle.std.specs.Prelude.{◌≡◌, ℕ, ◌≤◌, ◌<◌, Bool, true, false, ◌&&◌, List, eqb}
-use Rattle.rules.specs.declared.Limits.{Limits}
 use Rattle.rules.specs.Walks.{sum_to, join_from}
+use Rattle.rules.specs.Limits.{slots}
 use Rattle.rules.specs.Book.{Book, flow_count, job_count, flow_of, job_of, precedes, usable}
 use Rattle.rules.specs.Service.{served_at}
 use Rattle.rules.specs.Rows.{Row, row_for, is_of, sum_where}
@@ -48,9 +48,9 @@ pub record Valid (b : Book) (among : ℕ → Bool) (σ : Schedule) : Type 0 wher
 unfoldable pub EndsBy : Schedule → ℕ → ℕ → Type 0
 EndsBy σ f d = (i t : ℕ) → d ≤ t → σ f i t ≡ 0
 
--- "Its slots run from 0 to 8,191 where it is a table.", to the caller's last slot (02, Req 09)
-unfoldable pub InSlots : Limits → Schedule → Type 0
-InSlots L σ = (f i t : ℕ) → L.slots ≤ t → σ f i t ≡ 0
+-- "Its slots run from 0 to 8,191 where it is a table."
+unfoldable pub InSlots : Schedule → Type 0
+InSlots σ = (f i t : ℕ) → slots ≤ t → σ f i t ≡ 0
 
 -- the schedule that rows state
 unfoldable pub schedule_of : List Row → Schedule
@@ -58,11 +58,11 @@ schedule_of rows f i t = sum_where (λ r. is_of f i r && eqb r.slot t) rows
 
 -- the rows of a schedule: "one for each slot and job where the job has at least 1 processor", "by service order of the flow, then slot, then
 -- job"
-unfoldable pub schedule_rows : Limits → Book → Schedule → List Row
-schedule_rows L b σ =
+unfoldable pub schedule_rows : Book → Schedule → List Row
+schedule_rows b σ =
     join_from (λ n. let f = served_at b n in
-    join_from (λ t. join_from (λ i. row_for t f i (σ f i t)) (job_count (flow_of b f)) 0) L.slots 0) (flow_count b) 0
+    join_from (λ t. join_from (λ i. row_for t f i (σ f i t)) (job_count (flow_of b f)) 0) slots 0) (flow_count b) 0
 
 -- its table: these rows "under the right head and finishes"
-unfoldable pub schedule_table : Limits → Book → Schedule → List ℕ
-schedule_table L b σ = table_bytes b (schedule_rows L b σ)
+unfoldable pub schedule_table : Book → Schedule → List ℕ
+schedule_table b σ = table_bytes b (schedule_rows b σ)

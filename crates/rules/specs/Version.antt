@@ -3,4 +3,4 @@ use Rattle.std.specs.Prelude.{ℕ}
 
 -- the version of the C header, `FLOWPLAN_HEADER_VERSION`, that the library was built with
 abbrev pub header_version : ℕ
-header_version = 9
+header_version = 8

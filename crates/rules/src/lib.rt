@@ -1,50 +1,10 @@
-// The plain types that the specification and the code share, and the limits of both callers. The rules themselves are in specs/.
-ghost use Rattle.std.specs.Prelude.{◌≡◌};
-ghost use Rattle.rules.specs.Ranges.{mill, line};
+// The plain types that the specification and the code share. The rules themselves are in specs/.
 
 // What a test says: it passes, or it turns the input down by a number of the list, at a place (flow, job).
 #[derive(Drop)]
 pub enum Verdict {
     Pass,
     Refused { number: u8, flow: u8, job: u8 },
-}
-
-// The limits of a caller: most flows, most slots to a deadline, the last slot at which a window may reopen, the slots of a table, the bytes of a work area.
-#[derive(Drop)]
-pub struct Limits {
-    pub flows: u8,
-    pub deadline: u16,
-    pub reopening: u16,
-    pub slots: u16,
-    pub bytes: usize,
-}
-
-impl Limits {
-    // The mill's.
-    pub fn mill() -> Limits
-        ensures { result ≡ mill }
-    {
-        Limits {
-            flows: 64,
-            deadline: 4096,
-            reopening: 4096,
-            slots: 8192,
-            bytes: 16384,
-        }
-    }
-
-    // The pickling line's.
-    pub fn line() -> Limits
-        ensures { result ≡ line }
-    {
-        Limits {
-            flows: 16,
-            deadline: 512,
-            reopening: 512,
-            slots: 1024,
-            bytes: 2048,
-        }
-    }
 }
 
 // What the planner answers.

@@ -1,5 +1,5 @@
 -- The predecessors of a row, asked one after the other by halving their bits. Assumes nothing.
-use mathlib.Core.Path.{◌≡◌, sym, ap, ◌∙◌, subst}
+use mathlib.Core.Path.{◌≡◌, sym, ap, ◌∙◌}
 use Prim.Native.Nat.{ℕ, ◌+◌, ◌/◌, ◌^◌, ◌≤◌, ◌<◌}
 use mathlib.Core.Bool.{Bool, true, false, ◌&&◌}
 use mathlib.Core.Logic.{◌⊎◌, inl, inr}
@@ -10,7 +10,6 @@ use lib.ListN.{length, get_or, take}
 use lib.Dec.{ltb}
 use Rattle.rules.specs.declared.Verdict.{Verdict}
 use Rattle.rules.specs.declared.Verdict.TheVariants.{Refused}
-use Rattle.rules.specs.declared.Limits.{Limits}
 use Rattle.rules.specs.Book.{flow_of, job_of}
 use Rattle.rules.specs.Reading.{book_of}
 use Rattle.rules.specs.Check.{table_rows, before_release, lacks_predecessor, row_fault}
@@ -20,16 +19,16 @@ use Rattle.rules.proofs.Laws.Bits.{bit_of-left, left-next, no-bit-left, left_bel
 use Rattle.table_check.specs.declared.row.Row.{Row}
 use Rattle.table_check.specs.declared.row.Current.{Current}
 use Rattle.table_check.specs.declared.row.Tested.{Tested}
-use Rattle.table_check.specs.Tests.{row_from, open_in, lacks_at, asked}
+use Rattle.table_check.specs.Tests.{row_from, lacks_at, asked}
 use Rattle.table_check.specs.Tally.{rows_to}
-use Rattle.table_check.proofs.Turns.{Going, Turn, going_as, marked}
+use Rattle.table_check.proofs.Turns.{Going, Turn}
 use Rattle.table_check.proofs.Counting.{unset_lacks, job_few, bits-few, lacks_stops, none_lacks}
 
--- what holds after j halvings of the bits that are asked, with the slots open of which the work area tells
-pub record Asking (L : Limits) (book table sizes caps : List ℕ) (c : Current) (from : ℕ) (totals ready work : List ℕ) (bad : Verdict)
+-- what holds after j halvings of the bits that are asked
+pub record Asking (book : List ℕ) (opened : ℕ → Bool) (table sizes caps : List ℕ) (c : Current) (from : ℕ) (totals ready work : List ℕ) (bad : Verdict)
     (least finish at : ℕ) (r : Row) (t : Tested) (bits j : ℕ) : Type 0 where
-  pub going : Going L book (open_in L.slots work) table sizes caps c from totals ready work bad least finish at (rows_to (book_of book) at)
-  pub turn : Turn L (book_of book) (open_in L.slots work) table c.flow (rows_to (book_of book) at) (row_from r) t
+  pub going : Going book opened table sizes caps c from totals ready work bad least finish at (rows_to (book_of book) at)
+  pub turn : Turn (book_of book) opened table c.flow (rows_to (book_of book) at) (row_from r) t
   pub here : at < length table
   pub released : before_release (book_of book) (row_from r) ≡ false
   pub all : ℕ
@@ -42,16 +41,16 @@ lowest_lacks : (p bits j slot ready : ℕ) → bits ≡ p / 2 ^ j → lacks_at b
 unfolding lacks_at
 lowest_lacks p bits j slot ready e = ap (λ (u : Bool). u && ltb slot ready) (bit_of-left p bits j e)
 
-module _ {L : Limits} {book table sizes caps : List ℕ} {c : Current} {from : ℕ} {totals ready work : List ℕ} {bad : Verdict}
+module _ {book : List ℕ} {opened : ℕ → Bool} {table sizes caps : List ℕ} {c : Current} {from : ℕ} {totals ready work : List ℕ} {bad : Verdict}
     {least finish at : ℕ} {r : Row} {t : Tested} {bits : ℕ} where
-  pub asking-first : {opened : ℕ → Bool} → Going L book opened table sizes caps c from totals ready work bad least finish at (rows_to (book_of book) at) →
-      Turn L (book_of book) opened table c.flow (rows_to (book_of book) at) (row_from r) t → at < length table →
+  pub asking-first : Going book opened table sizes caps c from totals ready work bad least finish at (rows_to (book_of book) at) →
+      Turn (book_of book) opened table c.flow (rows_to (book_of book) at) (row_from r) t → at < length table →
       before_release (book_of book) (row_from r) ≡ false →
       bits ≡ asked (get_or totals r.job 0) (job_of (flow_of (book_of book) c.flow) r.job).predecessors →
-      Asking L book table sizes caps c from totals ready work bad least finish at r t bits 0
+      Asking book opened table sizes caps c from totals ready work bad least finish at r t bits 0
   asking-first going turn here released bits_are = record {
-    going = going_as (sym (marked going)) going;
-    turn = subst (λ (o : ℕ → Bool). Turn L (book_of book) o table c.flow (rows_to (book_of book) at) (row_from r) t) (sym (marked going)) turn;
+    going = going;
+    turn = turn;
     here = here;
     released = released;
     all = bits;
@@ -60,7 +59,7 @@ module _ {L : Limits} {book table sizes caps : List ℕ} {c : Current} {from : �
     none_so_far = λ m h. absurd (omega arith);
   }
 
-  module _ {j : ℕ} (asking : Asking L book table sizes caps c from totals ready work bad least finish at r t bits j) where
+  module _ {j : ℕ} (asking : Asking book opened table sizes caps c from totals ready work bad least finish at r t bits j) where
     below-job : (bits ≡ 0 → ⊥) → j < r.job
     below-job some = left_below asking.all bits j asking.left r.job (bits-few asking.going asking.turn asking.all asking.all_are) some
 
@@ -71,7 +70,7 @@ module _ {L : Limits} {book table sizes caps : List ℕ} {c : Current} {from : �
       here : lacking ≡ lacks_at asking.all j r.slot (get_or ready j 0)
       here = is ∙ lowest_lacks asking.all bits j r.slot (get_or ready j 0) asking.left
 
-      pub asking-next : lacking ≡ false → Asking L book table sizes caps c from totals ready work bad least finish at r t (bits / 2) (j + 1)
+      pub asking-next : lacking ≡ false → Asking book opened table sizes caps c from totals ready work bad least finish at r t (bits / 2) (j + 1)
       asking-next none = record {
         going = asking.going;
         turn = asking.turn;
@@ -83,11 +82,10 @@ module _ {L : Limits} {book table sizes caps : List ℕ} {c : Current} {from : �
         none_so_far = λ m h. last_or m j (omega arith) (λ e. ap (λ (q : ℕ). lacks_at asking.all q r.slot (get_or ready q 0)) e ∙ sym here ∙ none) (λ l. asking.none_so_far m l);
       }
 
-      pub asking_stops : {opened : ℕ → Bool} → open_in L.slots work ≡ opened → (bits ≡ 0 → ⊥) → lacking ≡ true →
-          row_fault L (book_of book) opened (table_rows (book_of book) table) (rows_to (book_of book) at) ≡ Refused 19 r.flow r.job
-      asking_stops same some lacks =
-          subst (λ (o : ℕ → Bool). row_fault L (book_of book) o (table_rows (book_of book) table) (rows_to (book_of book) at) ≡ Refused 19 r.flow r.job) same
-          (lacks_stops asking.going asking.turn asking.all asking.all_are asking.released j (below-job some) (sym here ∙ lacks))
+      pub asking_stops : (bits ≡ 0 → ⊥) → lacking ≡ true →
+          row_fault (book_of book) opened (table_rows (book_of book) table) (rows_to (book_of book) at) ≡ Refused 19 r.flow r.job
+      asking_stops some lacks =
+          lacks_stops asking.going asking.turn asking.all asking.all_are asking.released j (below-job some) (sym here ∙ lacks)
 
     pub asking-ends : bits ≡ 0 → lacks_predecessor (book_of book) (take (rows_to (book_of book) at) (table_rows (book_of book) table)) (row_from r) ≡ false
     asking-ends none =

@@ -11,7 +11,6 @@ use Rattle.rules.specs.declared.Verdict.{Verdict}
 use Rattle.rules.specs.declared.Verdict.TheVariants.{Pass, Refused}
 use Rattle.rules.specs.Walks.{if◌then◌else◌}
 use Rattle.rules.specs.Answers.{first_fault}
-use Rattle.rules.specs.Ranges.{mill}
 use Rattle.rules.specs.Book.{Book, flow_count, job_count, flow_of, job_of, InRange}
 use Rattle.rules.specs.Rows.{Row, total_of, late_flows}
 use Rattle.rules.specs.Table.{finish_in}
@@ -30,25 +29,25 @@ use Rattle.book.proofs.LateFlows.{late-counted}
 
 -- ---- walks in the values of a loop
 module _ (g : ℕ → Verdict) where
-  pub none-walked : first_fault g 0 ≡ Pass
+  pub none_walked : first_fault g 0 ≡ Pass
   unfolding first_fault
-  none-walked = refl
+  none_walked = refl
 
-  pub one-walked : (k : ℕ) → first_fault g k ≡ Pass → g k ≡ Pass → first_fault g (k + 1) ≡ Pass
-  one-walked k e d = rw add-one (fault-next g k e d)
+  pub one_walked : (k : ℕ) → first_fault g k ≡ Pass → g k ≡ Pass → first_fault g (k + 1) ≡ Pass
+  one_walked k e d = rw add-one (fault-next g k e d)
 
-  pub all-walked : (k n : ℕ) → k ≤ n → n ≤ k → first_fault g k ≡ Pass → first_fault g n ≡ Pass
-  all-walked k n h l e = let same : n ≡ k = omega arith in ap (first_fault g) same ∙ e
+  pub all_walked : (k n : ℕ) → k ≤ n → n ≤ k → first_fault g k ≡ Pass → first_fault g n ≡ Pass
+  all_walked k n h l e = let same : n ≡ k = omega arith in ap (first_fault g) same ∙ e
 
   pub stopped : (k n m f j : ℕ) → k < n → first_fault g k ≡ Pass → g k ≡ Refused m f j → first_fault g n ≡ Refused m f j
   stopped k n m f j h e d = fault_stop g n k (Refused m f j) h (not-pass m f j) e d
 
 pub index-flows : {s : List ℕ} {x : Index} → Indexed s x → x.flows ≤ 64
-index-flows {s} indexed = omega (arith, indexed.flows, (pass_in-range mill s indexed.passes).flows_most)
+index-flows {s} indexed = omega (arith, indexed.flows, (pass_in-range s indexed.passes).flows_most)
 
 pub few-jobs : {s : List ℕ} {c : Current} → CurrentFlow s c → c.jobs ≤ 64
 few-jobs {s} {c} current =
-    omega (arith, current.jobs, (used_in-range mill (pass_in-range mill s current.stands.passes) c.flow current.stands.flow_in_is).jobs_most)
+    omega (arith, current.jobs, (used_in-range (pass_in-range s current.stands.passes) c.flow current.stands.flow_in_is).jobs_most)
 
 -- ---- one turn
 module _ (b : Book) (f : ℕ) (totals : List ℕ) (i job v : ℕ) (job_is : i ≡ job) (v-is : v ≡ (job_of (flow_of b f) i).size) where
@@ -82,7 +81,7 @@ module _ (b : Book) (f : ℕ) (totals : List ℕ) (jobs : ℕ) (jobs-are : jobs 
   pub closes_right : (job : ℕ) → job ≤ jobs → jobs ≤ job → first_fault (total_fault_by b f totals) job ≡ Pass →
       mismatch_fault f 64 ≡ first_fault (total_fault_by b f totals) (job_count (flow_of b f))
   closes_right job h l e =
-      mismatch-none f 64 (omega arith) ∙ sym (all-walked (total_fault_by b f totals) job (job_count (flow_of b f)) (omega arith) (omega arith) e)
+      mismatch-none f 64 (omega arith) ∙ sym (all_walked (total_fault_by b f totals) job (job_count (flow_of b f)) (omega arith) (omega arith) e)
 
 module _ (table finish : List ℕ) (f v : ℕ) (v-is : v ≡ finish_in table f) where
   pub finish_right : v ≡ get_or finish f 0 → finish_fault_by table finish f ≡ Pass
@@ -103,7 +102,7 @@ flow-totals b f so_far totals few total =
     (λ i l. ap (λ (n : ℕ). if eqb n (job_of (flow_of b f) i).size then Pass else Refused 20 f i) (total i (omega arith)))
 
 -- ---- the table's own
-module _ (b : Book) (range : InRange mill b) (rows : List Row) (mismatch finish : List ℕ) (closed : Closed b rows mismatch finish) where
+module _ (b : Book) (range : InRange b) (rows : List Row) (mismatch finish : List ℕ) (closed : Closed b rows mismatch finish) where
   pub mismatches-same : mismatches_fault mismatch (flow_count b) ≡ first_fault (λ f. first_fault (total_fault b rows f) (job_count (flow_of b f))) (flow_count b)
   unfolding mismatches_fault flow_totals
   mismatches-same =

@@ -1,6 +1,6 @@
 -- The walk flow by flow: a flow is closed by the totals that its rows leave; between two flows every flow is closed, and the next row is another
 -- flow's than the last one, so that service order alone tells whether it comes after it. Assumes nothing.
-use mathlib.Core.Path.{◌≡◌, refl, sym, ap, ◌∙◌, subst}
+use mathlib.Core.Path.{◌≡◌, refl, sym, ap, ◌∙◌}
 use Prim.Native.Nat.{ℕ, suc, ◌+◌, ◌*◌, ◌≤◌, ◌<◌}
 use mathlib.Core.Bool.{Bool}
 use mathlib.Core.Logic.{◌⊎◌, inl, inr}
@@ -12,14 +12,13 @@ use lib.Dec.{leb, eqb}
 use borrow.Author.Tests.{le-leb, lt-leb, leb-true, ne_eqb}
 use Rattle.rules.specs.declared.Verdict.{Verdict}
 use Rattle.rules.specs.declared.Verdict.TheVariants.{Pass, Refused}
-use Rattle.rules.specs.declared.Limits.{Limits}
 use Rattle.rules.specs.Walks.{if◌then◌else◌}
-use Rattle.rules.specs.Ranges.{mill, Fits}
+use Rattle.rules.specs.Limits.{slots, work_bytes}
 use Rattle.rules.specs.Answers.{first_fault}
 use Rattle.rules.specs.Book.{Book, flow_count, job_count, flow_of, job_of, InRange}
 use Rattle.rules.specs.Reading.{book_of}
 use Rattle.rules.specs.Rows as rules
-use Rattle.rules.specs.Rows.{sum_where, total_of, finish_of, work_zero}
+use Rattle.rules.specs.Rows.{sum_where, total_of, finish_of, work_used, work_zero}
 use Rattle.rules.specs.Table.{table_head, row_length, row_at}
 use Rattle.rules.specs.Check.{no_row, table_rows, table_head_fault, row_fault, total_fault}
 use Rattle.rules.proofs.Reading.Caps.{used_in-range}
@@ -27,29 +26,26 @@ use Rattle.rules.proofs.Laws.Division.{lt-or_ge}
 use Rattle.rules.proofs.Laws.Walks.{after-set}
 use Rattle.rules.proofs.Laws.Faults.{not-pass, fault_stop, fault_ext}
 use Rattle.rules.proofs.Reading.Passing.{pass_in-range}
+use Rattle.rules.proofs.Rows.WorkArea.{used-none, used-over-cleared, cleared-twice, cleared-length}
 use Rattle.book.specs.declared.Index.{Index}
 use Rattle.book.specs.Promise.{Indexed, FlowStands}
-use Rattle.calendar.specs.Area.{area_holding}
-use Rattle.calendar.proofs.Area.{holding-over}
 use Rattle.table_check.specs.declared.row.Row.{Row}
 use Rattle.table_check.specs.declared.row.Current.{Current}
 use Rattle.table_check.specs.declared.walk.Stop.{Stop}
 use Rattle.table_check.specs.declared.walk.FlowStop.{FlowStop}
-use Rattle.table_check.specs.Tests.{row_from, open_in, marked_use, service_key, rank_of, ranks, row_key, least_key, standing_number, mismatch_fault}
+use Rattle.table_check.specs.Tests.{row_from, service_key, rank_of, ranks, row_key, least_key, standing_number, mismatch_fault}
 use Rattle.table_check.specs.Tally.{CurrentFlow, rows_to, Reached}
 use Rattle.table_check.specs.Walk.{rows_fault, flow_totals, FlowBegins, WentOn, RowsWalked, total_fault_by, FlowWalked, Ready, Closed, TableWalked}
 use Rattle.table_check.proofs.TableRows.{rows_to_lem, more_rows, row_read, no-more_rows}
 use Rattle.table_check.proofs.Keys.{KeyFits, service-apart, rank_below}
-use Rattle.table_check.proofs.SoFar.{so_far_lem}
-use Rattle.table_check.proofs.Marks.{marks-kept}
 use Rattle.table_check.proofs.RowFaults.{StandingPassed, flow_unknown, standing_fault, standing-passed}
-use Rattle.table_check.proofs.Finals.{none-walked, stopped, flow-totals, mismatch-found}
+use Rattle.table_check.proofs.Finals.{none_walked, stopped, flow-totals, mismatch-found}
 
 -- ---- a flow is closed
-pub flow-closed : {L : Limits} {book : List ℕ} {opened : ℕ → Bool} {table before after totals : List ℕ} {c : Current} {from mismatch : ℕ} {w : Stop} →
-    CurrentFlow book c → RowsWalked L (book_of book) opened table c.flow from before after totals w →
+pub flow-closed : {book : List ℕ} {opened : ℕ → Bool} {table before after totals : List ℕ} {c : Current} {from mismatch : ℕ} {w : Stop} →
+    CurrentFlow book c → RowsWalked (book_of book) opened table c.flow from before after totals w →
     mismatch_fault c.flow mismatch ≡ first_fault (total_fault_by (book_of book) c.flow totals) (job_count (flow_of (book_of book) c.flow)) →
-    FlowWalked L (book_of book) opened table c.flow from before after (record { verdict = w.verdict; next = w.next; finish = w.finish; mismatch = mismatch })
+    FlowWalked (book_of book) opened table c.flow from before after (record { verdict = w.verdict; next = w.next; finish = w.finish; mismatch = mismatch })
 flow-closed {book} {table = table} {totals = totals} {c = c} {w = w} current walked mismatch-is = record {
   cleared = walked.cleared;
   stopped = walked.stopped;
@@ -57,23 +53,22 @@ flow-closed {book} {table = table} {totals = totals} {c = c} {w = w} current wal
   mismatch = λ p.
       mismatch-is
       ∙ flow-totals (book_of book) c.flow (take (rows_to (book_of book) w.next) (table_rows (book_of book) table)) totals
-      (used_in-range mill (pass_in-range mill book current.stands.passes) c.flow current.stands.flow_in_is).jobs_most (walked.total p);
+      (used_in-range (pass_in-range book current.stands.passes) c.flow current.stands.flow_in_is).jobs_most (walked.total p);
 }
 
 -- ---- between two flows
 -- after k rows, all of which pass: every flow is closed, and the next row is another flow's than the last one, whose service key is below `least`
-pub record Between (L : Limits) (book : List ℕ) (opened : ℕ → Bool) (table : List ℕ) (x : Index) (flows : ℕ) (work₀ work mismatch finish : List ℕ)
+pub record Between (book : List ℕ) (opened : ℕ → Bool) (table : List ℕ) (x : Index) (flows : ℕ) (work₀ work mismatch finish : List ℕ)
     (least at k : ℕ) : Type 0 where
   pub indexed : Indexed book x
   pub flows_are : flows ≡ flow_count (book_of book)
   pub headed : table_head_fault (book_of book) table ≡ Pass
-  pub fits : Fits L
-  pub room : 2 * L.slots ≤ length work
+  pub room : work_bytes ≤ length work
   pub work_kept : length work ≡ length work₀
-  pub cleared : work_zero L.slots work ≡ work_zero L.slots work₀
+  pub cleared : work_zero slots work ≡ work_zero slots work₀
   pub mismatch_long : length mismatch ≡ 64
   pub finish_long : length finish ≡ 64
-  pub reached : Reached L (book_of book) opened table k at work
+  pub reached : Reached (book_of book) opened table k at work
   pub closed : Closed (book_of book) (take k (table_rows (book_of book) table)) mismatch finish
   pub least_high : least_key (book_of book) (table_rows (book_of book) table) k ≤ least * ranks
   pub least_low : least * ranks < least_key (book_of book) (table_rows (book_of book) table) k + ranks
@@ -81,60 +76,68 @@ pub record Between (L : Limits) (book : List ℕ) (opened : ℕ → Bool) (table
       suc (service_key (book_of book) g) ≡ least → ⊥
 
 -- without rows every flow has its mismatch at job 0
-closed_none : (b : Book) → InRange mill b → Closed b [] (replicate 64 0) (replicate 64 0)
+closed_none : (b : Book) → InRange b → Closed b [] (replicate 64 0) (replicate 64 0)
 unfolding flow_totals total_fault total_of finish_of sum_where
 closed_none b range = record {
   mismatch_of = λ f h.
       let few : f < 64 = omega (arith, range.flows_most) in
       let first : get_or {A = ℕ} (replicate 64 0) f 0 ≡ 0 = get_or-replicate {A = ℕ} 64 f 0 0 few in
-      let some : 0 < job_count (flow_of b f) = (used_in-range mill range f h).jobs_least in
+      let some : 0 < job_count (flow_of b f) = (used_in-range range f h).jobs_least in
       let wrong : total_fault b [] f 0 ≡ Refused 20 f 0 =
-      rw (ne_eqb 0 (job_of (flow_of b f) 0).size (λ e. omega (arith, ((used_in-range mill range f h).each_job 0 some).size_least))) refl in
-      ap (mismatch_fault f) first ∙ mismatch-found f 0 (omega arith) ∙ sym (stopped (total_fault b [] f) 0 (job_count (flow_of b f)) 20 f 0 some (none-walked _) wrong);
+      rw (ne_eqb 0 (job_of (flow_of b f) 0).size (λ e. omega (arith, ((used_in-range range f h).each_job 0 some).size_least))) refl in
+      ap (mismatch_fault f) first ∙ mismatch-found f 0 (omega arith) ∙ sym (stopped (total_fault b [] f) 0 (job_count (flow_of b f)) 20 f 0 some (none_walked _) wrong);
   finish_of_is = λ f h. get_or-replicate {A = ℕ} 64 f 0 0 h;
 }
 
-module _ {L : Limits} {book : List ℕ} {opened : ℕ → Bool} {table work : List ℕ} {x : Index} (ready : Ready L book opened table work x) where
+module _ {book table entry work : List ℕ} {x : Index} (ready : Ready book table entry x) (from : work ≡ work_zero slots entry) where
+  again : work_zero slots work ≡ work
+  again = ap (work_zero slots) from ∙ cleared-twice slots entry ∙ sym from
+
   first-at : 8 + 2 * x.flows ≡ table_head (book_of book) + row_length * 0
   first-at = omega (arith, ready.indexed.flows)
 
-  none-reached : Reached L (book_of book) opened table 0 (8 + 2 * x.flows) work
-  unfolding first_fault
-  none-reached = record { at_is = first-at; within = omega arith; passed = refl; holds = ready.marked.1 }
+  module _ {opened : ℕ → Bool} where
+    none-reached : Reached (book_of book) opened table 0 (8 + 2 * x.flows) work
+    unfolding first_fault
+    none-reached = record {
+      at_is = first-at;
+      within = omega arith;
+      passed = refl;
+      use_of = sym (used-none slots work ∙ again);
+    }
 
-  between_none : Between L book opened table x x.flows work work (replicate 64 0) (replicate 64 0) 0 (8 + 2 * x.flows) 0
-  unfolding least_key
-  between_none = record {
-    indexed = ready.indexed;
-    flows_are = ready.indexed.flows;
-    headed = ready.headed;
-    fits = ready.fits;
-    room = ready.marked.0;
-    work_kept = refl;
-    cleared = refl;
-    mismatch_long = length-replicate {A = ℕ} 64 0;
-    finish_long = length-replicate {A = ℕ} 64 0;
-    reached = none-reached;
-    closed = closed_none (book_of book) (pass_in-range mill book ready.indexed.passes);
-    least_high = omega arith;
-    least_low = omega arith;
-    another = λ g h l e d. omega arith;
-  }
+    between_none : Between book opened table x x.flows work work (replicate 64 0) (replicate 64 0) 0 (8 + 2 * x.flows) 0
+    unfolding least_key
+    between_none = record {
+      indexed = ready.indexed;
+      flows_are = ready.indexed.flows;
+      headed = ready.headed;
+      room = omega (arith, ready.room, ap length from, cleared-length slots entry ready.room);
+      work_kept = refl;
+      cleared = refl;
+      mismatch_long = length-replicate {A = ℕ} 64 0;
+      finish_long = length-replicate {A = ℕ} 64 0;
+      reached = none-reached;
+      closed = closed_none (book_of book) (pass_in-range book ready.indexed.passes);
+      least_high = omega arith;
+      least_low = omega arith;
+      another = λ g h l e d. omega arith;
+    }
 
-  pub between_first :
-      Between L book opened table x x.flows work work (replicate 64 0) (replicate 64 0) 0 (8 + 2 * x.flows) (rows_to (book_of book) (8 + 2 * x.flows))
-  between_first = rw (rows_to_lem (book_of book) (8 + 2 * x.flows) 0 first-at) between_none
+    pub between_first :
+        Between book opened table x x.flows work work (replicate 64 0) (replicate 64 0) 0 (8 + 2 * x.flows) (rows_to (book_of book) (8 + 2 * x.flows))
+    between_first = rw (rows_to_lem (book_of book) (8 + 2 * x.flows) 0 first-at) between_none
 
-module _ {L : Limits} {book : List ℕ} {opened : ℕ → Bool} {table : List ℕ} {x : Index} {flows : ℕ} {work₀ work mismatch finish : List ℕ} {least at k : ℕ}
-    (between : Between L book opened table x flows work₀ work mismatch finish least at k) where
+module _ {book : List ℕ} {opened : ℕ → Bool} {table : List ℕ} {x : Index} {flows : ℕ} {work₀ work mismatch finish : List ℕ} {least at k : ℕ}
+    (between : Between book opened table x flows work₀ work mismatch finish least at k) where
   abbrev b : Book
   b = book_of book
 
   abbrev rows : List rules.Row
   rows = table_rows (book_of book) table
 
-  range : InRange mill (book_of book)
-  range = pass_in-range mill book between.indexed.passes
+  range : InRange (book_of book)
+  range = pass_in-range book between.indexed.passes
 
   pub flows-few : flows ≤ 64
   flows-few = omega (arith, between.flows_are, range.flows_most)
@@ -142,7 +145,7 @@ module _ {L : Limits} {book : List ℕ} {opened : ℕ → Bool} {table : List �
   pub jobs-few : {f : ℕ} → f < flows → get_or x.jobs f 0 ≤ 64
   jobs-few {f} in_book =
       let inside : f < flow_count b = omega (arith, between.flows_are) in
-      omega (arith, between.indexed.jobs f inside, (used_in-range mill range f inside).jobs_most)
+      omega (arith, between.indexed.jobs f inside, (used_in-range range f inside).jobs_most)
 
   -- a flow of the book has its job records where the index says
   pub flow-stands : {f records : ℕ} → f < flows → records ≡ get_or x.records f 0 → FlowStands book f records
@@ -152,36 +155,34 @@ module _ {L : Limits} {book : List ℕ} {opened : ℕ → Bool} {table : List �
     records_at = records-are ∙ between.indexed.records f (omega (arith, between.flows_are));
   }
 
-  -- the area still tells which slots are open
-  pub marked : open_in L.slots work ≡ opened
-  marked =
-      let known = so_far_lem L between.fits b opened range rows k between.reached.within between.reached.passed in
-      marks-kept between.reached.holds (λ t. omega (arith, known.used t, range.processors_most))
-
   -- a fault ends the walk
-  table_stops : {after : List ℕ} {n fl jb : ℕ} {v : Verdict} → v ≡ Refused n fl jb → v ≡ rows_fault L (book_of book) opened table →
-      work_zero L.slots after ≡ work_zero L.slots work₀ → TableWalked L (book_of book) opened table work₀ after (record { verdict = v; mismatch = mismatch; finish = finish })
-  table_stops {after} {n} {fl} {jb} v-is e c = record {
-    verdict = e;
-    cleared = c;
-    closed = λ p. not-pass n fl jb (sym v-is ∙ p);
-    area = λ p. not-pass n fl jb (sym v-is ∙ p);
-  }
+  module _ (entry : List ℕ) (from : work₀ ≡ work_zero slots entry) where
+    entry-cleared : (after : List ℕ) → work_zero slots after ≡ work_zero slots work → work_zero slots after ≡ work_zero slots entry
+    entry-cleared after e = e ∙ between.cleared ∙ ap (work_zero slots) from ∙ cleared-twice slots entry
 
-  -- no row is left
-  pub table-ends : length table ≤ at → TableWalked L (book_of book) opened table work₀ work (record { verdict = Pass; mismatch = mismatch; finish = finish })
-  unfolding rows_fault
-  table-ends h =
-      let all : k ≡ length rows = no-more_rows between.headed between.reached h in
-      let whole : take k rows ≡ rows = take_all k rows (omega arith) in
-      record {
-        verdict = sym (ap (first_fault (row_fault L b opened rows)) (sym all) ∙ between.reached.passed);
-        cleared = between.cleared;
-        closed = λ p. rw whole at between.closed;
-        area = λ p.
-            between.reached.holds.use_of ∙ ap (λ (l : List rules.Row). area_holding L.slots (marked_use opened l) work) whole
-            ∙ holding-over L.slots work₀ (marked_use opened rows) work between.cleared;
-      }
+    table_stops : {after : List ℕ} {n fl jb : ℕ} {v : Verdict} → v ≡ Refused n fl jb → v ≡ rows_fault (book_of book) opened table →
+        work_zero slots after ≡ work_zero slots work → TableWalked (book_of book) opened table entry after (record { verdict = v; mismatch = mismatch; finish = finish })
+    table_stops {after} {n} {fl} {jb} v-is e c = record {
+      verdict = e;
+      cleared = entry-cleared after c;
+      closed = λ p. not-pass n fl jb (sym v-is ∙ p);
+      area = λ p. not-pass n fl jb (sym v-is ∙ p);
+    }
+
+    -- no row is left
+    pub table-ends : length table ≤ at → TableWalked (book_of book) opened table entry work (record { verdict = Pass; mismatch = mismatch; finish = finish })
+    unfolding rows_fault
+    table-ends h =
+        let all : k ≡ length rows = no-more_rows between.headed between.reached h in
+        let whole : take k rows ≡ rows = take_all k rows (omega arith) in
+        record {
+          verdict = sym (ap (first_fault (row_fault b opened rows)) (sym all) ∙ between.reached.passed);
+          cleared = entry-cleared work refl;
+          closed = λ p. rw whole at between.closed;
+          area = λ p.
+              between.reached.use_of ∙ ap (λ (l : List rules.Row). work_used slots l work) whole ∙ sym (used-over-cleared slots rows work)
+              ∙ ap (work_used slots rows) (entry-cleared work refl) ∙ used-over-cleared slots rows entry;
+        }
 
   -- ---- the row that was read, the first of its flow
   module _ (here : at < length table) (r : Row) (read : row_from r ≡ row_at table at) {f : ℕ} (flow_is : f ≡ r.flow) where
@@ -191,20 +192,20 @@ module _ {L : Limits} {book : List ℕ} {opened : ℕ → Bool} {table : List �
     row_here : get_or (table_rows (book_of book) table) k no_row ≡ row_from r
     row_here = row_read between.headed between.reached here read
 
-    row_stops : {n fl jb : ℕ} {v : Verdict} → v ≡ Refused n fl jb →
-        row_fault L (book_of book) opened (table_rows (book_of book) table) k ≡ Refused n fl jb →
-        TableWalked L (book_of book) opened table work₀ work (record { verdict = v; mismatch = mismatch; finish = finish })
+    row_stops : (entry : List ℕ) → work₀ ≡ work_zero slots entry → {n fl jb : ℕ} {v : Verdict} → v ≡ Refused n fl jb →
+        row_fault (book_of book) opened (table_rows (book_of book) table) k ≡ Refused n fl jb →
+        TableWalked (book_of book) opened table entry work (record { verdict = v; mismatch = mismatch; finish = finish })
     unfolding rows_fault
-    row_stops {n} {fl} {jb} v-is e =
-        table_stops v-is
-        (v-is ∙ sym (fault_stop (row_fault L b opened rows) (length rows) k (Refused n fl jb) more (not-pass n fl jb) between.reached.passed e)) between.cleared
+    row_stops entry from {n} {fl} {jb} v-is e =
+        table_stops entry from v-is
+        (v-is ∙ sym (fault_stop (row_fault b opened rows) (length rows) k (Refused n fl jb) more (not-pass n fl jb) between.reached.passed e)) refl
 
-    pub unknown_stops : {v : Verdict} → v ≡ Refused 15 r.flow r.job → flows ≤ f →
-        TableWalked L (book_of book) opened table work₀ work (record { verdict = v; mismatch = mismatch; finish = finish })
-    unknown_stops v-is h = row_stops v-is (flow_unknown L b opened rows k (row_from r) row_here (omega (arith, between.flows_are, flow_is)))
+    pub unknown_stops : (entry : List ℕ) → work₀ ≡ work_zero slots entry → {v : Verdict} → v ≡ Refused 15 r.flow r.job → flows ≤ f →
+        TableWalked (book_of book) opened table entry work (record { verdict = v; mismatch = mismatch; finish = finish })
+    unknown_stops entry from v-is h = row_stops entry from v-is (flow_unknown b opened rows k (row_from r) row_here (omega (arith, between.flows_are, flow_is)))
 
     module _ (in_book : f < flows) {jobs key n : ℕ} (jobs-read : jobs ≡ get_or x.jobs f 0) (key-read : key ≡ get_or x.deadlines f 0 * 64 + r.flow)
-        (n-is : n ≡ standing_number L.slots jobs (open_in L.slots work r.slot) least key (row_from r)) where
+        (n-is : n ≡ standing_number jobs (opened r.slot) least key (row_from r)) where
       flow_in_is : r.flow < flow_count (book_of book)
       flow_in_is = omega (arith, between.flows_are, flow_is)
 
@@ -229,30 +230,29 @@ module _ {L : Limits} {book : List ℕ} {opened : ℕ → Bool} {table : List �
               go' (inr m) n = absurd (n (omega arith))
           go (inr l) = le-leb (least_key b rows k) (service_key b r.flow * ranks + rank_of (row_from r)) (omega (arith, key_is, between.least_high)) ∙ sym (le-leb least key l)
 
-      n_right : n ≡ standing_number L.slots (job_count (flow_of (book_of book) r.flow)) (opened r.slot) least key (row_from r)
+      n_right : n ≡ standing_number (job_count (flow_of (book_of book) r.flow)) (opened r.slot) least key (row_from r)
       n_right =
-          n-is ∙ ap (λ (o : ℕ → Bool). standing_number L.slots jobs (o r.slot) least key (row_from r)) marked
-          ∙ ap (λ (m : ℕ). standing_number L.slots m (opened r.slot) least key (row_from r))
+          n-is ∙ ap (λ (m : ℕ). standing_number m (opened r.slot) least key (row_from r))
           (jobs-read ∙ between.indexed.jobs f (omega (arith, between.flows_are)) ∙ ap (λ (g : ℕ). job_count (flow_of (book_of book) g)) flow_is)
 
-      pub standing_stops : {v : Verdict} → v ≡ Refused n r.flow r.job → (n ≡ 0 → ⊥) →
-          TableWalked L (book_of book) opened table work₀ work (record { verdict = v; mismatch = mismatch; finish = finish })
-      standing_stops v-is h =
-          row_stops v-is
-          (standing_fault L b opened rows k (row_from r) row_here between.fits range between.reached.passed least key n order flow_in_is n_right h)
+      pub standing_stops : (entry : List ℕ) → work₀ ≡ work_zero slots entry → {v : Verdict} → v ≡ Refused n r.flow r.job → (n ≡ 0 → ⊥) →
+          TableWalked (book_of book) opened table entry work (record { verdict = v; mismatch = mismatch; finish = finish })
+      standing_stops entry from v-is h =
+          row_stops entry from v-is
+          (standing_fault b opened rows k (row_from r) row_here range between.reached.passed least key n order flow_in_is n_right h)
 
       -- the flow's rows come after those so far
       module _ (none : n ≡ 0) where
-        standing : StandingPassed L (book_of book) opened (table_rows (book_of book) table) k (row_from r)
-        standing = standing-passed L b opened rows k (row_from r) row_here between.fits range between.reached.passed least key n order flow_in_is n_right none
+        standing : StandingPassed (book_of book) opened (table_rows (book_of book) table) k (row_from r)
+        standing = standing-passed b opened rows k (row_from r) row_here range between.reached.passed least key n order flow_in_is n_right none
 
         key-least : least ≤ key
         key-least = leb-true least key (sym (order standing.fits) ∙ le-leb (least_key b rows k) (row_key b (row_from r)) standing.after_least)
 
-        begins : k ≡ rows_to (book_of book) at → {records release processors : ℕ} → records ≡ get_or x.records f 0 →
+        pub flow_begins : k ≡ rows_to (book_of book) at → {records release processors : ℕ} → records ≡ get_or x.records f 0 →
             release ≡ (flow_of (book_of book) f).release → processors ≡ x.processors →
-            FlowBegins L book opened table work (record { flow = f; records = records; jobs = jobs; release = release; processors = processors }) at
-        begins k-is records-are release-is processors_are = record {
+            FlowBegins book opened table work (record { flow = f; records = records; jobs = jobs; release = release; processors = processors }) at
+        flow_begins k-is records-are release-is processors_are = record {
           current = record {
             stands = flow-stands in_book records-are;
             jobs = jobs-read ∙ between.indexed.jobs f (omega (arith, between.flows_are));
@@ -260,7 +260,6 @@ module _ {L : Limits} {book : List ℕ} {opened : ℕ → Bool} {table : List �
             processors = processors_are ∙ between.indexed.processors;
           };
           headed = between.headed;
-          fits = between.fits;
           room = between.room;
           reached = rw (← k-is) between.reached;
           more = rw (← k-is) more;
@@ -268,30 +267,19 @@ module _ {L : Limits} {book : List ℕ} {opened : ℕ → Bool} {table : List �
           ahead = rw (← k-is, flow_is, ← key_is) (omega (arith, between.least_high, key-least));
         }
 
-        pub flow-begins : k ≡ rows_to (book_of book) at → {records release processors : ℕ} → records ≡ get_or x.records f 0 →
-            release ≡ (flow_of (book_of book) f).release → processors ≡ x.processors →
-            FlowBegins L book (open_in L.slots work) table work (record { flow = f; records = records; jobs = jobs; release = release; processors = processors }) at
-        flow-begins k-is {records} {release} {processors} records-are release-is processors_are =
-            let c : Current = record { flow = f; records = records; jobs = jobs; release = release; processors = processors } in
-            subst (λ (o : ℕ → Bool). FlowBegins L book o table work c at) (sym marked)
-            (begins k-is records-are release-is processors_are)
-
   -- ---- the flow's rows were walked
-  module _ {f : ℕ} {after : List ℕ} {w : FlowStop} (told : FlowWalked L (book_of book) (open_in L.slots work) table f at work after w) where
-    walked : FlowWalked L (book_of book) opened table f at work after w
-    walked = subst (λ (o : ℕ → Bool). FlowWalked L (book_of book) o table f at work after w) marked told
-
-    pub flow_stops : {n fl jb : ℕ} {v : Verdict} → v ≡ w.verdict → v ≡ Refused n fl jb →
-        TableWalked L (book_of book) opened table work₀ after (record { verdict = v; mismatch = mismatch; finish = finish })
-    flow_stops {n} {fl} {jb} v-is e =
-        table_stops e (v-is ∙ walked.stopped (λ p. not-pass n fl jb (sym e ∙ v-is ∙ p))) (walked.cleared ∙ between.cleared)
+  module _ {f : ℕ} {after : List ℕ} {w : FlowStop} (walked : FlowWalked (book_of book) opened table f at work after w) where
+    pub flow_stops : (entry : List ℕ) → work₀ ≡ work_zero slots entry → {n fl jb : ℕ} {v : Verdict} → v ≡ w.verdict → v ≡ Refused n fl jb →
+        TableWalked (book_of book) opened table entry after (record { verdict = v; mismatch = mismatch; finish = finish })
+    flow_stops entry from {n} {fl} {jb} v-is e =
+        table_stops entry from e (v-is ∙ walked.stopped (λ p. not-pass n fl jb (sym e ∙ v-is ∙ p))) walked.cleared
 
     -- and pass
     module _ (pass : w.verdict ≡ Pass) (k-is : k ≡ rows_to (book_of book) at) (f-in : f < flow_count (book_of book)) where
       abbrev m : ℕ
       m = rows_to (book_of book) w.next
 
-      went : WentOn L (book_of book) opened table f k (rows_to (book_of book) w.next) w.next after w.finish
+      went : WentOn (book_of book) opened table f k (rows_to (book_of book) w.next) w.next after w.finish
       went = rw k-is (walked.went pass)
 
       few : f < 64
@@ -322,12 +310,11 @@ module _ {L : Limits} {book : List ℕ} {opened : ℕ → Bool} {table : List �
       another-next g h l e d = service-apart b g f h few (λ same. went.another l (e ∙ same)) d
 
       pub between_next : {key : ℕ} → key ≡ service_key (book_of book) f → length after ≡ length work →
-          Between L book opened table x flows work₀ after (set mismatch f w.mismatch) (set finish f w.finish) (key + 1) w.next (rows_to (book_of book) w.next)
+          Between book opened table x flows work₀ after (set mismatch f w.mismatch) (set finish f w.finish) (key + 1) w.next (rows_to (book_of book) w.next)
       between_next {key} key_is kept = record {
         indexed = between.indexed;
         flows_are = between.flows_are;
         headed = between.headed;
-        fits = between.fits;
         room = omega (arith, between.room);
         work_kept = kept ∙ between.work_kept;
         cleared = walked.cleared ∙ between.cleared;

@@ -10,7 +10,7 @@ use native.Mathlib.Omega.{arith}
 use lib.ListN.{get_or}
 use lib.Dec.{ltb, leb, eqb}
 use borrow.Author.Tests.{lt-ltb, le-ltb, eq-eqb, ne_eqb, eqb-true, eqb-false, le-leb}
-use Rattle.rules.specs.Ranges.{mill}
+use Rattle.rules.specs.Limits.{slots}
 use Rattle.rules.specs.Book.{Book, flow_count, job_count, flow_of, InRange}
 use Rattle.rules.specs.Service.{served_before}
 use Rattle.rules.specs.Rows.{Row}
@@ -61,15 +61,15 @@ module _ (m a x c y : ℕ) (h : x < m) (l : y < m) where
 -- what a key needs of a row
 pub record KeyFits (r : Row) : Type 0 where
   pub flow_fits : r.flow < 64
-  pub slot_fits : r.slot < mill.slots
+  pub slot_fits : r.slot < slots
   pub job_fits : r.job < 64
 
 -- a row of the book in a slot of a table has it
-pub key_fits : (b : Book) (r : Row) → InRange mill b → r.slot < mill.slots → r.flow < flow_count b → r.job < job_count (flow_of b r.flow) → KeyFits r
+pub key_fits : (b : Book) (r : Row) → InRange b → r.slot < slots → r.flow < flow_count b → r.job < job_count (flow_of b r.flow) → KeyFits r
 key_fits b r range s f j = record {
   flow_fits = omega (arith, range.flows_most);
   slot_fits = s;
-  job_fits = omega (arith, (used_in-range mill range r.flow f).jobs_most);
+  job_fits = omega (arith, (used_in-range range r.flow f).jobs_most);
 }
 
 -- flows compare as their deadlines and numbers do

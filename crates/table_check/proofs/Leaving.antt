@@ -8,7 +8,6 @@ use native.Mathlib.Omega.{arith}
 use lib.ListN.{length, get_or}
 use Rattle.rules.specs.declared.Verdict.{Verdict}
 use Rattle.rules.specs.declared.Verdict.TheVariants.{Refused}
-use Rattle.rules.specs.declared.Limits.{Limits}
 use Rattle.rules.specs.Book.{Book}
 use Rattle.rules.specs.Reading.{book_of}
 use Rattle.rules.specs.Rows as rules
@@ -24,31 +23,31 @@ use Rattle.table_check.specs.Walk.{rows_fault, WentOn, RowsWalked}
 use Rattle.table_check.proofs.TableRows.{rows_to_lem, no-more_rows}
 use Rattle.table_check.proofs.Turns.{Going, Lent, row_here}
 
-module _ {L : Limits} {book : List ℕ} {opened : ℕ → Bool} {table sizes caps : List ℕ} {c : Current} {from : ℕ} {totals ready work : List ℕ} {bad : Verdict}
-    {least finish at k : ℕ} (going : Going L book opened table sizes caps c from totals ready work bad least finish at k) where
+module _ {book : List ℕ} {opened : ℕ → Bool} {table sizes caps : List ℕ} {c : Current} {from : ℕ} {totals ready work : List ℕ} {bad : Verdict}
+    {least finish at k : ℕ} (going : Going book opened table sizes caps c from totals ready work bad least finish at k) where
   abbrev b : Book
   b = book_of book
 
   abbrev rows : List rules.Row
   rows = table_rows (book_of book) table
 
-  module _ {totals₀ ready₀ entry : List ℕ} (lent : Lent L.slots totals₀ ready₀ entry totals ready work) where
+  module _ {totals₀ ready₀ entry : List ℕ} (lent : Lent totals₀ ready₀ entry totals ready work) where
     -- a row's fault ends the walk
     pub walk_stops : k < length (table_rows (book_of book) table) → {n fl jb : ℕ} {v : Verdict} → v ≡ Refused n fl jb →
-        row_fault L (book_of book) opened (table_rows (book_of book) table) k ≡ Refused n fl jb →
-        RowsWalked L (book_of book) opened table c.flow from entry work totals (record { verdict = v; next = at; finish = finish })
+        row_fault (book_of book) opened (table_rows (book_of book) table) k ≡ Refused n fl jb →
+        RowsWalked (book_of book) opened table c.flow from entry work totals (record { verdict = v; next = at; finish = finish })
     unfolding rows_fault
     walk_stops more {n} {fl} {jb} v-is e = record {
       totals_long = going.tally.totals_long;
       cleared = lent.cleared;
-      stopped = λ p. v-is ∙ sym (fault_stop (row_fault L b opened rows) (length rows) k (Refused n fl jb) more (not-pass n fl jb) going.reached.passed e);
+      stopped = λ p. v-is ∙ sym (fault_stop (row_fault b opened rows) (length rows) k (Refused n fl jb) more (not-pass n fl jb) going.reached.passed e);
       went = λ p. not-pass n fl jb (sym v-is ∙ p);
       total = λ p. not-pass n fl jb (sym v-is ∙ p);
     }
 
     -- the next row is another flow's, or there is none
     walk-leaves : (k < length (table_rows (book_of book) table) → (get_or (table_rows (book_of book) table) k no_row).flow ≡ c.flow → ⊥) →
-        RowsWalked L (book_of book) opened table c.flow from entry work totals (record { verdict = bad; next = at; finish = finish })
+        RowsWalked (book_of book) opened table c.flow from entry work totals (record { verdict = bad; next = at; finish = finish })
     walk-leaves another = record {
       totals_long = going.tally.totals_long;
       cleared = lent.cleared;
@@ -69,7 +68,7 @@ module _ {L : Limits} {book : List ℕ} {opened : ℕ → Bool} {table sizes cap
                 let same : k ≡ rows_to b from = omega (arith, going.since) in
                 absurd (another (omega (arith, going.first_more)) (ap (λ j. (get_or rows j no_row).flow) same ∙ going.first_own))
 
-        went_on : WentOn L (book_of book) opened table c.flow (rows_to (book_of book) from) k at work finish
+        went_on : WentOn (book_of book) opened table c.flow (rows_to (book_of book) from) k at work finish
         went_on = record {
           some = some;
           reached = going.reached;
@@ -81,9 +80,9 @@ module _ {L : Limits} {book : List ℕ} {opened : ℕ → Bool} {table sizes cap
           another = another;
         }
 
-    pub walk_ends : length table ≤ at → RowsWalked L (book_of book) opened table c.flow from entry work totals (record { verdict = bad; next = at; finish = finish })
+    pub walk_ends : length table ≤ at → RowsWalked (book_of book) opened table c.flow from entry work totals (record { verdict = bad; next = at; finish = finish })
     walk_ends h = walk-leaves (λ l e. omega (arith, no-more_rows going.headed going.reached h))
 
     pub walk_turns : (here : at < length table) (r : Row) → row_from r ≡ row_at table at → (r.flow ≡ c.flow → ⊥) →
-        RowsWalked L (book_of book) opened table c.flow from entry work totals (record { verdict = bad; next = at; finish = finish })
+        RowsWalked (book_of book) opened table c.flow from entry work totals (record { verdict = bad; next = at; finish = finish })
     walk_turns here r read n = walk-leaves (λ l e. n (sym (ap (λ (q : rules.Row). q.flow) (row_here going here r read)) ∙ e))

@@ -6,7 +6,6 @@ pub mod TestNumbers
 pub mod Keys
 pub mod SoFar
 pub mod Tallies
-pub mod Marks
 pub mod RowFaults
 pub mod Started
 pub mod Turns

@@ -10,10 +10,8 @@ use lib.Seq.{take-suc}
 use lib.Dec.{ltb, eqb}
 use borrow.Author.Tests.{lt-ltb, eq-eqb, ne_eqb, ltb-true, eqb-true, eqb-false, leb-true}
 use Rattle.rules.specs.declared.Verdict.TheVariants.{Pass}
-use Rattle.rules.specs.declared.Limits.{Limits}
 use Rattle.rules.specs.Walks.{if◌then◌else◌}
 use Rattle.rules.specs.Answers.{first_fault}
-use Rattle.rules.specs.Ranges.{mill, Fits}
 use Rattle.rules.specs.Book.{Book, InRange}
 use Rattle.rules.specs.Rows.{Row, sum_where, used_in, is_of, total_of, done_before, finish_of}
 use Rattle.rules.specs.Check.{no_row, row_fault}
@@ -46,20 +44,20 @@ pub record SoFar (b : Book) (rows : List Row) (k : ℕ) : Type 0 where
   -- a flow whose rows may all come next has none yet
   pub fresh : (f : ℕ) → least_key b rows k ≤ service_key b f * ranks → finish_of (take k rows) f ≡ 0
 
-module _ (L : Limits) (fit : Fits L) (b : Book) (opened : ℕ → Bool) (range : InRange mill b) (rows : List Row) where
-  fits : (k : ℕ) → RowPasses L b opened rows k → KeyFits (get_or rows k no_row)
-  fits k p = key_fits b (get_or rows k no_row) range (omega (arith, p.slot_in)) p.flow_in_is p.job_in
+module _ (b : Book) (opened : ℕ → Bool) (range : InRange b) (rows : List Row) where
+  fits : (k : ℕ) → RowPasses b opened rows k → KeyFits (get_or rows k no_row)
+  fits k p = key_fits b (get_or rows k no_row) range p.slot_in p.flow_in_is p.job_in
 
-  passed : (k : ℕ) → first_fault (row_fault L b opened rows) k ≡ Pass → (j : ℕ) → j < k → RowPasses L b opened rows j
-  passed k e j l = row-passes L b opened rows j (fault-pass (row_fault L b opened rows) k e j l)
+  passed : (k : ℕ) → first_fault (row_fault b opened rows) k ≡ Pass → (j : ℕ) → j < k → RowPasses b opened rows j
+  passed k e j l = row-passes b opened rows j (fault-pass (row_fault b opened rows) k e j l)
 
   -- the rows that pass rise by their keys
-  key-least : (k : ℕ) → first_fault (row_fault L b opened rows) k ≡ Pass → RowPasses L b opened rows k → least_key b rows k ≤ row_key b (get_or rows k no_row)
+  key-least : (k : ℕ) → first_fault (row_fault b opened rows) k ≡ Pass → RowPasses b opened rows k → least_key b rows k ≤ row_key b (get_or rows k no_row)
   key-least k e p =
       leb-true (least_key b rows k) (row_key b (get_or rows k no_row))
       (sym (rises_key b rows k (λ j l. fits j (passed k e j l)) (fits k p)) ∙ p.comes_after)
 
-  module _ (k : ℕ) (more : k < length rows) (p : RowPasses L b opened rows k) (after : least_key b rows k ≤ row_key b (get_or rows k no_row)) (was : SoFar b rows k) where
+  module _ (k : ℕ) (more : k < length rows) (p : RowPasses b opened rows k) (after : least_key b rows k ≤ row_key b (get_or rows k no_row)) (was : SoFar b rows k) where
     abbrev r : Row
     r = get_or rows k no_row
 
@@ -83,7 +81,7 @@ module _ (L : Limits) (fit : Fits L) (b : Book) (opened : ℕ → Bool) (range :
               same,
               was.few f i r.slot,
               p.cap_kept,
-              ((used_in-range mill range r.flow p.flow_in_is).each_job r.job p.job_in).cap_most,
+              ((used_in-range range r.flow p.flow_in_is).each_job r.job p.job_in).cap_most,
               range.processors_most,
             )
 
@@ -122,7 +120,7 @@ module _ (L : Limits) (fit : Fits L) (b : Book) (opened : ℕ → Bool) (range :
         rw one
         (finish-there (take k rows) r f (λ e. omega (arith, ap (λ g. service_key b g * ranks) e)) ∙ was.fresh f (omega arith))
 
-  pub so_far_lem : (k : ℕ) → k ≤ length rows → first_fault (row_fault L b opened rows) k ≡ Pass → SoFar b rows k
+  pub so_far_lem : (k : ℕ) → k ≤ length rows → first_fault (row_fault b opened rows) k ≡ Pass → SoFar b rows k
   unfolding first_fault least_key used_in total_of done_before finish_of sum_where
   so_far_lem zero h e = record {
     used = λ t. omega arith;
@@ -132,12 +130,12 @@ module _ (L : Limits) (fit : Fits L) (b : Book) (opened : ℕ → Bool) (range :
     fresh = λ f l. refl;
   }
   so_far_lem (suc k) h e =
-      let both = both-pass (first_fault (row_fault L b opened rows) k) (row_fault L b opened rows k) e in
-      let p = row-passes L b opened rows k both.1 in
+      let both = both-pass (first_fault (row_fault b opened rows) k) (row_fault b opened rows k) e in
+      let p = row-passes b opened rows k both.1 in
       let was = so_far_lem k (omega arith) both.0 in
       let after = key-least k both.0 p in
       record {
-        used = λ t. use_kept L b opened rows t (suc k) h (passed (suc k) e);
+        used = λ t. use_kept b opened rows t (suc k) h (passed (suc k) e);
         few = few-next k h p after was;
         earlier = earlier-next k h p after was;
         rising = rising-next k h p after was;

@@ -10,7 +10,6 @@ use lib.Seq.{get_or-take, take-take}
 use lib.Dec.{ltb, eqb}
 use borrow.Author.Tests.{eqb-true, ltb-true, lt-ltb, le-ltb}
 use Rattle.rules.specs.declared.Verdict.TheVariants.{Pass}
-use Rattle.rules.specs.declared.Limits.{Limits}
 use Rattle.rules.specs.Walks.{if◌then◌else◌}
 use Rattle.rules.specs.Answers.{first_fault}
 use Rattle.rules.specs.Book.{Book, flow_of, job_of, precedes}
@@ -39,12 +38,12 @@ done_grows rows j f k s t h =
         go false e = omega arith
         go true e = rw (lt-ltb u t (omega (arith, ltb-true u s e))) (omega arith)
 
-module _ (L : Limits) (b : Book) (opened : ℕ → Bool) (rows : List Row) (row : ℕ) (within : row ≤ length rows) (passed : first_fault (row_fault L b opened rows) row ≡ Pass)
+module _ (b : Book) (opened : ℕ → Bool) (rows : List Row) (row : ℕ) (within : row ≤ length rows) (passed : first_fault (row_fault b opened rows) row ≡ Pass)
     (r : Row) (latest : finish_of (take row rows) r.flow ≤ r.slot + 1) where
   -- from an earlier row of the job
   module _ (q : Row) (j : ℕ) (below : j < row) (is-q : get_or rows j no_row ≡ q) (same_flow : q.flow ≡ r.flow) (slot : q.slot ≤ r.slot) where
-    q-passes : RowPasses L b opened rows j
-    q-passes = row-passes L b opened rows j (fault-pass (row_fault L b opened rows) row passed j below)
+    q-passes : RowPasses b opened rows j
+    q-passes = row-passes b opened rows j (fault-pass (row_fault b opened rows) row passed j below)
 
     by-earlier-release : before_release b r ≡ false
     unfolding before_release

@@ -6,7 +6,6 @@ use mathlib.Core.List.{List}
 use native.Mathlib.Omega.{arith}
 use lib.ListN.{length, get_or}
 use Rattle.rules.specs.declared.Verdict.TheVariants.{Pass}
-use Rattle.rules.specs.declared.Limits.{Limits}
 use Rattle.rules.specs.Book.{Book}
 use Rattle.rules.specs.Rows.{Row}
 use Rattle.rules.specs.Table.{table_head, row_length, row_at}
@@ -35,8 +34,8 @@ unfolding rows_to
 rows_to_lem b at k e = omega arith
 
 -- ---- the row behind the first k rows
-module _ {L : Limits} {b : Book} {opened : ℕ → Bool} {table work : List ℕ} {k at : ℕ} (headed : table_head_fault b table ≡ Pass)
-    (reached : Reached L b opened table k at work) where
+module _ {b : Book} {opened : ℕ → Bool} {table work : List ℕ} {k at : ℕ} (headed : table_head_fault b table ≡ Pass)
+    (reached : Reached b opened table k at work) where
   module _ (here : at < length table) where
     pub row_inside : at + 6 ≤ length table
     row_inside = omega (arith, table_length_is b table headed, reached.at_is)

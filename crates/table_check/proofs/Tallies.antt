@@ -12,7 +12,7 @@ use lib.ListN.{get_or, set, replicate, length-set, length-replicate, get_or-repl
 use lib.Dec.{ltb, leb}
 use borrow.Author.Tests.{lt-ltb, le-ltb, eq-eqb, ne_eqb, ltb-true, ltb-false, leb-true, leb-false}
 use Rattle.rules.specs.Walks.{if◌then◌else◌, sum_to}
-use Rattle.rules.specs.Ranges.{mill}
+use Rattle.rules.specs.Limits.{slots}
 use Rattle.rules.specs.Book.{Book, flow_count, job_count, flow_of, job_of, InRange}
 use Rattle.rules.specs.Rows.{Row, is_of, total_of, done_before, finish_of}
 use Rattle.rules.proofs.Reading.Caps.{used_in-range}
@@ -32,16 +32,16 @@ done-at_start so_far f i = sym (sum-schedule so_far f i 0)
 pub total-none : (so_far : List Row) (f i : ℕ) → finish_of so_far f ≡ 0 → total_of so_far f i ≡ 0
 total-none so_far f i e = sym (done_is-total so_far f i 0 (omega arith)) ∙ done-at_start so_far f i
 
-pub tally-none : (b : Book) (f : ℕ) (so_far : List Row) → InRange mill b → f < flow_count b → finish_of so_far f ≡ 0 →
+pub tally-none : (b : Book) (f : ℕ) (so_far : List Row) → InRange b → f < flow_count b → finish_of so_far f ≡ 0 →
     FlowTally b f so_far (replicate 64 0) (replicate 64 65535)
 tally-none b f so_far range h e = record {
   totals_long = length-replicate {A = ℕ} 64 0;
   ready_long = length-replicate {A = ℕ} 64 65535;
   total = λ i l. get_or-replicate {A = ℕ} 64 i 0 0 l ∙ sym (total-none so_far f i e);
   complete = λ i t l m n.
-      let full : get_or {A = ℕ} (replicate 64 65535) i 0 ≡ 65535 = get_or-replicate {A = ℕ} 64 i 65535 0 (omega (arith, (used_in-range mill range f h).jobs_most)) in
+      let full : get_or {A = ℕ} (replicate 64 65535) i 0 ≡ 65535 = get_or-replicate {A = ℕ} 64 i 65535 0 (omega (arith, (used_in-range range f h).jobs_most)) in
       lt-ltb (done_before so_far f i t) (job_of (flow_of b f) i).size
-      (omega (arith, ((used_in-range mill range f h).each_job i l).size_least, done-le-total so_far f i t, total-none so_far f i e))
+      (omega (arith, ((used_in-range range f h).each_job i l).size_least, done-le-total so_far f i t, total-none so_far f i e))
       ∙ sym (lt-ltb t (get_or {A = ℕ} (replicate 64 65535) i 0) (omega arith));
 }
 
@@ -109,7 +109,7 @@ module _ (b : Book) (f : ℕ) (so_far : List Row) (r : Row) (own : r.flow ≡ f)
           (λ h. ap (λ (n : ℕ). n + r.processors) (tally.total r.job few) ∙ sym total_here)
           (λ i other h. tally.total i h ∙ sym (total-there i (λ e. other (sym e))))
 
-      complete-here : (t : ℕ) → r.slot ≤ t → t < mill.slots →
+      complete-here : (t : ℕ) → r.slot ≤ t → t < slots →
           ltb (done_before (so_far ++ r ∷ []) f r.job t) (job_of (flow_of b f) r.job).size ≡ ltb t ready_from
       complete-here t h l =
           rw (tally.total r.job few, size_is)
@@ -118,11 +118,11 @@ module _ (b : Book) (f : ℕ) (so_far : List Row) (r : Row) (own : r.flow ≡ f)
           (done_in_it t) (done-past t) (λ k. done_is-total so_far f r.job t (omega arith))
           (tally.complete r.job t job_in (omega arith) l))
 
-      complete-next : (i t : ℕ) → i < job_count (flow_of b f) → finish_of (so_far ++ r ∷ []) f ≤ t + 1 → t < mill.slots →
+      complete-next : (i t : ℕ) → i < job_count (flow_of b f) → finish_of (so_far ++ r ∷ []) f ≤ t + 1 → t < slots →
           ltb (done_before (so_far ++ r ∷ []) f i t) (job_of (flow_of b f) i).size ≡ ltb t (get_or ready' i 0)
       complete-next =
           after-set
-          (λ i v. (t : ℕ) → i < job_count (flow_of b f) → finish_of (so_far ++ r ∷ []) f ≤ t + 1 → t < mill.slots →
+          (λ i v. (t : ℕ) → i < job_count (flow_of b f) → finish_of (so_far ++ r ∷ []) f ≤ t + 1 → t < slots →
           ltb (done_before (so_far ++ r ∷ []) f i t) (job_of (flow_of b f) i).size ≡ ltb t v) ready r.job ready_from (omega (arith, tally.ready_long))
           (λ t h m l. complete-here t (omega (arith, finish-here so_far r f own latest)) l)
           (λ i other t h m l. rw (done-there i t (λ e. other (sym e))) (tally.complete i t h (omega (arith, finish-last so_far r f)) l))

@@ -1,6 +1,6 @@
 -- One turn of the walk over a flow's rows: what holds as it begins, that it holds at the flow's first row, and what the tests 15 to 18 and 25 leave of the
 -- row that is read. Assumes nothing.
-use mathlib.Core.Path.{◌≡◌, refl, sym, ◌∙◌, subst}
+use mathlib.Core.Path.{◌≡◌, refl, sym, ◌∙◌}
 use Prim.Native.Nat.{ℕ, ◌+◌, ◌*◌, ◌≤◌, ◌<◌}
 use mathlib.Core.Bool.{Bool, true, false}
 use mathlib.Core.List.{List}
@@ -10,8 +10,7 @@ use lib.Dec.{leb, eqb}
 use borrow.Author.Tests.{le-leb, eqb-true, eqb-false}
 use Rattle.rules.specs.declared.Verdict.{Verdict}
 use Rattle.rules.specs.declared.Verdict.TheVariants.{Pass, Refused}
-use Rattle.rules.specs.declared.Limits.{Limits}
-use Rattle.rules.specs.Ranges.{mill, Fits}
+use Rattle.rules.specs.Limits.{slots, work_bytes}
 use Rattle.rules.specs.Fields.{field}
 use Rattle.rules.specs.Book.{Book, flow_count, job_count, flow_of, job_of, InRange}
 use Rattle.rules.specs.Reading.{book_of}
@@ -20,11 +19,11 @@ use Rattle.rules.specs.Rows.{used_in, total_of, finish_of, work_zero}
 use Rattle.rules.specs.Table.{row_at}
 use Rattle.rules.specs.Check.{no_row, table_rows, table_head_fault, row_fault}
 use Rattle.rules.proofs.Reading.Passing.{pass_in-range}
-use Rattle.rules.proofs.Tables.TablePasses.{in-book_of}
+use Rattle.rules.proofs.Rows.WorkArea.{used_pair}
 use Rattle.table_check.specs.declared.row.Row.{Row}
 use Rattle.table_check.specs.declared.row.Current.{Current}
 use Rattle.table_check.specs.declared.row.Tested.{Tested}
-use Rattle.table_check.specs.Tests.{row_from, open_in, service_key, rank_of, ranks, row_key, least_key, standing_number, amount_number, test_number}
+use Rattle.table_check.specs.Tests.{row_from, service_key, rank_of, ranks, row_key, least_key, standing_number, amount_number, test_number}
 use Rattle.table_check.specs.Tally.{CurrentFlow, JobsHeld, RowTested, rows_to, Reached, FlowTally}
 use Rattle.table_check.specs.Walk.{FlowBegins}
 use Rattle.table_check.proofs.TestNumbers.{first-stands, first_passes, first-none}
@@ -32,23 +31,21 @@ use Rattle.table_check.proofs.TableRows.{more_rows, row_read}
 use Rattle.table_check.proofs.Keys.{KeyFits}
 use Rattle.table_check.proofs.SoFar.{SoFar, so_far_lem}
 use Rattle.table_check.proofs.Tallies.{tally-none}
-use Rattle.table_check.proofs.Marks.{open_pair, marks-kept}
 use Rattle.table_check.proofs.RowFaults.{StandingPassed, AmountPassed, standing_fault, standing-passed, amount_fault, amount-passed}
 
 -- what holds as a turn begins, after k rows; the walk over the rows of the flow began at `from`
-pub record Going (L : Limits) (book : List ℕ) (opened : ℕ → Bool) (table sizes caps : List ℕ) (c : Current) (from : ℕ) (totals ready work : List ℕ) (bad : Verdict)
+pub record Going (book : List ℕ) (opened : ℕ → Bool) (table sizes caps : List ℕ) (c : Current) (from : ℕ) (totals ready work : List ℕ) (bad : Verdict)
     (least finish at k : ℕ) : Type 0 where
   pub current : CurrentFlow book c
   pub held : JobsHeld (book_of book) c.flow c.jobs sizes caps
   pub table_fits : length table < 18446744073709551616
   pub headed : table_head_fault (book_of book) table ≡ Pass
-  pub fits : Fits L
-  pub room : 2 * L.slots ≤ length work
+  pub room : work_bytes ≤ length work
   pub no_fault : bad ≡ Pass
   pub first_more : rows_to (book_of book) from < length (table_rows (book_of book) table)
   pub first_own : (get_or (table_rows (book_of book) table) (rows_to (book_of book) from) no_row).flow ≡ c.flow
   pub since : rows_to (book_of book) from ≤ k
-  pub reached : Reached L (book_of book) opened table k at work
+  pub reached : Reached (book_of book) opened table k at work
   pub tally : FlowTally (book_of book) c.flow (take k (table_rows (book_of book) table)) totals ready
   -- ranks compare as keys do
   pub order : (p : ℕ) → leb (least_key (book_of book) (table_rows (book_of book) table) k) (service_key (book_of book) c.flow * ranks + p) ≡ leb least p
@@ -60,49 +57,41 @@ pub record Going (L : Limits) (book : List ℕ) (opened : ℕ → Bool) (table s
   pub last_low : rows_to (book_of book) from < k → service_key (book_of book) c.flow * ranks < least_key (book_of book) (table_rows (book_of book) table) k
   pub last_high : least_key (book_of book) (table_rows (book_of book) table) k ≤ service_key (book_of book) c.flow * ranks + ranks
 
--- it holds the same with another test of the open slots that is the same
-pub going_as : {L : Limits} {book : List ℕ} {opened other : ℕ → Bool} {table sizes caps : List ℕ} {c : Current} {from : ℕ} {totals ready work : List ℕ}
-    {bad : Verdict} {least finish at k : ℕ} → opened ≡ other → Going L book opened table sizes caps c from totals ready work bad least finish at k →
-    Going L book other table sizes caps c from totals ready work bad least finish at k
-going_as {L} {book} {table = table} {sizes} {caps} {c} {from} {totals} {ready} {work} {bad} {least} {finish} {at} {k} e going =
-    subst (λ (o : ℕ → Bool). Going L book o table sizes caps c from totals ready work bad least finish at k) e going
-
 -- what the walk has made of what it was lent: lengths are kept, and of the work area what lies past the slots
-pub record Lent (n : ℕ) (totals₀ ready₀ work₀ totals ready work : List ℕ) : Type 0 where
+pub record Lent (totals₀ ready₀ work₀ totals ready work : List ℕ) : Type 0 where
   pub totals_kept : length totals ≡ length totals₀
   pub ready_kept : length ready ≡ length ready₀
   pub work_kept : length work ≡ length work₀
-  pub cleared : work_zero n work ≡ work_zero n work₀
+  pub cleared : work_zero slots work ≡ work_zero slots work₀
 
-pub lent-first : (n : ℕ) (totals ready work : List ℕ) → Lent n totals ready work totals ready work
-lent-first n totals ready work = record { totals_kept = refl; ready_kept = refl; work_kept = refl; cleared = refl }
+pub lent-first : (totals ready work : List ℕ) → Lent totals ready work totals ready work
+lent-first totals ready work = record { totals_kept = refl; ready_kept = refl; work_kept = refl; cleared = refl }
 
 -- what is known of row k, which is r, once 15 to 18 and 25 have passed
-pub record Turn (L : Limits) (b : Book) (opened : ℕ → Bool) (table : List ℕ) (f k : ℕ) (r : rules.Row) (t : Tested) : Type 0 where
+pub record Turn (b : Book) (opened : ℕ → Bool) (table : List ℕ) (f k : ℕ) (r : rules.Row) (t : Tested) : Type 0 where
   pub more : k < length (table_rows b table)
   pub row_is : get_or (table_rows b table) k no_row ≡ r
   pub own : r.flow ≡ f
-  pub standing : StandingPassed L b opened (table_rows b table) k r
+  pub standing : StandingPassed b opened (table_rows b table) k r
   pub amount : AmountPassed b (take k (table_rows b table)) r
   pub used_is : t.used ≡ used_in (take k (table_rows b table)) r.slot
   pub size_is : t.size ≡ (job_of (flow_of b f) r.job).size
 
 -- ---- the first turn
-pub going-first : {L : Limits} {book : List ℕ} {opened : ℕ → Bool} {table sizes caps totals ready work : List ℕ} {c : Current} {from : ℕ} →
-    FlowBegins L book opened table work c from → JobsHeld (book_of book) c.flow c.jobs sizes caps → length table < 18446744073709551616 →
+pub going-first : {book : List ℕ} {opened : ℕ → Bool} {table sizes caps totals ready work : List ℕ} {c : Current} {from : ℕ} →
+    FlowBegins book opened table work c from → JobsHeld (book_of book) c.flow c.jobs sizes caps → length table < 18446744073709551616 →
     totals ≡ replicate 64 0 → ready ≡ replicate 64 65535 →
-    Going L book opened table sizes caps c from totals ready work Pass 0 0 from (rows_to (book_of book) from)
-going-first {L} {book} {opened} {table} {c = c} {from = from} begins held fits t-is r-is =
-    let range = pass_in-range mill book begins.current.stands.passes in
+    Going book opened table sizes caps c from totals ready work Pass 0 0 from (rows_to (book_of book) from)
+going-first {book} {opened} {table} {c = c} {from = from} begins held fits t-is r-is =
+    let range = pass_in-range book begins.current.stands.passes in
     let k = rows_to (book_of book) from in
-    let known = so_far_lem L begins.fits (book_of book) opened range (table_rows (book_of book) table) k begins.reached.within begins.reached.passed in
+    let known = so_far_lem (book_of book) opened range (table_rows (book_of book) table) k begins.reached.within begins.reached.passed in
     let none = known.fresh c.flow begins.ahead in
     record {
       current = begins.current;
       held = held;
       table_fits = fits;
       headed = begins.headed;
-      fits = begins.fits;
       room = begins.room;
       no_fault = refl;
       first_more = begins.more;
@@ -120,33 +109,26 @@ going-first {L} {book} {opened} {table} {c = c} {from = from} begins held fits t
       last_high = omega (arith, begins.ahead);
     }
 
-module _ {L : Limits} {book : List ℕ} {opened : ℕ → Bool} {table sizes caps : List ℕ} {c : Current} {from : ℕ} {totals ready work : List ℕ} {bad : Verdict}
-    {least finish at k : ℕ} (going : Going L book opened table sizes caps c from totals ready work bad least finish at k) where
+module _ {book : List ℕ} {opened : ℕ → Bool} {table sizes caps : List ℕ} {c : Current} {from : ℕ} {totals ready work : List ℕ} {bad : Verdict}
+    {least finish at k : ℕ} (going : Going book opened table sizes caps c from totals ready work bad least finish at k) where
   abbrev b : Book
   b = book_of book
 
   abbrev rows : List rules.Row
   rows = table_rows (book_of book) table
 
-  pub range : InRange mill (book_of book)
-  range = pass_in-range mill book going.current.stands.passes
+  pub range : InRange (book_of book)
+  range = pass_in-range book going.current.stands.passes
 
   pub known : SoFar (book_of book) (table_rows (book_of book) table) k
-  known = so_far_lem L going.fits b opened range rows k going.reached.within going.reached.passed
-
-  -- the area still tells which slots are open
-  pub marked : open_in L.slots work ≡ opened
-  marked = marks-kept going.reached.holds (λ t. omega (arith, known.used t, range.processors_most))
+  known = so_far_lem b opened range rows k going.reached.within going.reached.passed
 
   -- ---- the row that was read
   module _ (here : at < length table) (r : Row) (read : row_from r ≡ row_at table at) where
     pub row_here : get_or (table_rows (book_of book) table) k no_row ≡ row_from r
     row_here = row_read going.headed going.reached here read
 
-    module _ (own : r.flow ≡ c.flow) {t : Tested} (told : RowTested L.slots (book_of book) (open_in L.slots work) c.flow work least (row_from r) t) where
-      tested : RowTested L.slots (book_of book) opened c.flow work least (row_from r) t
-      tested = subst (λ (o : ℕ → Bool). RowTested L.slots (book_of book) o c.flow work least (row_from r) t) marked told
-
+    module _ (own : r.flow ≡ c.flow) {t : Tested} (tested : RowTested (book_of book) opened c.flow work least (row_from r) t) where
       flow_in_is : r.flow < flow_count (book_of book)
       flow_in_is = omega (arith, own, going.current.stands.flow_in_is)
 
@@ -155,46 +137,46 @@ module _ {L : Limits} {book : List ℕ} {opened : ℕ → Bool} {table sizes cap
       by_rank fit = rw own (going.order (rank_of (row_from r)))
 
       abbrev first : ℕ
-      first = standing_number L.slots (job_count (flow_of (book_of book) c.flow)) (opened r.slot) least (rank_of (row_from r)) (row_from r)
+      first = standing_number (job_count (flow_of (book_of book) c.flow)) (opened r.slot) least (rank_of (row_from r)) (row_from r)
 
       abbrev second : ℕ
       second = amount_number (job_of (flow_of (book_of book) c.flow) r.job).cap (field 2 work (2 * r.slot)) (book_of book).processors (row_from r)
 
-      first_right : standing_number L.slots (job_count (flow_of (book_of book) c.flow)) (opened r.slot) least (rank_of (row_from r)) (row_from r)
-          ≡ standing_number L.slots (job_count (flow_of (book_of book) r.flow)) (opened r.slot) least (rank_of (row_from r)) (row_from r)
+      first_right : standing_number (job_count (flow_of (book_of book) c.flow)) (opened r.slot) least (rank_of (row_from r)) (row_from r)
+          ≡ standing_number (job_count (flow_of (book_of book) r.flow)) (opened r.slot) least (rank_of (row_from r)) (row_from r)
       first_right = rw own refl
 
-      number_is : t.number ≡ test_number L.slots (book_of book) opened c.flow (field 2 work (2 * r.slot)) least (row_from r)
+      number_is : t.number ≡ test_number (book_of book) opened c.flow (field 2 work (2 * r.slot)) least (row_from r)
       number_is = tested.number
 
       -- 15, 25 and 16 have passed
-      module _ (none : standing_number L.slots (job_count (flow_of (book_of book) c.flow)) (opened r.slot) least (rank_of (row_from r)) (row_from r) ≡ 0) where
-        standing-row : StandingPassed L (book_of book) opened (table_rows (book_of book) table) k (row_from r)
+      module _ (none : standing_number (job_count (flow_of (book_of book) c.flow)) (opened r.slot) least (rank_of (row_from r)) (row_from r) ≡ 0) where
+        standing-row : StandingPassed (book_of book) opened (table_rows (book_of book) table) k (row_from r)
         standing-row =
-            standing-passed L b opened rows k (row_from r) row_here going.fits range going.reached.passed least (rank_of (row_from r)) first by_rank flow_in_is first_right none
+            standing-passed b opened rows k (row_from r) row_here range going.reached.passed least (rank_of (row_from r)) first by_rank flow_in_is first_right none
 
         used_right : field 2 work (2 * r.slot) ≡ used_in (take k (table_rows (book_of book) table)) r.slot
         used_right =
-            open_pair going.reached.holds r.slot (in-book_of L b (row_from r) standing-row.inside).0 standing-row.in_open
-            (omega (arith, known.used r.slot, range.processors_most))
+            rw going.reached.use_of
+            (used_pair slots (take k rows) work r.slot standing-row.fits.slot_fits (omega (arith, known.used r.slot, range.processors_most)))
 
         cap_right : (job_of (flow_of (book_of book) c.flow) r.job).cap ≡ (job_of (flow_of (book_of book) r.flow) r.job).cap
         cap_right = rw own refl
 
-      pub test_stops : (t.number ≡ 0 → ⊥) → row_fault L (book_of book) opened (table_rows (book_of book) table) k ≡ Refused t.number r.flow r.job
+      pub test_stops : (t.number ≡ 0 → ⊥) → row_fault (book_of book) opened (table_rows (book_of book) table) k ≡ Refused t.number r.flow r.job
       unfolding test_number
       test_stops n = go (eqb first 0) refl
         where
-          go : (u : Bool) → eqb first 0 ≡ u → row_fault L (book_of book) opened (table_rows (book_of book) table) k ≡ Refused t.number r.flow r.job
+          go : (u : Bool) → eqb first 0 ≡ u → row_fault (book_of book) opened (table_rows (book_of book) table) k ≡ Refused t.number r.flow r.job
           go true e =
               let none : first ≡ 0 = eqb-true first 0 e in
-              amount_fault L b opened rows k (row_from r) row_here (standing-row none) (field 2 work (2 * r.slot)) (job_of (flow_of (book_of book) c.flow) r.job).cap
+              amount_fault b opened rows k (row_from r) row_here (standing-row none) (field 2 work (2 * r.slot)) (job_of (flow_of (book_of book) c.flow) r.job).cap
               t.number (used_right none) (cap_right none) (number_is ∙ first_passes first second none) n
           go false e =
-              standing_fault L b opened rows k (row_from r) row_here going.fits range going.reached.passed least (rank_of (row_from r)) t.number by_rank flow_in_is
+              standing_fault b opened rows k (row_from r) row_here range going.reached.passed least (rank_of (row_from r)) t.number by_rank flow_in_is
               (number_is ∙ first-stands first second (eqb-false first 0 e) ∙ first_right) n
 
-      pub turn_of : t.number ≡ 0 → Turn L (book_of book) opened table c.flow k (row_from r) t
+      pub turn_of : t.number ≡ 0 → Turn (book_of book) opened table c.flow k (row_from r) t
       unfolding test_number
       turn_of e =
           let both = first-none first second (sym number_is ∙ e) in
@@ -203,7 +185,7 @@ module _ {L : Limits} {book : List ℕ} {opened : ℕ → Bool} {table sizes cap
             row_is = row_here;
             own = own;
             standing = standing-row both.0;
-            amount = amount-passed L b opened rows k (row_from r) row_here (standing-row both.0) (field 2 work (2 * r.slot))
+            amount = amount-passed b opened rows k (row_from r) row_here (standing-row both.0) (field 2 work (2 * r.slot))
                 (job_of (flow_of (book_of book) c.flow) r.job).cap second (used_right both.0) (cap_right both.0) refl both.1;
             used_is = tested.used e ∙ used_right both.0;
             size_is = tested.size e;

@@ -1,24 +1,22 @@
 -- What the walk over a table's rows keeps of the rows so far, and how it is read off them: of the flow whose rows are walked each job's total and
 -- the slot from which it is complete; the use of each slot in the work area. Assumes nothing.
-use Rattle.std.specs.Prelude.{◌≡◌, ℕ, ◌+◌, ◌*◌, ◌-◌, ◌/◌, ◌≤◌, ◌<◌, Bool, true, List, [], length, get_or, take, set, ltb}
+use Rattle.std.specs.Prelude.{◌≡◌, ℕ, ◌+◌, ◌*◌, ◌-◌, ◌/◌, ◌≤◌, ◌<◌, Bool, List, length, get_or, take, set, ltb}
 use Rattle.std.proofs.lemmas.List.Edits.{sets}
 use Rattle.rules.specs.declared.Verdict.TheVariants.{Pass}
-use Rattle.rules.specs.declared.Limits.{Limits}
 use Rattle.rules.specs.Fields.{field, bytes_of}
 use Rattle.rules.specs.Answers.{first_fault}
-use Rattle.rules.specs.Ranges.{mill}
+use Rattle.rules.specs.Limits.{slots, work_bytes}
 use Rattle.rules.specs.Book.{Book, job_count, flow_of, job_of}
 use Rattle.rules.specs.Reading.{book_of}
 use Rattle.rules.specs.Rows as rules
-use Rattle.rules.specs.Rows.{total_of, done_before, finish_of}
+use Rattle.rules.specs.Rows.{total_of, done_before, finish_of, work_used}
 use Rattle.rules.specs.Table.{table_head, row_length}
 use Rattle.rules.specs.Check.{table_rows, row_fault}
 use Rattle.book.specs.Promise.{FlowStands}
-use Rattle.calendar.specs.Area.{area_holding}
 use Rattle.table_check.specs.declared.row.Current.{Current}
 use Rattle.table_check.specs.declared.row.Tested.{Tested}
 use Rattle.table_check.specs.declared.row.Asks.{Asks}
-use Rattle.table_check.specs.Tests.{marked_use, test_number, asked_release, asked, ready_after}
+use Rattle.table_check.specs.Tests.{test_number, asked_release, asked, ready_after}
 
 -- what the code holds of the flow whose rows are walked
 pub record CurrentFlow (book : List ℕ) (c : Current) : Type 0 where
@@ -36,8 +34,8 @@ pub record JobsHeld (b : Book) (f n : ℕ) (sizes caps : List ℕ) : Type 0 wher
 
 -- ---- one row
 -- 15 to 18 and 25 of a row of flow f, and what counting it needs
-pub record RowTested (n : ℕ) (b : Book) (opened : ℕ → Bool) (f : ℕ) (work : List ℕ) (least : ℕ) (r : rules.Row) (t : Tested) : Type 0 where
-  pub number : t.number ≡ test_number n b opened f (field 2 work (2 * r.slot)) least r
+pub record RowTested (b : Book) (opened : ℕ → Bool) (f : ℕ) (work : List ℕ) (least : ℕ) (r : rules.Row) (t : Tested) : Type 0 where
+  pub number : t.number ≡ test_number b opened f (field 2 work (2 * r.slot)) least r
   pub used : t.number ≡ 0 → t.used ≡ field 2 work (2 * r.slot)
   pub size : t.number ≡ 0 → t.size ≡ (job_of (flow_of b f) r.job).size
 
@@ -49,10 +47,10 @@ pub record AskedAt (b : Book) (f total : ℕ) (r : rules.Row) (a : Asks) : Type 
 -- there is room to count the row
 pub record Countable (totals ready work : List ℕ) (t : Tested) (r : rules.Row) : Type 0 where
   pub job_few : r.job < 64
-  pub slot_in : r.slot < mill.slots
+  pub slot_in : r.slot < slots
   pub totals_long : length totals ≡ 64
   pub ready_long : length ready ≡ 64
-  pub room : 2 * r.slot + 2 ≤ length work
+  pub room : work_bytes ≤ length work
   pub use_fits : t.used + r.processors < 65536
   pub total_fits : get_or totals r.job 0 + r.processors < 4294967296
 
@@ -68,26 +66,17 @@ pub record RowCounted (t : Tested) (r : rules.Row) (totals ready work totals' re
 unfoldable pub rows_to : Book → ℕ → ℕ
 rows_to b at = (at - table_head b) / row_length
 
--- every slot behind the n of a table is open, and the work area holds the mark of each shut slot, and of each open one its use by the rows so far
-pub record UseHeld (n : ℕ) (opened : ℕ → Bool) (so_far : List rules.Row) (work : List ℕ) : Type 0 where
-  pub past_open : (t : ℕ) → n ≤ t → opened t ≡ true
-  pub use_of : work ≡ area_holding n (marked_use opened so_far) work
-
--- the shut slots are marked, and nothing is used yet
-abbrev pub Marked : ℕ → (ℕ → Bool) → List ℕ → Type 0
-Marked n opened work = (2 * n ≤ length work) × UseHeld n opened [] work
-
--- the first k rows end at `at`, they pass with these slots open, and the work area holds their use
-pub record Reached (L : Limits) (b : Book) (opened : ℕ → Bool) (table : List ℕ) (k at : ℕ) (work : List ℕ) : Type 0 where
+-- the first k rows end at `at`, they pass with these slots open, and the work area holds the use of each slot by them
+pub record Reached (b : Book) (opened : ℕ → Bool) (table : List ℕ) (k at : ℕ) (work : List ℕ) : Type 0 where
   pub at_is : at ≡ table_head b + row_length * k
   pub within : k ≤ length (table_rows b table)
-  pub passed : first_fault (row_fault L b opened (table_rows b table)) k ≡ Pass
-  pub holds : UseHeld L.slots opened (take k (table_rows b table)) work
+  pub passed : first_fault (row_fault b opened (table_rows b table)) k ≡ Pass
+  pub use_of : work ≡ work_used slots (take k (table_rows b table)) work
 
 -- each job's total, and whether it is complete before a slot that the flow's rows have not passed
 pub record FlowTally (b : Book) (f : ℕ) (so_far : List rules.Row) (totals ready : List ℕ) : Type 0 where
   pub totals_long : length totals ≡ 64
   pub ready_long : length ready ≡ 64
   pub total : (i : ℕ) → i < 64 → get_or totals i 0 ≡ total_of so_far f i
-  pub complete : (i t : ℕ) → i < job_count (flow_of b f) → finish_of so_far f ≤ t + 1 → t < mill.slots →
+  pub complete : (i t : ℕ) → i < job_count (flow_of b f) → finish_of so_far f ≤ t + 1 → t < slots →
       ltb (done_before so_far f i t) (job_of (flow_of b f) i).size ≡ ltb t (get_or ready i 0)

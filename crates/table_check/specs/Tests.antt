@@ -6,28 +6,15 @@ use Rattle.rules.specs.declared.Verdict.TheVariants.{Pass, Refused}
 use Rattle.rules.specs.Fields.{byte, field}
 use Rattle.rules.specs.Answers.{none}
 use Rattle.rules.specs.Walks.{if◌then◌else◌}
+use Rattle.rules.specs.Limits.{slots}
 use Rattle.rules.specs.Book.{Book, job_count, flow_of, job_of, has_bit}
 use Rattle.rules.specs.Rows as rules
-use Rattle.rules.specs.Rows.{used_in}
 use Rattle.rules.specs.Check.{no_row}
 use Rattle.table_check.specs.declared.row.Row.{Row}
 
 -- a row of the code as the specification's row
 abbrev pub row_from : Row → rules.Row
 row_from r = record { slot = r.slot; flow = r.flow; job = r.job; processors = r.processors }
-
--- ---- the work area, as the walk reads it
--- what marks a shut slot in the work area: more than P, so that no use is taken for it
-abbrev pub shut_mark : ℕ
-shut_mark = 65535
-
--- slot t is open by the work area of n slots: its pair is not the mark; behind the slots every slot is open
-unfoldable pub open_in : ℕ → List ℕ → ℕ → Bool
-open_in n work t = leb n t || not (eqb (field 2 work (2 * t)) shut_mark)
-
--- what the pair of slot t holds: the use of the rows so far, or the mark where the slot is shut
-unfoldable pub marked_use : (ℕ → Bool) → List rules.Row → ℕ → ℕ
-marked_use opened so_far t = if opened t then used_in so_far t else shut_mark
 
 -- ---- the order of rows by numbers
 -- flows stand in service order by this number: deadline, then flow
@@ -63,10 +50,10 @@ head_fault processors flows s =
     then Refused 14 none none else Pass
 
 -- ---- a row, by numbers; 0 where it passes
--- 15, 25 and 16 of a row whose flow is in the book, by the slots of a table, the flow's count of jobs, whether the row's slot is open, a key of the row and the least one
-unfoldable pub standing_number : ℕ → ℕ → Bool → ℕ → ℕ → rules.Row → ℕ
-standing_number n jobs opened least key r =
-    if leb n r.slot || leb jobs r.job || eqb r.processors 0 then 15
+-- 15, 25 and 16 of a row whose flow is in the book, by the flow's count of jobs, whether the row's slot is open, a key of the row and the least one
+unfoldable pub standing_number : ℕ → Bool → ℕ → ℕ → rules.Row → ℕ
+standing_number jobs opened least key r =
+    if leb slots r.slot || leb jobs r.job || eqb r.processors 0 then 15
     else if not opened then 25
     else if ltb key least then 16 else 0
 
@@ -80,10 +67,10 @@ amount_number cap used processors r =
 unfoldable pub first_number : ℕ → ℕ → ℕ
 first_number m n = if eqb m 0 then n else m
 
--- 15 to 18 and 25 of a row of flow f, by the slots of a table, a test of the open ones, the processors in use in the row's slot, and the least rank that it may have
-unfoldable pub test_number : ℕ → Book → (ℕ → Bool) → ℕ → ℕ → ℕ → rules.Row → ℕ
-test_number n b opened f used least r =
-    first_number (standing_number n (job_count (flow_of b f)) (opened r.slot) least (rank_of r) r)
+-- 15 to 18 and 25 of a row of flow f, by a test of the open slots, the processors in use in the row's slot, and the least rank that it may have
+unfoldable pub test_number : Book → (ℕ → Bool) → ℕ → ℕ → ℕ → rules.Row → ℕ
+test_number b opened f used least r =
+    first_number (standing_number (job_count (flow_of b f)) (opened r.slot) least (rank_of r) r)
     (amount_number (job_of (flow_of b f) r.job).cap used b.processors r)
 
 -- 19 at one job k: it is a predecessor, and it is complete only from a later slot on

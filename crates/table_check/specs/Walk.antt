@@ -4,29 +4,27 @@ use Rattle.std.specs.Prelude.{◌≡◌, ℕ, ◌+◌, ◌*◌, ◌≤◌, ◌<�
 use Rattle.rules.specs.Walks.{if◌then◌else◌}
 use Rattle.rules.specs.declared.Verdict.{Verdict}
 use Rattle.rules.specs.declared.Verdict.TheVariants.{Pass, Refused}
-use Rattle.rules.specs.declared.Limits.{Limits}
 use Rattle.rules.specs.Answers.{none, ◌and_then◌, first_fault}
-use Rattle.rules.specs.Ranges.{Fits}
+use Rattle.rules.specs.Limits.{slots, work_bytes}
 use Rattle.rules.specs.Book.{Book, flow_count, job_count, flow_of, job_of}
 use Rattle.rules.specs.Reading.{book_of}
 use Rattle.rules.specs.Rows as rules
-use Rattle.rules.specs.Rows.{total_of, finish_of, late_flows, work_zero}
+use Rattle.rules.specs.Rows.{total_of, finish_of, late_flows, work_used, work_zero}
 use Rattle.rules.specs.Table.{finish_in}
 use Rattle.rules.specs.Check.{no_row, table_rows, table_head_fault, row_fault, total_fault, finish_fault}
 use Rattle.book.specs.Promise.{Indexed}
 use Rattle.book.specs.declared.Index.{Index}
-use Rattle.calendar.specs.Area.{area_holding}
 use Rattle.table_check.specs.declared.row.Current.{Current}
 use Rattle.table_check.specs.declared.walk.Stop.{Stop}
 use Rattle.table_check.specs.declared.walk.FlowStop.{FlowStop}
 use Rattle.table_check.specs.declared.walk.Walked.{Walked}
 use Rattle.table_check.specs.declared.Judged.{Judged}
-use Rattle.table_check.specs.Tests.{marked_use, service_key, ranks, least_key, mismatch_fault}
-use Rattle.table_check.specs.Tally.{CurrentFlow, rows_to, Marked, Reached}
+use Rattle.table_check.specs.Tests.{service_key, ranks, least_key, mismatch_fault}
+use Rattle.table_check.specs.Tally.{CurrentFlow, rows_to, Reached}
 
 -- 15 to 19 and 25, the first fault of all rows
-unfoldable pub rows_fault : Limits → Book → (ℕ → Bool) → List ℕ → Verdict
-rows_fault L b opened table = first_fault (row_fault L b opened (table_rows b table)) (length (table_rows b table))
+unfoldable pub rows_fault : Book → (ℕ → Bool) → List ℕ → Verdict
+rows_fault b opened table = first_fault (row_fault b opened (table_rows b table)) (length (table_rows b table))
 
 -- 20 of flow f, by the rows so far
 unfoldable pub flow_totals : Book → List rules.Row → ℕ → Verdict
@@ -34,20 +32,19 @@ flow_totals b so_far f = first_fault (total_fault b so_far f) (job_count (flow_o
 
 -- ---- the rows of one flow
 -- the next row is the flow's first one, and may come next: all rows of the flow come after those so far
-pub record FlowBegins (L : Limits) (book : List ℕ) (opened : ℕ → Bool) (table work : List ℕ) (c : Current) (at : ℕ) : Type 0 where
+pub record FlowBegins (book : List ℕ) (opened : ℕ → Bool) (table work : List ℕ) (c : Current) (at : ℕ) : Type 0 where
   pub current : CurrentFlow book c
   pub headed : table_head_fault (book_of book) table ≡ Pass
-  pub fits : Fits L
-  pub room : 2 * L.slots ≤ length work
-  pub reached : Reached L (book_of book) opened table (rows_to (book_of book) at) at work
+  pub room : work_bytes ≤ length work
+  pub reached : Reached (book_of book) opened table (rows_to (book_of book) at) at work
   pub more : rows_to (book_of book) at < length (table_rows (book_of book) table)
   pub own : (get_or (table_rows (book_of book) table) (rows_to (book_of book) at) no_row).flow ≡ c.flow
   pub ahead : least_key (book_of book) (table_rows (book_of book) table) (rows_to (book_of book) at) ≤ service_key (book_of book) c.flow * ranks
 
 -- the walk went on from row k to row m, over rows of flow f alone, and the next row is another flow's
-pub record WentOn (L : Limits) (b : Book) (opened : ℕ → Bool) (table : List ℕ) (f k m at : ℕ) (work : List ℕ) (finish : ℕ) : Type 0 where
+pub record WentOn (b : Book) (opened : ℕ → Bool) (table : List ℕ) (f k m at : ℕ) (work : List ℕ) (finish : ℕ) : Type 0 where
   pub some : k < m
-  pub reached : Reached L b opened table m at work
+  pub reached : Reached b opened table m at work
   pub others_total : (g i : ℕ) → (g ≡ f → ⊥) → total_of (take m (table_rows b table)) g i ≡ total_of (take k (table_rows b table)) g i
   pub others_finish : (g : ℕ) → (g ≡ f → ⊥) → finish_of (take m (table_rows b table)) g ≡ finish_of (take k (table_rows b table)) g
   pub finish_of_is : finish ≡ finish_of (take m (table_rows b table)) f
@@ -56,11 +53,11 @@ pub record WentOn (L : Limits) (b : Book) (opened : ℕ → Bool) (table : List 
   pub another : m < length (table_rows b table) → (get_or (table_rows b table) m no_row).flow ≡ f → ⊥
 
 -- the walk over the rows of flow f from `at` on, over a work area that was `before` and is `after`
-pub record RowsWalked (L : Limits) (b : Book) (opened : ℕ → Bool) (table : List ℕ) (f at : ℕ) (before after totals : List ℕ) (w : Stop) : Type 0 where
+pub record RowsWalked (b : Book) (opened : ℕ → Bool) (table : List ℕ) (f at : ℕ) (before after totals : List ℕ) (w : Stop) : Type 0 where
   pub totals_long : length totals ≡ 64
-  pub cleared : work_zero L.slots after ≡ work_zero L.slots before
-  pub stopped : (w.verdict ≡ Pass → ⊥) → w.verdict ≡ rows_fault L b opened table
-  pub went : w.verdict ≡ Pass → WentOn L b opened table f (rows_to b at) (rows_to b w.next) w.next after w.finish
+  pub cleared : work_zero slots after ≡ work_zero slots before
+  pub stopped : (w.verdict ≡ Pass → ⊥) → w.verdict ≡ rows_fault b opened table
+  pub went : w.verdict ≡ Pass → WentOn b opened table f (rows_to b at) (rows_to b w.next) w.next after w.finish
   pub total : w.verdict ≡ Pass → (i : ℕ) → i < 64 → get_or totals i 0 ≡ total_of (take (rows_to b w.next) (table_rows b table)) f i
 
 -- 20 at job i of flow f, by its totals
@@ -68,19 +65,18 @@ unfoldable pub total_fault_by : Book → ℕ → List ℕ → ℕ → Verdict
 total_fault_by b f totals i = if eqb (get_or totals i 0) (job_of (flow_of b f) i).size then Pass else Refused 20 f i
 
 -- the same, with the flow closed
-pub record FlowWalked (L : Limits) (b : Book) (opened : ℕ → Bool) (table : List ℕ) (f at : ℕ) (before after : List ℕ) (w : FlowStop) : Type 0 where
-  pub cleared : work_zero L.slots after ≡ work_zero L.slots before
-  pub stopped : (w.verdict ≡ Pass → ⊥) → w.verdict ≡ rows_fault L b opened table
-  pub went : w.verdict ≡ Pass → WentOn L b opened table f (rows_to b at) (rows_to b w.next) w.next after w.finish
+pub record FlowWalked (b : Book) (opened : ℕ → Bool) (table : List ℕ) (f at : ℕ) (before after : List ℕ) (w : FlowStop) : Type 0 where
+  pub cleared : work_zero slots after ≡ work_zero slots before
+  pub stopped : (w.verdict ≡ Pass → ⊥) → w.verdict ≡ rows_fault b opened table
+  pub went : w.verdict ≡ Pass → WentOn b opened table f (rows_to b at) (rows_to b w.next) w.next after w.finish
   pub mismatch : w.verdict ≡ Pass → mismatch_fault f w.mismatch ≡ flow_totals b (take (rows_to b w.next) (table_rows b table)) f
 
 -- ---- all rows
--- the book passes and is indexed, the table passes 14, and the shut slots are marked in the work area
-pub record Ready (L : Limits) (book : List ℕ) (opened : ℕ → Bool) (table work : List ℕ) (x : Index) : Type 0 where
-  pub fits : Fits L
+-- the book passes and is indexed, the table passes 14, and the work area is long enough
+pub record Ready (book table work : List ℕ) (x : Index) : Type 0 where
   pub indexed : Indexed book x
   pub headed : table_head_fault (book_of book) table ≡ Pass
-  pub marked : Marked L.slots opened work
+  pub room : work_bytes ≤ length work
 
 -- every flow closed: of each flow the first job whose total differs from its size, and the finish
 pub record Closed (b : Book) (so_far : List rules.Row) (mismatch finish : List ℕ) : Type 0 where
@@ -88,11 +84,11 @@ pub record Closed (b : Book) (so_far : List rules.Row) (mismatch finish : List �
   pub finish_of_is : (f : ℕ) → f < 64 → get_or finish f 0 ≡ finish_of so_far f
 
 -- the walk's result, over a work area that was `before` and is `after`
-pub record TableWalked (L : Limits) (b : Book) (opened : ℕ → Bool) (table before after : List ℕ) (w : Walked) : Type 0 where
-  pub verdict : w.verdict ≡ rows_fault L b opened table
-  pub cleared : work_zero L.slots after ≡ work_zero L.slots before
+pub record TableWalked (b : Book) (opened : ℕ → Bool) (table before after : List ℕ) (w : Walked) : Type 0 where
+  pub verdict : w.verdict ≡ rows_fault b opened table
+  pub cleared : work_zero slots after ≡ work_zero slots before
   pub closed : w.verdict ≡ Pass → Closed b (table_rows b table) w.mismatch w.finish
-  pub area : w.verdict ≡ Pass → after ≡ area_holding L.slots (marked_use opened (table_rows b table)) before
+  pub area : w.verdict ≡ Pass → after ≡ work_used slots (table_rows b table) before
 
 -- ---- 20 and 21 of what the walk handed back
 -- 20, by the first job of each flow whose total differs from its size
@@ -105,16 +101,15 @@ finish_fault_by table finish f = if eqb (finish_in table f) (get_or finish f 0) 
 
 -- ---- the table judged: 14 to 21 and 25
 -- the first fault of the table, with these slots open
-unfoldable pub fault_by : Limits → Book → (ℕ → Bool) → List ℕ → Verdict
-fault_by L b opened table =
+unfoldable pub fault_by : Book → (ℕ → Bool) → List ℕ → Verdict
+fault_by b opened table =
     table_head_fault b table
-    and_then rows_fault L b opened table
+    and_then rows_fault b opened table
     and_then first_fault (flow_totals b (table_rows b table)) (flow_count b)
     and_then first_fault (finish_fault table (table_rows b table)) (flow_count b)
 
--- the judgement, over a work area that was `before` and is `after`; where the table passes, its pairs hold `held`
-pub record TableJudged (L : Limits) (b : Book) (opened : ℕ → Bool) (table : List ℕ) (held : ℕ → ℕ) (before after : List ℕ) (j : Judged) : Type 0 where
-  pub verdict : j.verdict ≡ fault_by L b opened table
-  pub cleared : work_zero L.slots after ≡ work_zero L.slots before
-  pub area : j.verdict ≡ Pass → after ≡ area_holding L.slots held before
+pub record TableJudged (b : Book) (opened : ℕ → Bool) (table before after : List ℕ) (j : Judged) : Type 0 where
+  pub verdict : j.verdict ≡ fault_by b opened table
+  pub cleared : work_zero slots after ≡ work_zero slots before
+  pub area : j.verdict ≡ Pass → after ≡ work_used slots (table_rows b table) before
   pub late : j.verdict ≡ Pass → j.late ≡ late_flows b (table_rows b table)

@@ -1,19 +1,18 @@
 // The check of a table against a book and its calendar.
 ghost use Rattle.std.specs.Prelude.{◌≡◌, ◌+◌, ◌*◌, ◌≤◌, length};
 ghost use Rattle.rules.specs.declared.Verdict.TheVariants.{Pass, Refused};
-ghost use Rattle.rules.specs.Ranges.{Fits};
+ghost use Rattle.rules.specs.Limits.{work_bytes};
 ghost use Rattle.rules.specs.Answers.{◌and_then◌, firstFault, checkRefused};
 ghost use Rattle.rules.specs.Calendar.{is_open, calendar_of, calendar_fault};
 ghost use Rattle.rules.specs.Reading.{book_of, book_fault};
-ghost use Rattle.rules.specs.Rows.{used_in};
-ghost use Rattle.rules.specs.Check.{table_rows, check_call};
+ghost use Rattle.rules.specs.Check.{check_call};
 ghost use Rattle.book.specs.Promise.{Indexed};
-ghost use Rattle.table_check.specs.Tests.{open_in, marked_use, head_fault};
-ghost use Rattle.table_check.specs.Tally.{Marked};
+ghost use Rattle.calendar.specs.Area.{open_by};
+ghost use Rattle.table_check.specs.Tests.{head_fault};
 ghost use Rattle.table_check.specs.Walk.{mismatches_fault, finish_fault_by, TableJudged};
 
 use book::{Index, bytes, late};
-use rules::{CheckAnswer, Limits, Verdict};
+use rules::{CheckAnswer, Verdict};
 
 pub mod row;
 pub mod walk;
@@ -110,10 +109,10 @@ pub struct Judged {
     pub late: u8,
 }
 
-// 14 to 21 and 25, in order, over a work area in which the shut slots are marked.
-pub fn judge_table(book: &[u8], table: &[u8], x: Index, work: &mut [u8], limits: Limits) -> Judged
-    requires { Fits limits × Indexed book.now x × Marked limits.slots (open_in limits.slots work.old) work.old }
-    ensures { TableJudged limits (book_of book.now) (open_in limits.slots work.old) table.now (marked_use (open_in limits.slots work.old) (table_rows (book_of book.now) table.now)) work.old work.new result }
+// 14 to 21 and 25, in order, with these slots shut.
+pub fn judge_table(book: &[u8], shut: &[u8], table: &[u8], x: Index, work: &mut [u8]) -> Judged
+    requires { Indexed book.now x × (work_bytes ≤ length work.old) }
+    ensures { TableJudged (book_of book.now) (open_by shut.now) table.now work.old work.new result }
 {
     let flows = x.flows;
     let head = head_verdict(table, x.processors, flows);
@@ -123,7 +122,7 @@ pub fn judge_table(book: &[u8], table: &[u8], x: Index, work: &mut [u8], limits:
             late: 0,
         };
     };
-    let w = walk::walk_flows(book, table, x, work, limits);
+    let w = walk::walk_flows(book, shut, table, x, work);
     let rows = w.verdict;
     let Verdict::Pass = rows else {
         return Judged {
@@ -140,27 +139,14 @@ pub fn judge_table(book: &[u8], table: &[u8], x: Index, work: &mut [u8], limits:
     }
 }
 
-// The same, with the slots shut that the calendar shuts: they are marked in the cleared work area, and their pairs are 0 again once the table has passed.
-pub fn judge_with(
-    book: &[u8],
-    calendar: &[u8],
-    table: &[u8],
-    work: &mut [u8],
-    limits: Limits,
-) -> Judged
-    requires { Fits limits × (book_fault limits book.now ≡ Pass) × (calendar_fault limits calendar.now ≡ Pass) × (limits.bytes ≤ length work.old) }
-    ensures { TableJudged limits (book_of book.now) (is_open (calendar_of calendar.now)) table.now (used_in (table_rows (book_of book.now) table.now)) work.old work.new result }
+// The same, with the slots shut that the calendar shuts.
+pub fn judge_with(book: &[u8], calendar: &[u8], table: &[u8], work: &mut [u8]) -> Judged
+    requires { (book_fault book.now ≡ Pass) × (calendar_fault calendar.now ≡ Pass) × (work_bytes ≤ length work.old) }
+    ensures { TableJudged (book_of book.now) (is_open (calendar_of calendar.now)) table.now work.old work.new result }
 {
-    let windows = calendar::calendar_of(calendar);
-    bytes::clear(work, limits.slots);
-    calendar::set_shut(work, windows, 65535);
-    let j = judge_table(book, table, book::index_of(book), work, limits);
-    let v = j.verdict;
-    let Verdict::Pass = v else {
-        return j;
-    };
-    calendar::set_shut(work, windows, 0);
-    j
+    let mut shut = [0u8; 4096];
+    calendar::set_flags(&mut shut, calendar::calendar_of(calendar));
+    judge_table(book, &shut, table, book::index_of(book), work)
 }
 
 // A refusal's answer.
@@ -175,33 +161,26 @@ pub fn refusal(number: u8, flow: u8, job: u8) -> CheckAnswer
     }
 }
 
-// The check of a table against a book and its calendar, by a caller's limits.
-pub fn check_table(
-    book: &[u8],
-    calendar: &[u8],
-    table: &[u8],
-    work: &mut [u8],
-    limits: Limits,
-) -> CheckAnswer
-    requires { Fits limits }
-    ensures answer { result ≡ (check_call limits book.now calendar.now table.now work.old).answer }
-    ensures area { work.new ≡ (check_call limits book.now calendar.now table.now work.old).area }
+// The check of a table against a book and its calendar.
+pub fn check_table(book: &[u8], calendar: &[u8], table: &[u8], work: &mut [u8]) -> CheckAnswer
+    ensures answer { result ≡ (check_call book.now calendar.now table.now work.old).answer }
+    ensures area { work.new ≡ (check_call book.now calendar.now table.now work.old).area }
 {
-    let v = book::verdict_of(book, limits);
+    let v = book::verdict_of(book);
     if let Verdict::Refused { number, flow, job } = v {
         return refusal(number, flow, job);
     }
-    let d = calendar::verdict_of(calendar, limits);
+    let d = calendar::verdict_of(calendar);
     if let Verdict::Refused { number, flow, job } = d {
         return refusal(number, flow, job);
     }
-    if work.len() < limits.bytes {
+    if work.len() < 16384 {
         return refusal(11, 255, 255);
     }
-    let j = judge_with(book, calendar, table, work, limits);
+    let j = judge_with(book, calendar, table, work);
     let w = j.verdict;
     if let Verdict::Refused { number, flow, job } = w {
-        bytes::clear(work, limits.slots);
+        bytes::clear(work);
         return refusal(number, flow, job);
     }
     CheckAnswer {

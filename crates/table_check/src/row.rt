@@ -1,11 +1,12 @@
 // One row of a table: read, tested by 15 to 18 and 25, asked for its release and predecessors, counted.
-ghost use Rattle.std.specs.Prelude.{◌≡◌, ◌+◌, ◌*◌, ◌<◌, ◌≤◌, length, get_or, set};
+ghost use Rattle.std.specs.Prelude.{◌≡◌, ◌+◌, ◌<◌, ◌≤◌, length, get_or, set};
 ghost use Rattle.rules.specs.declared.Verdict.TheVariants.{Refused};
-ghost use Rattle.rules.specs.Ranges.{mill};
+ghost use Rattle.rules.specs.Limits.{slots, work_bytes};
 ghost use Rattle.rules.specs.Book.{job_count, flow_of};
 ghost use Rattle.rules.specs.Reading.{book_of};
 ghost use Rattle.rules.specs.Table.{row_at};
-ghost use Rattle.table_check.specs.Tests.{row_from, open_in, rank_of, standing_number, amount_number, lacks_at, ready_after};
+ghost use Rattle.calendar.specs.Area.{open_by};
+ghost use Rattle.table_check.specs.Tests.{row_from, rank_of, standing_number, amount_number, lacks_at, ready_after};
 ghost use Rattle.table_check.specs.Tally.{CurrentFlow, JobsHeld, RowTested, AskedAt, Countable, RowCounted};
 
 use book::bytes;
@@ -84,22 +85,21 @@ pub fn rank_of(r: Row) -> u32
     r.slot as u32 * 64 + r.job as u32
 }
 
-// 15, 25 and 16 of a row whose flow is in the book; 0 where it passes. Once the job is in range, the row's rank tells whether the slot is, and once the slot
-// is, its pair in the work area tells whether it is shut.
-pub fn standing_fault(work: &[u8], slots: u16, jobs: u8, least: u32, key: u32, r: Row) -> u8
-    requires { (jobs ≤ 64) × (2 * slots ≤ length work.now) }
-    ensures { result ≡ standing_number slots jobs (open_in slots work.now r.slot) least key (row_from r) }
+// 15, 25 and 16 of a row whose flow is in the book; 0 where it passes. Once the job is in range, the row's rank tells whether the slot is.
+pub fn standing_fault(shut: &[u8], jobs: u8, least: u32, key: u32, r: Row) -> u8
+    requires { jobs ≤ 64 }
+    ensures { result ≡ standing_number jobs (open_by shut.now r.slot) least key (row_from r) }
 {
     if jobs <= r.job {
         return 15;
     }
-    if slots as u32 * 64 <= rank_of(r) {
+    if 524288 <= rank_of(r) {
         return 15;
     }
     if r.processors == 0 {
         return 15;
     }
-    if bytes::read16(work, 2 * bytes::wide16(r.slot)) == 65535 {
+    if !calendar::is_open(shut, bytes::wide16(r.slot)) {
         return 25;
     }
     if key < least {
@@ -124,18 +124,18 @@ pub fn amount_fault(cap: u16, used: u16, processors: u16, r: Row) -> u8
 // 15 to 18 and 25 of a row of the current flow, whose rank is to be at least `least`.
 pub fn test_row(
     book: &[u8],
+    shut: &[u8],
     sizes: &[u32],
     caps: &[u16],
     work: &[u8],
-    slots: u16,
     c: Current,
     least: u32,
     r: Row,
 ) -> Tested
-    requires { CurrentFlow book.now c × JobsHeld (book_of book.now) c.flow c.jobs sizes.now caps.now × (2 * slots ≤ length work.now) }
-    ensures { RowTested slots (book_of book.now) (open_in slots work.now) c.flow work.now least (row_from r) result }
+    requires { CurrentFlow book.now c × JobsHeld (book_of book.now) c.flow c.jobs sizes.now caps.now × (work_bytes ≤ length work.now) }
+    ensures { RowTested (book_of book.now) (open_by shut.now) c.flow work.now least (row_from r) result }
 {
-    let fault = standing_fault(work, slots, c.jobs, least, rank_of(r), r);
+    let fault = standing_fault(shut, c.jobs, least, rank_of(r), r);
     if fault != 0 {
         return Tested {
             number: fault,
@@ -190,7 +190,7 @@ pub fn lacks(bits: u64, slot: u16, ready: u16) -> bool
 
 // The slot from which job i is complete, once its total goes from `before` to `after` by a row in `slot`.
 pub fn complete(ready: &mut [u16], i: usize, before: u32, after: u32, size: u32, slot: u16)
-    requires { (i < length ready.old) × (slot < mill.slots) }
+    requires { (i < length ready.old) × (slot < slots) }
     ensures { ready.new ≡ set ready.old i (ready_after (get_or ready.old i 0) before after size slot) }
 {
     if after < size {

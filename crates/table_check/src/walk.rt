@@ -4,14 +4,15 @@ ghost use Rattle.std.specs.Prelude.{◌≡◌, ℕ, ◌+◌, ◌*◌, ◌<◌, l
 ghost use Rattle.rules.specs.Answers.{firstFault};
 ghost use Rattle.rules.specs.Book.{job_count, flow_of, job_of};
 ghost use Rattle.rules.specs.Reading.{book_of};
-ghost use Rattle.table_check.specs.Tests.{open_in, mismatch_fault};
+ghost use Rattle.calendar.specs.Area.{open_by};
+ghost use Rattle.table_check.specs.Tests.{mismatch_fault};
 ghost use Rattle.table_check.specs.Tally.{CurrentFlow, JobsHeld};
 ghost use Rattle.table_check.specs.Walk.{FlowBegins, RowsWalked, total_fault_by, FlowWalked, Ready, TableWalked};
 
 use super::row;
 use super::row::Current;
 use book::{Index, bytes};
-use rules::{Limits, Verdict};
+use rules::Verdict;
 
 // Where the walk over a flow's rows stopped: the first fault; where there is none, the offset after its last row, and its finish.
 #[derive(Drop)]
@@ -41,6 +42,7 @@ pub struct Walked {
 // 15 to 19 and 25, for each row of the current flow in order; the first fault met ends the walk.
 pub fn walk_rows(
     book: &[u8],
+    shut: &[u8],
     table: &[u8],
     sizes: &[u32],
     caps: &[u16],
@@ -49,10 +51,9 @@ pub fn walk_rows(
     work: &mut [u8],
     c: Current,
     from: usize,
-    limits: Limits,
 ) -> Stop
-    requires { FlowBegins limits book.now (open_in limits.slots work.old) table.now work.old c from × JobsHeld (book_of book.now) c.flow c.jobs sizes.now caps.now × (totals.old ≡ replicate 64 0) × (ready.old ≡ replicate 64 65535) }
-    ensures { RowsWalked limits (book_of book.now) (open_in limits.slots work.old) table.now c.flow from work.old work.new totals.new result }
+    requires { FlowBegins book.now (open_by shut.now) table.now work.old c from × JobsHeld (book_of book.now) c.flow c.jobs sizes.now caps.now × (totals.old ≡ replicate 64 0) × (ready.old ≡ replicate 64 65535) }
+    ensures { RowsWalked (book_of book.now) (open_by shut.now) table.now c.flow from work.old work.new totals.new result }
 {
     let mut bad = Verdict::Pass;
     let mut least: u32 = 0;
@@ -63,7 +64,7 @@ pub fn walk_rows(
         if bytes::wide(r.flow) != c.flow {
             break 'rows;
         }
-        let t = row::test_row(book, sizes, caps, work, limits.slots, c, least, r);
+        let t = row::test_row(book, shut, sizes, caps, work, c, least, r);
         if t.number != 0 {
             bad = row::refused(t.number, r);
             break 'rows;
@@ -114,14 +115,14 @@ pub fn first_mismatch(book: &[u8], sizes: &[u32], totals: &[u32], c: Current) ->
 // The rows of the current flow, from its first one at `from` on.
 pub fn walk_flow(
     book: &[u8],
+    shut: &[u8],
     table: &[u8],
     work: &mut [u8],
     c: Current,
     from: usize,
-    limits: Limits,
 ) -> FlowStop
-    requires { FlowBegins limits book.now (open_in limits.slots work.old) table.now work.old c from }
-    ensures { FlowWalked limits (book_of book.now) (open_in limits.slots work.old) table.now c.flow from work.old work.new result }
+    requires { FlowBegins book.now (open_by shut.now) table.now work.old c from }
+    ensures { FlowWalked (book_of book.now) (open_by shut.now) table.now c.flow from work.old work.new result }
 {
     let mut sizes = [0u32; 64];
     let mut caps = [0u16; 64];
@@ -130,6 +131,7 @@ pub fn walk_flow(
     let mut ready = [65535u16; 64];
     let w = walk_rows(
         book,
+        shut,
         table,
         &sizes,
         &caps,
@@ -138,7 +140,6 @@ pub fn walk_flow(
         work,
         c,
         from,
-        limits,
     );
     let verdict = w.verdict;
     FlowStop {
@@ -156,11 +157,12 @@ pub fn service_key(deadline: u16, flow: u8) -> u32
     deadline as u32 * 64 + flow as u32
 }
 
-// 15 to 19 and 25 of all rows, flow by flow, over a work area in which the shut slots are marked. A flow without rows has its mismatch at job 0.
-pub fn walk_flows(book: &[u8], table: &[u8], x: Index, work: &mut [u8], limits: Limits) -> Walked
-    requires { Ready limits book.now (open_in limits.slots work.old) table.now work.old x }
-    ensures { TableWalked limits (book_of book.now) (open_in limits.slots work.old) table.now work.old work.new result }
+// 15 to 19 and 25 of all rows, flow by flow. A flow without rows has its mismatch at job 0.
+pub fn walk_flows(book: &[u8], shut: &[u8], table: &[u8], x: Index, work: &mut [u8]) -> Walked
+    requires { Ready book.now table.now work.old x }
+    ensures { TableWalked (book_of book.now) (open_by shut.now) table.now work.old work.new result }
 {
+    bytes::clear(work);
     let flows = x.flows;
     let mut mismatch = [0u8; 64];
     let mut finish = [0u16; 64];
@@ -178,7 +180,7 @@ pub fn walk_flows(book: &[u8], table: &[u8], x: Index, work: &mut [u8], limits: 
         }
         let jobs = x.jobs[f];
         let key = service_key(x.deadlines[f], r.flow);
-        let fault = row::standing_fault(work, limits.slots, jobs, least, key, r);
+        let fault = row::standing_fault(shut, jobs, least, key, r);
         if fault != 0 {
             return Walked {
                 verdict: row::refused(fault, r),
@@ -195,7 +197,7 @@ pub fn walk_flows(book: &[u8], table: &[u8], x: Index, work: &mut [u8], limits: 
             release: head.release,
             processors: x.processors,
         };
-        let w = walk_flow(book, table, work, c, at, limits);
+        let w = walk_flow(book, shut, table, work, c, at);
         let v = w.verdict;
         let Verdict::Pass = v else {
             return Walked {

@@ -12,10 +12,10 @@ use Rattle.calendar.proofs.any_window_fault.Statement.{statement}
 use Rattle.calendar.proofs.any_window_fault.Tie as tie
 
 abbrev invariant-loop : tie.invariant-loop
-invariant-loop calendar count limits k₀ k = (k ≤ count) × (any_to (window_fault limits calendar) k ≡ false)
+invariant-loop calendar count k₀ k = (k ≤ count) × (any_to (window_fault calendar) k ≡ false)
 
 abbrev decreases-loop : tie.decreases-loop
-decreases-loop calendar count limits k₀ k = count - k
+decreases-loop calendar count k₀ k = count - k
 
 loop-holds : tie.Need-loop-init invariant-loop decreases-loop
 loop-holds c = (omega arith, none_yet _)
@@ -28,7 +28,7 @@ returns c =
     let turn = c.before.before in
     let l = turn.before.loop in
     let a = turn.before.before.before.args in
-    sym (any_true (window_fault a.limits a.calendar.now) a.count l.k turn.loop-test.true (sym c.before.window-fault.ensures ∙ c.if1.true))
+    sym (any_true (window_fault a.calendar.now) a.count l.k turn.loop-test.true (sym c.before.window-fault.ensures ∙ c.if1.true))
 
 add-k : tie.Need-overflow-add-k invariant-loop decreases-loop
 add-k c = search rules
@@ -46,7 +46,7 @@ returns-2 c =
     let l = c.before.loop in
     let a = c.before.before.before.args in
     let e : l.k ≡ a.count = omega arith in
-    sym (ap (any_to (window_fault a.limits a.calendar.now)) (sym e) ∙ l.invariant.1)
+    sym (ap (any_to (window_fault a.calendar.now)) (sym e) ∙ l.invariant.1)
 
 pub any-window-fault-spec : {M : Type 1} → statement M
 any-window-fault-spec =

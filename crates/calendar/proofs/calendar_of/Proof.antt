@@ -6,7 +6,6 @@ use mathlib.Core.Path.{◌≡◌, ◌∙◌}
 use Prim.Native.Nat.{◌+◌, ◌*◌, ◌-◌, ◌≤◌}
 use lib.ListN.{length}
 use Rattle.rules.specs.Fields.{byte}
-use Rattle.rules.specs.Ranges.{mill}
 use Rattle.rules.specs.Calendar.{window_at}
 use Rattle.rules.proofs.Reading.Passing.{calendar_passes}
 use Rattle.book.proofs.Filled.{Filled, filled_none, filled_next}
@@ -25,7 +24,7 @@ decreases-loop calendar count shut₀ reopening₀ k₀ shut reopening k = count
 shared-slice-read-wide : tie.Need-shared-slice-read-wide invariant-loop decreases-loop
 shared-slice-read-wide c =
     let entry = c.before.before in
-    omega (arith, (calendar_passes mill entry.args.calendar.now entry.requires).calendar_whole)
+    omega (arith, (calendar_passes entry.args.calendar.now entry.requires).calendar_whole)
 
 wide-requires : tie.Need-wide-requires invariant-loop decreases-loop
 wide-requires c κs = search rules
@@ -33,7 +32,7 @@ wide-requires c κs = search rules
 loop-holds : tie.Need-loop-init invariant-loop decreases-loop
 loop-holds c =
     let entry = c.before.before.before in
-    let p = calendar_passes mill entry.args.calendar.now entry.requires in
+    let p = calendar_passes entry.args.calendar.now entry.requires in
     let n = c.wide.ensures.0 in
     (n, omega (arith, p.windows_to), omega (arith, p.calendar_bytes_is), omega arith, filled_none _ _, filled_none _ _)
 

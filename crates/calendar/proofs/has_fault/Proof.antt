@@ -13,7 +13,7 @@ use Rattle.calendar.proofs.has_fault.Statement.{statement}
 use Rattle.calendar.proofs.has_fault.Tie as tie
 
 returns : tie.Need-returns
-returns c = short-calendar c.before.before.args.limits c.before.before.args.calendar.now c.if1.true
+returns c = short-calendar c.before.before.args.calendar.now c.if1.true
 
 read32-requires : tie.Need-read32-requires
 read32-requires c κs = search rules
@@ -24,7 +24,7 @@ cast-if2 c = search rules
 returns-2 : tie.Need-returns-2
 returns-2 c =
     let whole = c.before.before in
-    other_length whole.before.before.args.limits whole.before.before.args.calendar.now whole.if1.false (λ e. c.if2.true (c.before.read32.ensures ∙ e))
+    other_length whole.before.before.args.calendar.now whole.if1.false (λ e. c.if2.true (c.before.read32.ensures ∙ e))
 
 shared-slice-read-if3 : tie.Need-shared-slice-read-if3
 shared-slice-read-if3 c = search rules
@@ -33,7 +33,7 @@ returns-3 : tie.Need-returns-3
 returns-3 c =
     let fits = c.before.before in
     let whole = fits.before.before in
-    other-version whole.before.before.args.limits whole.before.before.args.calendar.now whole.if1.false (sym fits.before.read32.ensures ∙ fits.if2.false) c.if3.true
+    other-version whole.before.before.args.calendar.now whole.if1.false (sym fits.before.read32.ensures ∙ fits.if2.false) c.if3.true
 
 shared-slice-read-wide : tie.Need-shared-slice-read-wide
 shared-slice-read-wide c = search rules
@@ -46,7 +46,7 @@ returns-4 c =
     let version = c.before.before.before in
     let fits = version.before.before in
     let whole = fits.before.before in
-    many-windows whole.before.before.args.limits whole.before.before.args.calendar.now whole.if1.false (sym fits.before.read32.ensures ∙ fits.if2.false) version.if3.false
+    many-windows whole.before.before.args.calendar.now whole.if1.false (sym fits.before.read32.ensures ∙ fits.if2.false) version.if3.false
     (omega (arith, c.if4.true, c.before.wide.ensures.0))
 
 mul-if5 : tie.Need-overflow-mul-if5
@@ -62,7 +62,7 @@ returns-5 c =
     let fits = version.before.before in
     let whole = fits.before.before in
     let count = few.before.wide.ensures.0 in
-    other-bytes whole.before.before.args.limits whole.before.before.args.calendar.now whole.if1.false (sym fits.before.read32.ensures ∙ fits.if2.false) version.if3.false
+    other-bytes whole.before.before.args.calendar.now whole.if1.false (sym fits.before.read32.ensures ∙ fits.if2.false) version.if3.false
     (omega (arith, few.if4.false, count)) (λ e. c.if5.true (e ∙ ap (λ (n : ℕ). calendar_head + window_length * n) (sym count)))
 
 any-window-fault-requires : tie.Need-any-window-fault-requires
@@ -75,11 +75,10 @@ returns-6 c =
     let fits = version.before.before in
     let whole = fits.before.before in
     let count = few.before.wide.ensures.0 in
-    let a = whole.before.before.args in
-    let s = a.calendar.now in
-    windows-left a.limits s whole.if1.false (sym fits.before.read32.ensures ∙ fits.if2.false) version.if3.false
+    let s = whole.before.before.args.calendar.now in
+    windows-left s whole.if1.false (sym fits.before.read32.ensures ∙ fits.if2.false) version.if3.false
     (omega (arith, few.if4.false, count)) (c.before.if5.false ∙ ap (λ (n : ℕ). calendar_head + window_length * n) count)
-    ∙ ap (λ (t : Bool). if t then Refused 24 none none else Pass) (sym (c.any-window-fault.ensures ∙ ap (any_to (window_fault a.limits s)) count))
+    ∙ ap (λ (t : Bool). if t then Refused 24 none none else Pass) (sym (c.any-window-fault.ensures ∙ ap (any_to (window_fault s)) count))
 
 pub has-fault-spec : {M : Type 1} → statement M
 has-fault-spec =

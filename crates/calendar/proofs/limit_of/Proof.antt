@@ -5,7 +5,7 @@ use native.Mathlib.Omega.{arith}
 use mathlib.Core.Path.{subst, ap}
 use mathlib.Core.List.{List}
 use Prim.Native.Nat.{ℕ, ◌+◌, ◌*◌, ◌-◌, ◌≤◌}
-use Rattle.rules.specs.Ranges.{most_windows, mill}
+use Rattle.rules.specs.Limits.{most_windows, slots}
 use Rattle.rules.specs.Calendar.{Window, open_before}
 use Rattle.rules.proofs.Placing.OpenSlots.{open_most}
 use Rattle.calendar.specs.Held.{held_windows}
@@ -16,7 +16,7 @@ use Rattle.calendar.proofs.limit_of.Tie as tie
 
 abbrev invariant-loop : tie.invariant-loop
 invariant-loop deadline x limit₀ k₀ limit k =
-    (k ≤ x.count) × (x.count ≤ most_windows) × (limit ≤ mill.slots) × Reached (first_windows x k) (2 * open_before (held_windows x) deadline) limit
+    (k ≤ x.count) × (x.count ≤ most_windows) × (limit ≤ slots) × Reached (first_windows x k) (2 * open_before (held_windows x) deadline) limit
 
 abbrev decreases-loop : tie.decreases-loop
 decreases-loop deadline x limit₀ k₀ limit k = x.count - k

@@ -4,21 +4,20 @@ use borrow.Author.Rules.{rules}
 use native.Mathlib.Omega.{arith}
 use mathlib.Core.Path.{◌≡◌, refl, ap, ◌∙◌}
 use mathlib.Core.List.{List}
-use Prim.Native.Nat.{ℕ, ◌-◌, ◌/◌, ◌≤◌}
+use Prim.Native.Nat.{◌-◌, ◌≤◌}
 use lib.ListN.{length}
 use Rattle.rules.specs.Walks.{if◌then◌else◌}
-use Rattle.rules.specs.Ranges.{most_windows}
+use Rattle.rules.specs.Limits.{most_windows, slots}
 use Rattle.rules.specs.Calendar.{Window, is_open}
-use Rattle.calendar.specs.Held.{held_windows, ReopensBy}
 use Rattle.calendar.specs.Area.{area_holding}
-use Rattle.calendar.proofs.Windows.{first-all, count_most, shut-first, held_by}
+use Rattle.calendar.proofs.Windows.{first-all, count_most, shut-first, reopening_most}
 use Rattle.calendar.proofs.Area.{ShutTo, shut_none, shut-next}
 use Rattle.calendar.proofs.set_shut.Statement.{statement}
 use Rattle.calendar.proofs.set_shut.Tie as tie
 
 abbrev invariant-loop : tie.invariant-loop
 invariant-loop work₀ value x k₀ work k =
-    (k ≤ x.count) × (x.count ≤ most_windows) × (length work ≡ length work₀) × ((n : ℕ) → ReopensBy n (held_windows x) → ShutTo n value work₀ x k work)
+    (k ≤ x.count) × (x.count ≤ most_windows) × (length work ≡ length work₀) × ShutTo slots value work₀ x k work
 
 abbrev decreases-loop : tie.decreases-loop
 decreases-loop work₀ value x k₀ work k = x.count - k
@@ -27,7 +26,7 @@ loop-holds : tie.Need-loop-init invariant-loop decreases-loop
 loop-holds c =
     let entry = c.before in
     let a = entry.args in
-    (omega arith, count_most a.t2 entry.requires.0, refl, λ n r. shut_none n a.value a.work.now a.t2)
+    (omega arith, count_most a.t2 entry.requires.0, refl, shut_none slots a.value a.work.now a.t2)
 
 mul-set-window : tie.Need-overflow-mul-set-window invariant-loop decreases-loop
 mul-set-window c = search rules
@@ -46,7 +45,7 @@ set-window-requires c κs =
     let entry = c.before.before.before.before.before.before in
     let l = c.before.before.before.before.loop in
     let x = entry.args.t2 in
-    (omega (arith, shut-first x entry.requires.0 l.k (omega arith)), omega (arith, held_by x (length entry.args.work.now / 2) entry.requires.1 l.k (omega arith), l.invariant.2))
+    (omega (arith, shut-first x entry.requires.0 l.k (omega arith)), omega (arith, reopening_most x entry.requires.0 l.k (omega arith)), omega arith)
 
 add-k : tie.Need-overflow-add-k invariant-loop decreases-loop
 add-k c = search rules
@@ -61,7 +60,7 @@ loop-again c =
       search rules,
       search rules,
       search rules,
-      λ n by. shut-next n a.value a.work.now l.work a.t2 l.k (l.invariant.3 n by) (c.before.before.set-window.ensures n (held_by a.t2 n by l.k (omega arith))),
+      shut-next slots a.value a.work.now l.work a.t2 l.k l.invariant.3 c.before.before.set-window.ensures,
     )
 
 same_length : tie.Need-same-length invariant-loop decreases-loop
@@ -72,7 +71,7 @@ returns c =
     let l = c.before.loop in
     let a = c.before.before.before.args in
     let all = first-all a.t2 {k = l.k} (omega arith) in
-    λ n by used bytes e. l.invariant.3 n by used bytes e ∙ ap (λ (w : List Window). area_holding n (λ t. if is_open w t then used t else a.value) bytes) all
+    λ used bytes e. l.invariant.3 used bytes e ∙ ap (λ (w : List Window). area_holding slots (λ t. if is_open w t then used t else a.value) bytes) all
 
 pub set-shut-spec : {M : Type 1} → statement M
 set-shut-spec =

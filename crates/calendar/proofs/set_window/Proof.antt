@@ -7,18 +7,19 @@ use Prim.Native.Nat.{ℕ, ◌*◌, ◌-◌, ◌≤◌}
 use lib.ListN.{length}
 use lib.Seq.{sets}
 use Rattle.rules.specs.Fields.{bytes_of}
+use Rattle.rules.specs.Limits.{slots}
 use Rattle.calendar.proofs.Area.{WindowTo, window-none, window-next}
 use Rattle.calendar.proofs.set_window.Statement.{statement}
 use Rattle.calendar.proofs.set_window.Tie as tie
 
 abbrev invariant-loop : tie.invariant-loop
-invariant-loop work₀ shut reopening value t₀ work t = (shut ≤ t) × (t ≤ reopening) × (length work ≡ length work₀) × ((n : ℕ) → reopening ≤ n → WindowTo n value work₀ shut t work)
+invariant-loop work₀ shut reopening value t₀ work t = (shut ≤ t) × (t ≤ reopening) × (length work ≡ length work₀) × WindowTo slots value work₀ shut t work
 
 abbrev decreases-loop : tie.decreases-loop
 decreases-loop work₀ shut reopening value t₀ work t = reopening - t
 
 loop-holds : tie.Need-loop-init invariant-loop decreases-loop
-loop-holds c = let a = c.before.args in (omega arith, c.before.requires.0, refl, λ n l. window-none n a.value a.work.now a.shut)
+loop-holds c = let a = c.before.args in (omega arith, c.before.requires.0, refl, window-none slots a.value a.work.now a.shut)
 
 wide16-requires : tie.Need-wide16-requires invariant-loop decreases-loop
 wide16-requires c κs = search rules
@@ -41,12 +42,9 @@ loop-again c =
     let a = entry.args in
     let l = c.before.before.before.before.before.before.loop in
     let write = c.before.before.write16 in
-    let stored = write.ensures ∙ ap (λ (n : ℕ). sets l.work (2 * n) (bytes_of 2 a.value)) c.before.before.before.wide16.ensures.0 in (
-      search rules,
-      search rules,
-      search rules,
-      λ n room used bytes e. stored ∙ window-next n a.value a.work.now a.shut l.t l.work l.invariant.0 (omega arith) (l.invariant.3 n room) used bytes e,
-    )
+    let stored = write.ensures ∙ ap (λ (n : ℕ). sets l.work (2 * n) (bytes_of 2 a.value)) c.before.before.before.wide16.ensures.0 in
+    let next = window-next slots a.value a.work.now a.shut l.t l.work l.invariant.0 (omega arith) l.invariant.3 in
+    (search rules, search rules, search rules, λ used bytes e. stored ∙ next used bytes e)
 
 same_length : tie.Need-same-length invariant-loop decreases-loop
 same_length c = search rules
@@ -56,7 +54,7 @@ returns c =
     let a = c.before.before.before.args in
     let l = c.before.loop in
     let e : l.t ≡ a.reopening = omega arith in
-    λ n room. subst (λ (u : ℕ). WindowTo n a.value a.work.now a.shut u l.work) e (l.invariant.3 n room)
+    subst (λ (n : ℕ). WindowTo slots a.value a.work.now a.shut n l.work) e l.invariant.3
 
 pub set-window-spec : {M : Type 1} → statement M
 set-window-spec =

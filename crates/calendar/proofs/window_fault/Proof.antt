@@ -23,20 +23,20 @@ returns : tie.Need-returns
 returns c =
     let second = c.before in
     let a = second.before.before.before.args in
-    empty_window a.limits a.calendar.now a.k second.before.read16.ensures second.read162.ensures c.if1.true
+    empty_window a.calendar.now a.k second.before.read16.ensures second.read162.ensures c.if1.true
 
 returns-2 : tie.Need-returns-2
 returns-2 c =
-    let second = c.before.before.before in
+    let second = c.before.before in
     let a = second.before.before.before.args in
-    far_window a.limits a.calendar.now a.k second.before.read16.ensures second.read162.ensures c.if2.true
+    far_window a.calendar.now a.k second.before.read16.ensures second.read162.ensures c.if2.true
 
 returns-3 : tie.Need-returns-3
 returns-3 c =
-    let second = c.before.before.before.before in
+    let second = c.before.before.before in
     let a = second.before.before.before.args in
-    first_window a.limits a.calendar.now a.k second.before.read16.ensures second.read162.ensures
-    c.before.before.before.if1.false c.before.if2.false c.if3.true
+    first_window a.calendar.now a.k second.before.read16.ensures second.read162.ensures
+    c.before.before.if1.false c.before.if2.false c.if3.true
 
 sub-read16 : tie.Need-overflow-sub-read16
 sub-read16 c = search rules
@@ -46,10 +46,10 @@ read16-requires-3 c κs = search rules
 
 returns-4 : tie.Need-returns-4
 returns-4 c =
-    let second = c.before.before.before.before.before in
+    let second = c.before.before.before.before in
     let a = second.before.before.before.args in
-    next_window a.limits a.calendar.now a.k second.before.read16.ensures second.read162.ensures
-    c.before.before.before.before.if1.false c.before.before.if2.false c.before.if3.false c.read163.ensures
+    next_window a.calendar.now a.k second.before.read16.ensures second.read162.ensures
+    c.before.before.before.if1.false c.before.before.if2.false c.before.if3.false c.read163.ensures
 
 pub window-fault-spec : {M : Type 1} → statement M
 window-fault-spec =

@@ -28,7 +28,7 @@ returns c =
     let a = s.args in
     let check = c.before.before.before.before.before.check-table in
     let same = ap (λ (x : CheckAnswer). x.number) check.ensures.0 in
-    let q = call-refused a.limits s.requires a.book.now a.calendar.now a.table.now a.output.now a.work.now (omega (arith, same, positive check.result.number c.before.if1.true)) in
+    let q = call-refused a.book.now a.calendar.now a.table.now a.output.now a.work.now (omega (arith, same, positive check.result.number c.before.if1.true)) in
     record {
       answers = c.refusal.ensures ∙ ap (λ (x : CheckAnswer). list_refused x.number x.flow x.job) check.ensures.0 ∙ sym (ap (λ (o : DispatchOutcome). o.answer) q);
       output_left = sym (ap (λ (o : DispatchOutcome). o.output) q);
@@ -41,7 +41,7 @@ list-accepted-requires c κs =
     let a = s.args in
     let check = c.before.before.before.before.before.before.check-table in
     let accepts = sym (ap (λ (x : CheckAnswer). x.number) check.ensures.0) ∙ c.before.before.if1.false in
-    (number-accepts a.limits s.requires a.book.now a.calendar.now a.table.now a.work.now accepts, left-in_use a.limits s.requires a.book.now a.calendar.now a.table.now a.work.now accepts check.ensures.1)
+    (number-accepts a.book.now a.calendar.now a.table.now a.work.now accepts, left-in_use a.book.now a.calendar.now a.table.now a.work.now accepts check.ensures.1)
 
 same-length-2 : tie.Need-same-length-2
 same-length-2 c = search rules
@@ -57,8 +57,8 @@ returns-2 c =
     let accepts = sym (ap (λ (x : CheckAnswer). x.number) check.ensures.0) ∙ c.before.before.before.before.before.before.before.if1.false in
     let listed = c.before.before.before.before.list-accepted.ensures in
     let q =
-    ap (λ (w : List ℕ). list_outcome a.limits (book_of a.book.now) (accepted_rows a.book.now a.table.now) a.output.now w w) check.ensures.1
-    ∙ sym (call-listed a.limits s.requires a.book.now a.calendar.now a.table.now a.output.now a.work.now accepts) in
+    ap (λ (w : List ℕ). list_outcome (book_of a.book.now) (accepted_rows a.book.now a.table.now) a.output.now w w) check.ensures.1
+    ∙ sym (call-listed a.book.now a.calendar.now a.table.now a.output.now a.work.now accepts) in
     record {
       answers = listed.answers ∙ ap (λ (o : DispatchOutcome). o.answer) q;
       output_left = listed.output_left ∙ ap (λ (o : DispatchOutcome). o.output) q;

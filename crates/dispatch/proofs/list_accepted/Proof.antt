@@ -5,7 +5,6 @@ use mathlib.Core.List.{◌++◌}
 use lib.ListN.{length, drop}
 use Rattle.rules.specs.Fields.{AllBytes}
 use Rattle.rules.specs.Answers.{list_accepted}
-use Rattle.rules.specs.Ranges.{mill}
 use Rattle.rules.specs.Book.{flow_count}
 use Rattle.rules.specs.Reading.{book_of}
 use Rattle.rules.specs.Dispatch.{list_length, list_bytes, DispatchOutcome}
@@ -40,7 +39,7 @@ size c = size_of_list _ _ (start c).requires.0 _ (flows c)
 shared-slice-read-wide : tie.Need-shared-slice-read-wide
 shared-slice-read-wide c =
     let s = c.before.before.before.before.before in
-    omega (arith, (book_passes mill s.args.book.now s.requires.0.book_passes).head_whole)
+    omega (arith, (book_passes s.args.book.now s.requires.0.book_passes).head_whole)
 
 wide-requires : tie.Need-wide-requires
 wide-requires c κs = search rules
@@ -67,7 +66,7 @@ returns : tie.Need-returns
 returns c =
     let w = c.before.before.before.before.before.before in
     let a = (start w).args in
-    let q = rows-too_long a.limits (book_of a.book.now) (accepted_rows a.book.now a.table.now) a.output.now a.work.now a.work.now (omega (arith, size w, c.before.before.before.before.before.if1.true)) in
+    let q = rows-too_long (book_of a.book.now) (accepted_rows a.book.now a.table.now) a.output.now a.work.now a.work.now (omega (arith, size w, c.before.before.before.before.before.if1.true)) in
     record {
       answers = c.refusal.ensures ∙ sym (ap (λ (o : DispatchOutcome). o.answer) q);
       output_left = sym (ap (λ (o : DispatchOutcome). o.output) q);
@@ -79,7 +78,6 @@ write-list-requires c κs =
     let w = c.before.before.before in
     record {
       accepted = (start w).requires.0;
-      slots = (start w).args.limits.slots;
       in_use = (start w).requires.1;
       flows_are = flows w;
       size_is = size w;
@@ -87,8 +85,8 @@ write-list-requires c κs =
       has_room = omega (arith, c.before.before.if1.false);
     }
 
-cast-t22 : tie.Need-overflow-cast-t22
-cast-t22 c = omega (arith, short c.before.before.before.before.before.before)
+cast-t21 : tie.Need-overflow-cast-t21
+cast-t21 c = omega (arith, short c.before.before.before.before.before.before)
 
 same-length-2 : tie.Need-same-length-2
 same-length-2 c = search rules
@@ -101,7 +99,7 @@ returns-2 c =
     let w = c.before.before.before.before.before.before in
     let a = (start w).args in
     let rows = accepted_rows a.book.now a.table.now in
-    let q = rows-listed a.limits (book_of a.book.now) rows a.output.now a.work.now a.work.now (omega (arith, size w, c.before.before.before.before.before.if1.false)) in
+    let q = rows-listed (book_of a.book.now) rows a.output.now a.work.now a.work.now (omega (arith, size w, c.before.before.before.before.before.if1.false)) in
     record {
       answers = ap list_accepted (size w) ∙ sym (ap (λ (o : DispatchOutcome). o.answer) q);
       output_left =
@@ -125,7 +123,7 @@ list-accepted-spec =
     same_length
     returns
     write-list-requires
-    cast-t22
+    cast-t21
     same-length-2
     same-length-3
     returns-2)

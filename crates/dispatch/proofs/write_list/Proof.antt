@@ -75,7 +75,7 @@ merge-requires c κs =
     let kept = ap length c.before.before.before.before.before.before.put-head.ensures ∙ length-sets a.out.now 0 (list_head_bytes a.size x.processors) in (
       record { accepted = s.requires.accepted; a_slot = omega arith; cursors = c.before.before.before.before.before.before.before.before.before.before.start-cursors.ensures },
       long,
-      (s.requires.slots, s.requires.in_use),
+      s.requires.in_use,
       s.requires.flows_are,
       s.requires.size_is,
       omega (arith, kept, s.requires.has_room),

@@ -4,12 +4,10 @@ use Prim.Native.Nat.{◌<◌}
 use native.Mathlib.Omega.{arith}
 use borrow.Author.Rules.{rules}
 use Rattle.rules.specs.declared.Verdict.TheVariants.{Pass}
-use Rattle.rules.specs.Ranges.{mill}
 use Rattle.rules.specs.Calendar.{calendar_fault}
 use Rattle.rules.specs.Book.{flow_count}
 use Rattle.rules.specs.Reading.{book_of, book_fault}
 use Rattle.rules.proofs.Reading.Passing.{flow-count, book_passes, calendar-pass_in-range}
-use Rattle.rules.proofs.Reading.Wider.{fits-within, calendar_wider}
 use Rattle.finish.proofs.Call.{call-refused, call_unknown, call-refused-calendar, call-short, call-placed, leaves, leaves-placed}
 use Rattle.finish.proofs.finish_flow.Statement.{statement}
 use Rattle.finish.proofs.finish_flow.Tie as tie
@@ -21,7 +19,7 @@ start c = c.before.before.before.before
 abbrev judged : tie.After-enum-told → tie.After-verdict-of
 judged c = c.before.before
 
-passes : (c : tie.After-enum-told) → book_fault (start (judged c)).args.limits (start (judged c)).args.book.now ≡ Pass
+passes : (c : tie.After-enum-told) → book_fault (start (judged c)).args.book.now ≡ Pass
 passes c = sym (judged c).verdict-of.ensures ∙ c.enum_told.given.1
 
 -- where the flow is in the book
@@ -38,7 +36,7 @@ named c = omega (arith, c.if1.false, flow-count (begun c).args.book.now, c.befor
 abbrev told : tie.After-enum-told2 → tie.After-verdict-of2
 told c = c.before.before
 
-calendar-passes : (c : tie.After-enum-told2) → calendar_fault (begun (told c).before).args.limits (begun (told c).before).args.calendar.now ≡ Pass
+calendar-passes : (c : tie.After-enum-told2) → calendar_fault (begun (told c).before).args.calendar.now ≡ Pass
 calendar-passes c = sym (told c).verdict-of2.ensures ∙ c.enum-told2.given.1
 
 verdict-of-requires : tie.Need-verdict-of-requires
@@ -54,14 +52,14 @@ returns : tie.Need-returns
 returns c =
     let v = c.before.before.before.before in
     let a = (start v).args in
-    leaves _ _ _ (call-refused a.limits a.book.now a.calendar.now a.work.now a.flow _ _ _
+    leaves _ _ _ (call-refused a.book.now a.calendar.now a.work.now a.flow _ _ _
     (sym v.verdict-of.ensures ∙ c.before.before.v.given.1)) c.refusal.result c.refusal.ensures
 
 enum_told : tie.Need-enum-told
 enum_told c = search rules
 
 shared-slice-read-wide : tie.Need-shared-slice-read-wide
-shared-slice-read-wide c = let p = c.before in omega (arith, (book_passes (start (judged p)).args.limits (start (judged p)).args.book.now (passes p)).head_whole)
+shared-slice-read-wide c = let p = c.before in omega (arith, (book_passes (start (judged p)).args.book.now (passes p)).head_whole)
 
 wide-requires : tie.Need-wide-requires
 wide-requires c κs = search rules
@@ -74,7 +72,7 @@ returns-2 c =
     let w = c.before.before in
     let p = w.before.before in
     let a = (start (judged p)).args in
-    leaves _ _ _ (call_unknown a.limits a.book.now a.calendar.now a.work.now a.flow (passes p)
+    leaves _ _ _ (call_unknown a.book.now a.calendar.now a.work.now a.flow (passes p)
     (omega (arith, c.before.if1.true, flow-count a.book.now, w.wide.ensures.0))) c.refusal2.result c.refusal2.ensures
 
 verdict-of-requires-2 : tie.Need-verdict-of-requires-2
@@ -91,7 +89,7 @@ returns-3 c =
     let v = c.before.before.before.before in
     let e = v.before in
     let a = (begun e).args in
-    leaves _ _ _ (call-refused-calendar a.limits a.book.now a.calendar.now a.work.now a.flow (passes (read e)) (named e) _ _ _
+    leaves _ _ _ (call-refused-calendar a.book.now a.calendar.now a.work.now a.flow (passes (read e)) (named e) _ _ _
     (sym v.verdict-of2.ensures ∙ c.before.before.w.given.1)) c.refusal3.result c.refusal3.ensures
 
 enum-told-2 : tie.Need-enum-told-2
@@ -102,21 +100,21 @@ refusal-requires-4 c κs = search rules
 
 returns-4 : tie.Need-returns-4
 returns-4 c =
-    let t = c.before.before.before in
+    let t = c.before.before in
     let e = (told t).before in
     let a = (begun e).args in
-    leaves _ _ _ (call-short a.limits a.book.now a.calendar.now a.work.now a.flow (passes (read e)) (named e) (calendar-passes t) (omega arith))
+    leaves _ _ _ (call-short a.book.now a.calendar.now a.work.now a.flow (passes (read e)) (named e) (calendar-passes t) (omega arith))
     c.refusal4.result c.refusal4.ensures
 
 calendar-of-requires : tie.Need-calendar-of-requires
-calendar-of-requires c κs = let t = c.before.before in let a = begun (told t).before in calendar_wider a.args.limits mill (fits-within a.args.limits a.pre) _ (calendar-passes t)
+calendar-of-requires c κs = calendar-passes c.before
 
 finish-passing-requires : tie.Need-finish-passing-requires
 finish-passing-requires c κs =
     let k = c.before in
-    let t = k.before.before.before in
+    let t = k.before.before in
     let e = (told t).before in
-    ((begun e).pre, passes (read e), rw k.calendar-of.ensures.windows (calendar-pass_in-range (begun e).args.limits _ (calendar-passes t)), named e, omega arith)
+    (passes (read e), rw k.calendar-of.ensures.windows (calendar-pass_in-range _ (calendar-passes t)), named e, omega arith)
 
 same_length : tie.Need-same-length
 same_length c = search rules
@@ -125,10 +123,10 @@ returns-5 : tie.Need-returns-5
 returns-5 c =
     let d = c.before.before in
     let k = d.before.before in
-    let t = k.before.before.before in
+    let t = k.before.before in
     let e = (told t).before in
     let a = (begun e).args in
-    leaves-placed _ _ (call-placed a.limits a.book.now a.calendar.now a.work.now a.flow (passes (read e)) (named e) (calendar-passes t) _
+    leaves-placed _ _ (call-placed a.book.now a.calendar.now a.work.now a.flow (passes (read e)) (named e) (calendar-passes t) _
     k.calendar-of.ensures.windows (omega arith)) _ _ d.finish-passing.ensures
 
 pub finish-flow-spec : {M : Type 1} → statement M

@@ -7,13 +7,12 @@ use lib.ListN.{length}
 use native.Mathlib.Omega.{arith}
 use borrow.Author.Rules.{rules}
 use Rattle.rules.proofs.Reading.Passing.{pass_in-range}
-use Rattle.rules.proofs.Reading.Wider.{fits-within, book_wider}
 use Rattle.rules.proofs.Reading.SameUse.{with-same, position-same}
 use Rattle.calendar.specs.Held.{held_windows}
 use Rattle.place.specs.Order.{shut_rows, Asked}
-use Rattle.place.proofs.FlowByFlow.{in_array, asked-up_to, maintenance-held, asked-beside, reopens_in, wide, shut-room}
+use Rattle.place.proofs.FlowByFlow.{in_array, asked-up_to, maintenance-held, asked-beside}
 use Rattle.finish.proofs.Call.{maintenance-over, leaves-finish, leaves-infeasible}
-use Rattle.rules.specs.Ranges.{mill}
+use Rattle.rules.specs.Limits.{slots}
 use Rattle.rules.specs.Book.{Book, with_calendar, flow_count}
 use Rattle.rules.specs.Reading.{book_of}
 use Rattle.rules.specs.Rows.{work_used}
@@ -52,7 +51,7 @@ deadlines-long c = search rules
 
 -- the flows up to the one named are flows of the book
 counted : (c : tie.After-position) → c.position.result < flow_count (book_of (start (served c)).args.book.now)
-counted c = let a = start (served c) in omega (arith, c.position.ensures, position_below (book_of a.args.book.now) a.args.flow a.pre.3)
+counted c = let a = start (served c) in omega (arith, c.position.ensures, position_below (book_of a.args.book.now) a.args.flow a.pre.2)
 
 -- the book with the calendar that the code holds, and how many flows are placed by it
 abbrev book_in : tie.Start → Book
@@ -65,25 +64,19 @@ named c =
 
 -- what is asked where the area is cleared
 asked : (c : tie.After-clear) →
-    Asked (begun c).args.limits (begun c).args.book.now (held_windows (begun c).args.calendar) (served (found c)).before.index_of.result (served (found c)).service-order.result
+    Asked (begun c).args.book.now (held_windows (begun c).args.calendar) (served (found c)).before.index_of.result (served (found c)).service-order.result
     ((found c).position.result + 1) [] c.clear.new.0
 asked c =
     let o = served (found c) in
     let a = start o in
-    asked-up_to a.args.limits a.pre.0 a.args.book.now _ _ _ a.args.work.now _ _ a.pre.1 o.before.index_of.ensures a.pre.2 o.service-order.ensures
-    (omega (arith, counted (found c))) (omega (arith, a.pre.4)) c.clear.ensures
+    asked-up_to a.args.book.now _ _ _ a.args.work.now _ _ o.before.index_of.ensures a.pre.1 o.service-order.ensures
+    (omega (arith, counted (found c))) (omega (arith, a.pre.3)) c.clear.ensures
 
-held : (c : tie.After-set-shut) → c.set-shut.new.0 ≡ work_used (begun (cleared c)).args.limits.slots (shut_rows (book_in (begun (cleared c)))) (begun (cleared c)).args.work.now
-held c = let a = asked (cleared c) in maintenance-over _ _ _ _ _ (cleared c).clear.ensures (maintenance-held a (c.set-shut.ensures _ (reopens_in a)))
-
--- .. and where it holds the maintenance
-beside : (c : tie.After-set-shut) → let m = cleared c in
-    Asked (begun m).args.limits (begun m).args.book.now (held_windows (begun m).args.calendar) (served (found m)).before.index_of.result
-    (served (found m)).service-order.result ((found m).position.result + 1) (shut_rows (book_in (begun m))) c.set-shut.new.0
-beside c = let a = asked (cleared c) in asked-beside a (c.set-shut.ensures _ (reopens_in a)) (search rules)
+held : (c : tie.After-set-shut) → c.set-shut.new.0 ≡ work_used slots (shut_rows (book_in (begun (cleared c)))) (begun (cleared c)).args.work.now
+held c = maintenance-over _ _ _ _ (cleared c).clear.ensures (maintenance-held (asked (cleared c)) c.set-shut.ensures)
 
 index-of-requires : tie.Need-index-of-requires
-index-of-requires c κs = let b = c.before.before in book_wider b.args.limits mill (fits-within b.args.limits b.requires.0) b.args.book.now b.requires.1
+index-of-requires c κs = search rules
 
 service-order-requires : tie.Need-service-order-requires
 service-order-requires c κs = search rules
@@ -95,37 +88,32 @@ position-requires : tie.Need-position-requires
 position-requires c κs =
     let o = c.before.before in
     let i = o.before.index_of.ensures in
-    (index-deadlines _ _ i (deadlines-long o.before), i.flows, (start o).requires.3)
+    (index-deadlines _ _ i (deadlines-long o.before), i.flows, (start o).requires.2)
 
 add-count : tie.Need-overflow-add-count
-add-count c = let a = start (served c) in omega (arith, counted c, (pass_in-range a.args.limits a.args.book.now a.pre.1).flows_most, a.pre.0.flows_fit)
+add-count c = omega (arith, counted c, (pass_in-range (start (served c)).args.book.now (start (served c)).requires.0).flows_most)
 
 clear-requires : tie.Need-clear-requires
 clear-requires c κs = search rules
 
 set-shut-requires : tie.Need-set-shut-requires
-set-shut-requires c κs = let a = asked c.before.before.before in (wide a, shut-room a _ (omega arith))
+set-shut-requires c κs = let a = asked c.before.before.before in (a.calendar_in_range, omega (arith, a.long_enough))
 
 place-up-to-requires : tie.Need-place-up-to-requires
-place-up-to-requires c κs = (_, beside c.before.before.before)
+place-up-to-requires c κs = let m = c.before.before.before in asked-beside (asked (cleared m)) m.set-shut.ensures (search rules)
 
 set-shut-requires-2 : tie.Need-set-shut-requires-2
-set-shut-requires-2 c κs = let a = asked (cleared (shut c.before.before.before)) in (wide a, shut-room a _ (omega arith))
+set-shut-requires-2 c κs = let a = asked (cleared (shut c.before.before.before)) in (a.calendar_in_range, omega (arith, a.long_enough))
 
 clear-requires-2 : tie.Need-clear-requires-2
-clear-requires-2 c κs =
-    let u = c.before.before.before.before in
-    let d = placed u in
-    let m = shut d in
-    let a = start (served (found (cleared m))) in
-    omega (arith, a.pre.0.bytes_are, a.pre.4, u.set-shut2.auto, d.place-up-to.kept, m.set-shut.kept, (cleared m).clear.kept)
+clear-requires-2 c κs = search rules
 
 array-read-refusal : tie.Need-array-read-refusal
 array-read-refusal c =
     let t = c.before.before.before.before in
     let p = found (cleared (shut (placed t.before.before.before))) in
     let a = start (served p) in
-    omega (arith, counted p, (pass_in-range a.args.limits a.args.book.now a.pre.1).flows_most, a.pre.0.flows_fit, t.if1.true)
+    omega (arith, counted p, (pass_in-range a.args.book.now a.pre.0).flows_most, t.if1.true)
 
 refusal-requires : tie.Need-refusal-requires
 refusal-requires c κs = search rules
@@ -142,9 +130,9 @@ returns c =
     let p = found (cleared m) in
     let o = served p in
     let a = start o in
-    leaves-infeasible a.args.limits (book_in a) a.args.flow _ a.args.work.now _ _ _ d.place-up-to.result (wide (asked (cleared m))) a.pre.3 (named p) (held m)
-    (d.place-up-to.ensures _ (beside m))
-    (u.set-shut2.ensures _ (reopens_in (asked (cleared m)))) t.if1.true _ _ _ c.refusal.ensures
+    leaves-infeasible (book_in a) a.args.flow _ a.args.work.now _ _ _ d.place-up-to.result a.pre.1 a.pre.2 (named p) (held m)
+    d.place-up-to.ensures
+    u.set-shut2.ensures t.if1.true _ _ _ c.refusal.ensures
     (in_array a.args.book.now _ o.service-order.ensures _ d.place-up-to.result.position (omega (arith, counted p, t.if1.true)))
     c.before.before.before.clear2.ensures
 
@@ -158,9 +146,9 @@ returns-2 c =
     let m = shut d in
     let p = found (cleared m) in
     let a = start (served p) in
-    leaves-finish a.args.limits (book_in a) a.args.flow _ a.args.work.now _ _ _ d.place-up-to.result (wide (asked (cleared m))) a.pre.3 (named p) (held m)
-    (d.place-up-to.ensures _ (beside m))
-    (u.set-shut2.ensures _ (reopens_in (asked (cleared m)))) c.if1.false
+    leaves-finish (book_in a) a.args.flow _ a.args.work.now _ _ _ d.place-up-to.result a.pre.1 a.pre.2 (named p) (held m)
+    d.place-up-to.ensures
+    u.set-shut2.ensures c.if1.false
 
 pub finish-passing-spec : {M : Type 1} → statement M
 finish-passing-spec =

@@ -31,10 +31,10 @@ same_length c = search rules
 
 returns : tie.Need-returns
 unfolding NextPlaced
-returns c n room d range rule-6 bytes so_far =
+returns c d range rule-6 bytes so_far =
     let p = c.before.before.before.before.before in
     let v = (start p).requires in
-    inr (stays_put v range rule-6 so_far _ _ _ _ _ (p.place-flow.ensures n _ bytes room so_far.stands.area_used (within v range rule-6 so_far)) c.enum_told.given.1)
+    inr (stays_put v range rule-6 so_far _ _ _ _ _ (p.place-flow.ensures _ bytes so_far.stands.area_used (within v range rule-6 so_far)) c.enum_told.given.1)
 
 add-t16 : tie.Need-overflow-add-t16
 add-t16 c = omega (arith, position-fits (start c.before.before.before.before.before.before.before).requires)
@@ -43,17 +43,17 @@ cast-t15 : tie.Need-overflow-cast-t15
 cast-t15 c =
     let p = c.before.before.before.before.before.before.before in
     let v = (start p).requires in
-    omega (arith, finish-fits v _ _ _ _ _ (p.place-flow.ensures v.slots v.held v.bytes v.limit-in v.area_used v.within) c.before.before.end.given.1)
+    omega (arith, finish-fits v _ _ _ _ _ (p.place-flow.ensures v.held v.bytes v.area_used v.within) c.before.before.end.given.1)
 
 same-length-2 : tie.Need-same-length-2
 same-length-2 c = search rules
 
 returns-2 : tie.Need-returns-2
 unfolding NextPlaced
-returns-2 c n room d range rule-6 bytes so_far =
+returns-2 c d range rule-6 bytes so_far =
     let p = c.before.before.before.before.before.before.before in
     let v = (start p).requires in
-    inl (moves-on v range rule-6 so_far _ _ _ _ _ (p.place-flow.ensures n _ bytes room so_far.stands.area_used (within v range rule-6 so_far))
+    inl (moves-on v range rule-6 so_far _ _ _ _ _ (p.place-flow.ensures _ bytes so_far.stands.area_used (within v range rule-6 so_far))
     c.before.before.end.given.1)
 
 pub place-next-spec : {M : Type 1} → statement M

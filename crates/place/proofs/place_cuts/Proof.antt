@@ -111,11 +111,11 @@ same-length-5 : tie.Need-same-length-5 invariant-loop decreases-loop
 same-length-5 c = let d = told c in omega (arith, d.run-as.kept.1.1.1.1.1.1.0, (turn (made d)).loop.inv.0.area_length)
 
 returns : tie.Need-returns invariant-loop decreases-loop
-returns c n rows bytes room used within =
+returns c rows bytes used within =
     let d = told c in
     let m = made d in
     let v = (start (turn m)).pre in
-    flow-kept_stops v.0 m.run_at.ensures _ (turn m).loop.inv.0 d.run-as.ensures c.enum_told.given.1 n rows bytes room used
+    flow-kept_stops v.0 m.run_at.ensures _ (turn m).loop.inv.0 d.run-as.ensures c.enum_told.given.1 rows bytes used
     (λ u. omega (arith, within u, v.4))
 
 add-t : tie.Need-overflow-add-t invariant-loop decreases-loop
@@ -158,9 +158,9 @@ same-length-10 : tie.Need-same-length-10 invariant-loop decreases-loop
 same-length-10 c = search rules
 
 returns-2 : tie.Need-returns-2 invariant-loop decreases-loop
-returns-2 c n rows bytes room used within =
+returns-2 c rows bytes used within =
     let v = (start c.before).pre in
-    flow-kept-done v.0 v.7 (omega (arith, c.loop-test.false, path-held v.0)) c.before.loop.invariant.0 n rows bytes room used
+    flow-kept-done v.0 v.7 (omega (arith, c.loop-test.false, path-held v.0)) c.before.loop.invariant.0 rows bytes used
     (λ u. omega (arith, within u, v.4))
 
 pub place-cuts-spec : {M : Type 1} → statement M

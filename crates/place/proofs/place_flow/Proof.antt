@@ -105,14 +105,14 @@ wide16-requires-2 c κs = search rules
 
 -- no slot from the release on is below the limit
 returns : tie.Need-returns
-returns c n rows bytes room used within =
+returns c rows bytes used within =
     let i = c.before.before.before.before.before.before.before in
     let h = loaded i in
     let b = begun h in
     let release = release-held b.args.book.now b.args.f b.args.records (jobs h) b.pre.0 h.load-flow.ensures _
     i.before.before.before.before.before.before.before.wide16.ensures.0 in
     flow-not-begun b.args.book.now b.args.f b.args.limit b.pre.0.passes b.pre.0.flow_in_is
-    (omega (arith, c.if1.true, c.before.wide162.ensures.0)) n rows bytes _ _ used
+    (omega (arith, c.if1.true, c.before.wide162.ensures.0)) rows bytes _ _ used
 
 slice-aggregate-place-cuts : tie.Need-slice-aggregate-place-cuts
 slice-aggregate-place-cuts c = search rules
@@ -159,7 +159,7 @@ place-cuts-requires c κs =
           i.before.before.before.before.before.before.before.before.wide16.ensures.0,
       omega (arith, e.if1.false),
       omega (arith, b.pre.2, e.before.wide162.ensures.0),
-      omega (arith, b.pre.3, e.before.wide162.ensures.0),
+      b.pre.3,
       b.pre.4,
     )
 

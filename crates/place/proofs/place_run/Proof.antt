@@ -45,7 +45,7 @@ serve-slot-requires c κs =
     let l = c.before.before.before.before.loop in
     let inside = c.before.before.if1.false in
     let kept = l.invariant.0 in
-    (v.0, omega (arith, v.1, inside, kept.area_length), kept.done_to, omega (arith, inside), omega (arith, inside, kept.next_to, kept.slot_from))
+    (v.0, omega (arith, v.1, kept.area_length), kept.done_to, omega (arith, inside), omega (arith, inside, kept.next_to, kept.slot_from))
 
 cast-left : tie.Need-overflow-cast-left invariant-loop decreases-loop
 cast-left c = search rules
@@ -73,7 +73,7 @@ loop-again c =
     let l = looped.loop in
     let served = c.before.before.before.before.before.serve-slot.ensures in
     let all = looped.before.work-of.ensures in
-    let more = run-kept-next v.0.held.in_service l.invariant.0 inside.if1.false (omega (arith, all, inside.before.loop-test.true, work-held v.0.held.in_service)) served in
+    let more = run-kept-next v.0.held.in_service l.invariant.0 v.3 inside.if1.false (omega (arith, all, inside.before.loop-test.true, work-held v.0.held.in_service)) served in
     (more (omega (arith, all, served.give_within, work-held v.0.held.in_service)) (omega arith) (omega arith), omega arith)
 
 same-length-3 : tie.Need-same-length-3 invariant-loop decreases-loop

@@ -3,7 +3,7 @@ use mathlib.Core.Path.{◌≡◌}
 use Prim.Native.Nat.{◌-◌, ◌≤◌}
 use Rattle.place.specs.Service.{packed_rows}
 use Rattle.place.specs.Output.{Put}
-use Rattle.place.proofs.Output.{put-none, put-same_length}
+use Rattle.place.proofs.Output.{put-none, put-same-length}
 use Rattle.place.proofs.Packed.{packed-rows-none, packed-rows-length, packed-rows-put, packed-rows_too_far}
 use borrow.Author.Rules.{rules}
 use native.Mathlib.Omega.{arith}
@@ -68,7 +68,7 @@ same_length : tie.Need-same-length invariant-loop decreases-loop
 same_length c =
     let a = c.before.before.before.before.before.args in
     let l = c.before.loop in
-    put-same_length a.out.now l.out a.at l.next _ l.invariant.1
+    put-same-length a.out.now l.out a.at l.next _ l.invariant.1
 
 returns-2 : tie.Need-returns-2 invariant-loop decreases-loop
 returns-2 c =

@@ -7,7 +7,7 @@ use Rattle.place.specs.Service.{current_flow, pseudo_job}
 use Rattle.place.proofs.Serving.{flow-within, parts_within, rate-within}
 use Rattle.place.proofs.SlotRows.{SlotKept, slot-kept-first, slot-kept-next, slot-kept-done, units-within, row-asked}
 use Rattle.place.proofs.FullSlots.{full-rows}
-use Rattle.place.proofs.Output.{put-same_length}
+use Rattle.place.proofs.Output.{put-same-length}
 use borrow.Author.Rules.{rules}
 use Rattle.place.proofs.put_slot.Statement.{statement}
 use Rattle.place.proofs.put_slot.Tie as tie
@@ -94,7 +94,7 @@ same-length-2 : tie.Need-same-length-2 invariant-loop decreases-loop
 same-length-2 c =
     let a = c.before.before.before.before.before.before.before.before.before.before.before.args in
     let l = c.before.loop in
-    put-same_length a.out.now l.out a.at l.next _ l.invariant.so-far.put
+    put-same-length a.out.now l.out a.at l.next _ l.invariant.so-far.put
 
 returns-2 : tie.Need-returns-2 invariant-loop decreases-loop
 returns-2 c =

@@ -2,7 +2,7 @@
 use native.Mathlib.Omega.{arith}
 use borrow.Author.Rules.{rules}
 use Rattle.place.proofs.Output.{no_bytes}
-use Rattle.place.proofs.Serving.{flow-within, parts_fit}
+use Rattle.place.proofs.Serving.{flow-within, parts-fit}
 use Rattle.place.proofs.Runs.{run-listed, run_unlisted}
 use Rattle.place.proofs.run_as.Statement.{statement}
 use Rattle.place.proofs.run_as.Tie as tie
@@ -17,7 +17,7 @@ cast-pack-parts c = omega (arith, flow-within (start c.before.before).requires.0
 pack-parts-requires : tie.Need-pack-parts-requires
 pack-parts-requires c κs =
     let v = (start c.before.before.before).requires in
-    (v.0.names_whole, v.0.Takes-whole, v.1, parts_fit v.0)
+    (v.0.names_whole, v.0.Takes-whole, v.1, parts-fit v.0)
 
 place-run-requires : tie.Need-place-run-requires
 place-run-requires c κs =

@@ -34,7 +34,7 @@ returns c =
     let used = c.before.before.before.read16 in
     let total = c.before.before.work-of in
     let give = c.before.give-of in
-    served-nothing v.0.held.in_service a.done a.slot a.area.now total.ensures v.2 used.ensures (sym give.ensures ∙ c.if1.true)
+    served-nothing v.0.held.in_service a.done a.slot a.area.now total.ensures v.2 v.3 used.ensures (sym give.ensures ∙ c.if1.true)
 
 put-slot-requires : tie.Need-put-slot-requires
 put-slot-requires c κs =
@@ -74,7 +74,7 @@ returns-2 c =
     let total = gave.before.work-of in
     let give = gave.give-of in
     let put = c.before.before.before.before.before.before.put-slot in
-    served-some v.0.held.in_service a.done a.slot a.area.now total.ensures v.2 used.ensures give.ensures put.ensures c.before.before.write16.ensures
+    served-some v.0.held.in_service a.done a.slot a.area.now total.ensures v.2 v.3 used.ensures give.ensures put.ensures c.before.before.write16.ensures
 
 pub serve-slot-spec : {M : Type 1} → statement M
 serve-slot-spec =

@@ -45,7 +45,7 @@ use-slot-requires : tie.Need-use-slot-requires invariant-loop decreases-loop
 use-slot-requires c κs =
     let l = c.before.before.before in
     let v = (start l).requires in
-    (v.0, omega (arith, v.1, c.before.if1.false, (l.loop.invariant.0 0).1.area_length), l.loop.invariant.1, omega (arith, c.before.if1.false, v.3))
+    (v.0, omega (arith, v.1, (l.loop.invariant.0 0).1.area_length), l.loop.invariant.1, omega (arith, c.before.if1.false, v.3))
 
 cast-left : tie.Need-overflow-cast-left invariant-loop decreases-loop
 cast-left c = search rules
@@ -65,7 +65,7 @@ loop-again c =
     let l = turn d in
     let v = (start l).pre in
     let within = (d.use-slot.ensures 0).1.give_within in
-    let more = used-kept-next v.0 l.loop.inv.0 d.before.before.if1.false (omega (arith, d.before.before.before.loop-test.true, l.loop.inv.1)) d.use-slot.ensures in
+    let more = used-kept-next v.0 l.loop.inv.0 v.3 d.before.before.if1.false (omega (arith, d.before.before.before.loop-test.true, l.loop.inv.1)) d.use-slot.ensures in
     (more (omega (arith, within, l.loop.inv.1)) (omega arith), omega (arith, l.loop.inv.1))
 
 same-length-2 : tie.Need-same-length-2 invariant-loop decreases-loop

@@ -28,7 +28,7 @@ returns c =
     let g = c.before in
     let a = (start g).args in
     let v = (start g).requires in
-    used-nothing v.0 a.left a.slot a.area.now v.2 g.before.read16.ensures (sym g.give-of.ensures ∙ c.if1.true)
+    used-nothing v.0 a.left a.slot a.area.now v.2 v.3 g.before.read16.ensures (sym g.give-of.ensures ∙ c.if1.true)
 
 mul-write16 : tie.Need-overflow-mul-write16
 mul-write16 c = search rules
@@ -50,7 +50,7 @@ returns-2 c =
     let g = c.before.before.before.before.before in
     let a = (start g).args in
     let v = (start g).requires in
-    used-some v.0 a.left a.slot a.area.now v.2 g.before.read16.ensures g.give-of.ensures c.before.before.write16.ensures
+    used-some v.0 a.left a.slot a.area.now v.2 v.3 g.before.read16.ensures g.give-of.ensures c.before.before.write16.ensures
 
 pub use-slot-spec : {M : Type 1} → statement M
 use-slot-spec =

@@ -5,7 +5,6 @@ use borrow.Author.Rules.{rules}
 use mathlib.Core.Path.{sym, subst}
 use mathlib.Core.List.{List}
 use Rattle.rules.specs.declared.PlanAnswer.{PlanAnswer}
-use Rattle.rules.specs.Ranges.{mill}
 use Rattle.rules.specs.Calendar.{no_windows}
 use Rattle.rules.specs.Planner.{plan_call}
 use Rattle.plan_text.specs.Printed.{Prints, printed}
@@ -35,7 +34,7 @@ returns-2 c =
     let start = c.before.before.before.before.before.before.before.before.before.before.before.before in
     let leaves = c.before.before.before.before.plan-book.ensures in
     let text = printed start.args.input.now in
-    let outcome = plan_call mill start.args.input.now no_windows start.args.output.now start.args.work.now in
+    let outcome = plan_call start.args.input.now no_windows start.args.output.now start.args.work.now in
     subst (λ (o : List ℕ). Prints text o c.before.before.before.before.plan-book.result) (sym leaves.output_left)
     (subst (λ (a : PlanAnswer). Prints text outcome.output a) (sym leaves.answers)
     (call_prints start.args.output.now start.args.work.now start.requires.0 start.requires.1 start.args.input.now c.before.before.before.before.before.before.before.before.if1.false))

@@ -1,7 +1,7 @@
 -- `plan_text::put_table_line` meets its contract: the pair of its two words is the line. Assumes nothing.
 use borrow.Author.Rules.{rules}
 use Rattle.rules.specs.Fields.{bytes_of}
-use Rattle.plan_text.proofs.Pieces.{put_as, table-line}
+use Rattle.plan_text.proofs.Pieces.{put_as, table_line_lem}
 use Rattle.plan_text.proofs.put_table_line.Statement.{statement}
 use Rattle.plan_text.proofs.put_table_line.Tie as tie
 
@@ -21,7 +21,7 @@ returns : tie.Need-returns
 unfolding bytes_of
 returns c =
     let a = c.before.before.before.before.before.before.before.args in
-    put_as (table-line a.bytes a.late) c.before.before.put-pair.ensures
+    put_as (table_line_lem a.bytes a.late) c.before.before.put-pair.ensures
 
 pub put-table-line-spec : {M : Type 1} → statement M
 put-table-line-spec =

@@ -13,10 +13,10 @@ abbrev start : tie.After-clear → tie.Start
 start c = c.before.before.before.before.before
 
 cleared : (c : tie.After-clear) →
-    Asked (start c).args.limits (start c).args.book.now (held_windows (start c).args.calendar) (start c).args.x (start c).args.order (start c).args.x.flows [] c.clear.new.0
+    Asked (start c).args.book.now (held_windows (start c).args.calendar) (start c).args.x (start c).args.order (start c).args.x.flows [] c.clear.new.0
 cleared c =
     let p = (start c).requires in
-    asked-cleared _ p.0 _ _ _ _ (start c).args.work.now _ p.1 p.2 p.3 p.4 (omega (arith, p.5)) c.clear.ensures
+    asked-cleared _ _ _ _ (start c).args.work.now _ p.0 p.1 p.2 (omega (arith, p.3)) c.clear.ensures
 
 clear-requires : tie.Need-clear-requires
 clear-requires c κs = search rules
@@ -29,7 +29,7 @@ slice-aggregate-place-first c = search rules
 
 place-first-requires : tie.Need-place-first-requires
 place-first-requires c κs =
-    (_, cleared c.before.before.before.before)
+    cleared c.before.before.before.before
 
 clear-requires-2 : tie.Need-clear-requires-2
 clear-requires-2 c κs = search rules
@@ -45,9 +45,9 @@ returns c =
     let f = c.before.before.before.before.before.before.before.before in
     let m = f.before.before.before.before.before in
     let a = (start m).args in
-    counted a.limits a.book.now (held_windows a.calendar) a.x a.order a.output.now a.work.now _ _ _ _ _ f.place-first.result (cleared m)
+    counted a.book.now (held_windows a.calendar) a.x a.order a.output.now a.work.now _ _ _ _ _ f.place-first.result (cleared m)
     m.clear.ensures
-    (omega arith) (f.place-first.ensures _ (cleared m)) c.before.before.clear2.ensures
+    (omega arith) f.place-first.ensures c.before.before.clear2.ensures
 
 pub count-rows-spec : {M : Type 1} → statement M
 count-rows-spec =

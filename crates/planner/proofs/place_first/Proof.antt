@@ -1,5 +1,5 @@
 -- The maintenance is put into the area, all flows are placed beside it, and it is taken out again. Assumes nothing.
-use Rattle.place.proofs.FlowByFlow.{maintenance-held, asked-beside, wide, reopens_in, shut-room}
+use Rattle.place.proofs.FlowByFlow.{maintenance-held, asked-beside}
 use Rattle.planner.proofs.FirstFlows.{first-placed}
 use native.Mathlib.Omega.{arith}
 use borrow.Author.Rules.{rules}
@@ -17,13 +17,13 @@ abbrev placed : tie.After-set-shut-arg2 → tie.After-place-flows
 placed c = c.before.before.before.before.before
 
 set-shut-requires : tie.Need-set-shut-requires
-set-shut-requires c κs = let p = (start c).requires.1 in (wide p, shut-room p _ (omega arith))
+set-shut-requires c κs = let p = (start c).requires in (p.calendar_in_range, p.long_enough)
 
 place-flows-requires : tie.Need-place-flows-requires
-place-flows-requires c κs = let m = shut c in let p = (start m.before).requires in (p.0, asked-beside p.1 (m.set-shut.ensures _ (reopens_in p.1)) (search rules))
+place-flows-requires c κs = let m = shut c in asked-beside (start m.before).requires m.set-shut.ensures (search rules)
 
 set-shut-requires-2 : tie.Need-set-shut-requires-2
-set-shut-requires-2 c κs = let p = (start (shut (placed c).before).before).requires.1 in (wide p, shut-room p _ (omega arith))
+set-shut-requires-2 c κs = let p = (start (shut (placed c).before).before).requires in (p.calendar_in_range, omega (arith, p.long_enough))
 
 same_length : tie.Need-same-length
 same_length c = search rules
@@ -32,12 +32,12 @@ same-length-2 : tie.Need-same-length-2
 same-length-2 c = search rules
 
 returns : tie.Need-returns
-returns c L p =
+returns c =
     let o = c.before.before in
     let d = placed o.before in
     let m = shut d.before in
-    let set = m.set-shut.ensures _ (reopens_in p) in
-    first-placed _ _ _ _ _ _ _ _ _ _ (wide p) (maintenance-held p set) (d.place-flows.ensures L (asked-beside p set (search rules))) (o.set-shut2.ensures _ (reopens_in p))
+    let p = (start m.before).requires in
+    first-placed _ _ _ _ _ _ _ _ _ p.calendar_in_range (maintenance-held p m.set-shut.ensures) d.place-flows.ensures o.set-shut2.ensures
 
 pub place-first-spec : {M : Type 1} → statement M
 place-first-spec =

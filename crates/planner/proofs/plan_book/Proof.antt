@@ -1,10 +1,8 @@
 -- The readers' verdicts, the test of the work area, and then the plan of a book and a calendar that pass. Assumes nothing.
 use mathlib.Core.Path.{◌≡◌, refl, sym, ◌∙◌}
 use Rattle.rules.specs.declared.Verdict.TheVariants.{Pass}
-use Rattle.rules.specs.Ranges.{mill}
 use Rattle.rules.specs.Calendar.{calendar_fault}
 use Rattle.rules.specs.Reading.{book_fault}
-use Rattle.rules.proofs.Reading.Wider.{fits-within, calendar_wider}
 use Rattle.rules.proofs.Reading.Passing.{calendar-pass_in-range}
 use Rattle.planner.proofs.Outcome.{leaves, call-refused, call-refused-calendar, call-short, leaves_passing}
 use native.Mathlib.Omega.{arith}
@@ -25,10 +23,10 @@ judged c = c.before.before
 abbrev begun : tie.After-enum-told2 → tie.Start
 begun c = start (read (judged c).before)
 
-book-passes : (c : tie.After-enum-told) → book_fault (start (read c)).args.limits (start (read c)).args.book.now ≡ Pass
+book-passes : (c : tie.After-enum-told) → book_fault (start (read c)).args.book.now ≡ Pass
 book-passes c = sym (read c).verdict-of.ensures ∙ c.enum_told.given.1
 
-calendar-passes : (c : tie.After-enum-told2) → calendar_fault (begun c).args.limits (begun c).args.calendar.now ≡ Pass
+calendar-passes : (c : tie.After-enum-told2) → calendar_fault (begun c).args.calendar.now ≡ Pass
 calendar-passes c = sym (judged c).verdict-of2.ensures ∙ c.enum-told2.given.1
 
 verdict-of-requires : tie.Need-verdict-of-requires
@@ -45,7 +43,7 @@ returns c =
     let v = c.before.before in
     let r = v.before.before in
     let a = (start r).args in
-    leaves _ _ _ _ (call-refused a.limits a.book.now a.calendar.now a.output.now a.work.now _ _ _ (sym r.verdict-of.ensures ∙ v.v.given.1))
+    leaves _ _ _ _ (call-refused a.book.now a.calendar.now a.output.now a.work.now _ _ _ (sym r.verdict-of.ensures ∙ v.v.given.1))
     c.refusal.result _ _ c.refusal.ensures refl refl
 
 enum_told : tie.Need-enum-told
@@ -65,7 +63,7 @@ returns-2 c =
     let w = c.before.before in
     let r = w.before.before in
     let a = (start (read r.before)).args in
-    leaves _ _ _ _ (call-refused-calendar a.limits a.book.now a.calendar.now a.output.now a.work.now _ _ _ (book-passes r.before)
+    leaves _ _ _ _ (call-refused-calendar a.book.now a.calendar.now a.output.now a.work.now _ _ _ (book-passes r.before)
     (sym r.verdict-of2.ensures ∙ w.w.given.1)) c.refusal2.result _ _ c.refusal2.ensures refl refl
 
 enum-told-2 : tie.Need-enum-told-2
@@ -76,19 +74,19 @@ refusal-requires-3 c κs = search rules
 
 returns-3 : tie.Need-returns-3
 returns-3 c =
-    let t = c.before.before.before in
+    let t = c.before.before in
     let a = (begun t).args in
-    leaves _ _ _ _ (call-short a.limits a.book.now a.calendar.now a.output.now a.work.now (book-passes (judged t).before) (calendar-passes t)
+    leaves _ _ _ _ (call-short a.book.now a.calendar.now a.output.now a.work.now (book-passes (judged t).before) (calendar-passes t)
     (omega arith)) c.refusal3.result _ _ c.refusal3.ensures refl refl
 
 calendar-of-requires : tie.Need-calendar-of-requires
-calendar-of-requires c κs = let t = c.before.before in let a = begun t in calendar_wider a.args.limits mill (fits-within a.args.limits a.pre) _ (calendar-passes t)
+calendar-of-requires c κs = calendar-passes c.before
 
 plan-passing-requires : tie.Need-plan-passing-requires
 plan-passing-requires c κs =
     let k = c.before.before in
-    let t = k.before.before.before in
-    ((begun t).requires, book-passes (judged t).before, rw k.calendar-of.ensures.windows (calendar-pass_in-range (begun t).args.limits _ (calendar-passes t)), omega arith)
+    let t = k.before.before in
+    (book-passes (judged t).before, rw k.calendar-of.ensures.windows (calendar-pass_in-range _ (calendar-passes t)), omega arith)
 
 same_length : tie.Need-same-length
 same_length c = search rules
@@ -100,9 +98,9 @@ returns-4 : tie.Need-returns-4
 returns-4 c =
     let d = c.before.before.before.before in
     let k = d.before.before.before in
-    let t = k.before.before.before in
+    let t = k.before.before in
     let a = (begun t).args in
-    leaves_passing a.limits a.book.now a.calendar.now a.output.now a.work.now _ (book-passes (judged t).before) (calendar-passes t)
+    leaves_passing a.book.now a.calendar.now a.output.now a.work.now _ (book-passes (judged t).before) (calendar-passes t)
     k.calendar-of.ensures.windows (omega arith) _ _ _ d.plan-passing.ensures
 
 pub plan-book-spec : {M : Type 1} → statement M

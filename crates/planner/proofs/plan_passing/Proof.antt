@@ -1,13 +1,9 @@
 -- 12 where the first placing meets an infeasible flow, and otherwise what the second one leaves. Assumes nothing.
-use Rattle.rules.specs.Ranges.{mill}
 use Rattle.rules.specs.Book.{Book, with_calendar}
 use Rattle.rules.specs.Reading.{book_of}
-use Rattle.rules.proofs.Reading.Wider.{fits-within, book_wider}
 use Rattle.calendar.specs.Held.{held_windows}
-use Rattle.place.specs.Order.{Asked}
 use Rattle.planner.proofs.Outcome.{asked-cleared, sized, leaves-infeasible, leaves_after}
 use native.Mathlib.Omega.{arith}
-use mathlib.Core.List.{[]}
 use borrow.Author.Rules.{rules}
 use Rattle.planner.proofs.plan_passing.Statement.{statement}
 use Rattle.planner.proofs.plan_passing.Tie as tie
@@ -32,7 +28,7 @@ abbrev written : tie.After-write-table → tie.At-match-keys2
 written c = c.before.before.before.before.before
 
 index-of-requires : tie.Need-index-of-requires
-index-of-requires c κs = let b = c.before.before.before in book_wider b.args.limits mill (fits-within b.args.limits b.requires.0) b.args.book.now b.requires.1
+index-of-requires c κs = search rules
 
 service-order-requires : tie.Need-service-order-requires
 service-order-requires c κs = search rules
@@ -49,23 +45,15 @@ refusal-requires c κs = search rules
 enum-known-ended-2 : tie.Need-enum-known-ended-2
 enum-known-ended-2 c = search rules
 
--- the area is cleared where the rows are counted
-cleared : (k : tie.After-count-rows) → let b = start (indexed k) in
-    Asked b.args.limits b.args.book.now (held_windows b.args.calendar) (indexed k).index_of.result k.before.before.before.service-order.result
-    (indexed k).index_of.result.flows [] k.count-rows.new.1.1.0
-cleared k =
-    let i = indexed k in
-    let b = start i in
-    asked-cleared b.args.limits b.pre.0 b.args.book.now _ _ _ b.args.work.now _ b.pre.1 i.index_of.ensures b.pre.2
-    k.before.before.before.service-order.ensures (omega (arith, b.pre.3)) k.count-rows.ensures.area_zero
-
 write-table-requires : tie.Need-write-table-requires
 write-table-requires c κs =
     let t = c.before.before.before in
     let k = plans t.before in
-    let b = start (indexed k) in (
-      (_, cleared k),
-      sized b.args.limits (book_in k) b.args.output.now b.args.work.now _ _ k.count-rows.result k.count-rows.ensures _ t.ended2.given.1,
+    let i = indexed k in
+    let b = start i in (
+      asked-cleared b.args.book.now _ _ _ b.args.work.now _ i.index_of.ensures b.pre.1 k.before.before.before.service-order.ensures
+          (omega (arith, b.pre.2)) k.count-rows.ensures.area_zero,
+      sized (book_in k) b.args.output.now b.args.work.now _ _ k.count-rows.result k.count-rows.ensures _ t.ended2.given.1,
     )
 
 same_length : tie.Need-same-length
@@ -78,7 +66,7 @@ returns : tie.Need-returns
 returns c =
     let k = tells c.before.before.before in
     let a = (start (indexed k)).args in
-    leaves-infeasible a.limits (book_in k) a.output.now a.work.now _ _ k.count-rows.result k.count-rows.ensures _ c.refusal.result
+    leaves-infeasible (book_in k) a.output.now a.work.now _ _ k.count-rows.result k.count-rows.ensures _ c.refusal.result
     c.before.before.ended.given.1 c.refusal.ensures
 
 same-length-3 : tie.Need-same-length-3
@@ -92,7 +80,7 @@ returns-2 c =
     let t = c.before.before.before.before in
     let k = plans (written t) in
     let a = (start (indexed k)).args in
-    leaves_after a.limits (book_in k) a.output.now a.work.now _ _ k.count-rows.result k.count-rows.ensures _ _ _ (t.write-table.ensures _ (cleared k))
+    leaves_after (book_in k) a.output.now a.work.now _ _ k.count-rows.result k.count-rows.ensures _ _ _ t.write-table.ensures
 
 pub plan-passing-spec : {M : Type 1} → statement M
 plan-passing-spec =

@@ -26,10 +26,10 @@ refusal-requires : tie.Need-refusal-requires
 refusal-requires c κs = search rules
 
 returns : tie.Need-returns
-returns c L h =
+returns c =
     let b = c.before.before.before.before.before in
     let a = b.args in
-    leaves-longer L a.book.now _ a.x a.order a.size a.output.now a.work.now h b.requires.1 c.before.if1.true
+    leaves-longer a.book.now _ a.x a.order a.size a.output.now a.work.now b.requires.0 b.requires.1 c.before.if1.true
     c.refusal.result c.refusal.ensures
 
 place-first-requires : tie.Need-place-first-requires
@@ -39,13 +39,13 @@ put-finishes-requires : tie.Need-put-finishes-requires
 put-finishes-requires c κs =
     let b = start (fits c.before.before.before.before.before.before) in
     let a = b.args in
-    (few_flows b.pre.0.1, omega (arith, head-within _ a.book.now _ a.x a.order a.size a.output.now a.work.now b.pre.0.1 b.pre.1))
+    (few_flows b.pre.0, omega (arith, head-within a.book.now _ a.x a.order a.size a.output.now a.work.now b.pre.0 b.pre.1))
 
 cast-put-head : tie.Need-overflow-cast-put-head
 cast-put-head c = omega (arith, (start (fits (placed (finished c)))).requires.1.size_most)
 
 cast-put-head-2 : tie.Need-overflow-cast-put-head-2
-cast-put-head-2 c = omega (arith, few_flows (start (fits (placed (finished c)))).requires.0.1)
+cast-put-head-2 c = omega (arith, few_flows (start (fits (placed (finished c)))).requires.0)
 
 put-head-requires : tie.Need-put-head-requires
 put-head-requires c κs =
@@ -57,12 +57,12 @@ put-head-requires c κs =
       arith,
       e.if1.left,
       d.place-first.kept.1.0,
-      head-within _ a.book.now _ a.x a.order a.size a.output.now a.work.now
-          b.pre.0.1 b.pre.1,
+      head-within a.book.now _ a.x a.order a.size a.output.now a.work.now
+          b.pre.0 b.pre.1,
     )
 
 late-flows-requires : tie.Need-late-flows-requires
-late-flows-requires c κs = few_flows (start (fits (placed (finished c.before.before.before)))).requires.0.1
+late-flows-requires c κs = few_flows (start (fits (placed (finished c.before.before.before)))).requires.0
 
 cast-length : tie.Need-overflow-cast-t24
 cast-length c = omega (arith, (start (fits (placed (finished (headed c).before)))).requires.1.size_most)
@@ -74,15 +74,15 @@ same-length-2 : tie.Need-same-length-2
 same-length-2 c = search rules
 
 returns-2 : tie.Need-returns-2
-returns-2 c L asked =
+returns-2 c =
     let h = headed c in
     let q = finished h.before in
     let d = placed q in
     let e = fits d in
     let b = start e in
     let a = b.args in
-    leaves-written L a.book.now _ a.x a.order a.size a.output.now a.work.now asked b.pre.1 _ _ _ _ _ _ e.if1.left
-    (d.place-first.ensures L asked)
+    leaves-written a.book.now _ a.x a.order a.size a.output.now a.work.now b.pre.0 b.pre.1 _ _ _ _ _ _ e.if1.left
+    d.place-first.ensures
     q.put-finishes.ensures h.put-head.ensures c.late_flows_is.ensures
 
 pub write-table-spec : {M : Type 1} → statement M

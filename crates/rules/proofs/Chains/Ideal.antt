@@ -11,7 +11,6 @@ use lib.ListN.{get_or, length, length-append, get_or-append}
 use lib.Seq.{get_or_at}
 use lib.Dec.{ltb, leb, eqb}
 use borrow.Author.Tests.{lt-ltb, le-ltb, le-leb, lt-leb, eq-eqb, ne_eqb}
-use Rattle.rules.specs.declared.Limits.{Limits}
 use Rattle.rules.specs.Walks.{if◌then◌else◌, sum_to, max_to}
 use Rattle.rules.specs.Book.{Job, Flow, job_count, job_of, precedes, FlowInRange}
 use Rattle.rules.specs.Ideal.{quotient_up, duration, last_take, start_after, ends_below, start_of, end_of, path, take_of}
@@ -23,8 +22,8 @@ pub record Sized (w : Flow) : Type 0 where
   pub size_positive : (i : ℕ) → i < job_count w → 1 ≤ (job_of w i).size
   pub cap_positive : (i : ℕ) → i < job_count w → 1 ≤ (job_of w i).cap
 
-pub in-range-sized : (L : Limits) {P : ℕ} {w : Flow} → FlowInRange L P w → Sized w
-in-range-sized L r = record { size_positive = λ i l. (r.each_job i l).size_least; cap_positive = λ i l. (r.each_job i l).cap_least }
+pub in-range-sized : {P : ℕ} {w : Flow} → FlowInRange P w → Sized w
+in-range-sized r = record { size_positive = λ i l. (r.each_job i l).size_least; cap_positive = λ i l. (r.each_job i l).cap_least }
 
 -- ---- ends and starts
 module _ (w : Flow) where

@@ -8,9 +8,8 @@ use mathlib.Core.List.{List, ◌++◌}
 use native.Mathlib.Omega.{arith}
 use lib.ListN.{length, length-append, get_or-append}
 use lib.Seq.{take-append_seam}
-use Rattle.rules.specs.declared.Limits.{Limits}
 use Rattle.rules.specs.Walks.{bit, count_to, join_from}
-use Rattle.rules.specs.Ranges.{Fits}
+use Rattle.rules.specs.Limits.{work_bytes}
 use Rattle.rules.specs.Book.{Flow, Book, flow_count, no_flow, flow_in, lower_caps, flow_of}
 use Rattle.rules.specs.Reading.{read}
 use Rattle.rules.specs.Service.{served_before, served_at, position}
@@ -84,9 +83,9 @@ module _ (b : Book) (more : List Flow)
       go (planned rows) =
           ap (λ f. place_flow longer f rows) (same_at n l) ∙ place_same longer b refl refl (served_at b n) (same_flow (served_at b n) (service-below b n l)) rows
 
-  same_finish : (L : Limits) (f : ℕ) → f < flow_count b → (area : List ℕ) → finish_reading L f area (read longer) ≡ finish_reading L f area (read b)
+  same_finish : (f : ℕ) → f < flow_count b → (area : List ℕ) → finish_reading f area (read longer) ≡ finish_reading f area (read b)
   unfolding finish_reading
-  same_finish L f l area = rw (same-position f l, same_places (suc (position b f)) (position_below b f l)) refl
+  same_finish f l area = rw (same-position f l, same_places (suc (position b f)) (position_below b f l)) refl
 
   same-flow_at : (n : ℕ) → n < flow_count b → served_flow longer n ≡ served_flow b n
   same-flow_at n l = ap (flow_of longer) (same_at n l) ∙ same_flow (served_at b n) (service-below b n l)
@@ -151,67 +150,67 @@ module _ (b : Book) (more : List Flow)
     table_no-longer = omega (arith, ap (λ rs. length rs) p.stand-first, length-append p.earlier p.rest, longer-count)
 
 -- ---- the calls
-module _ (L : Limits) (fit : Fits L) (book longer-book calendar : List ℕ) (b : Book) (more : List Flow) (a : Appended L book longer-book calendar b more) where
-  accepted-plan : (out area : List ℕ) → (plan_call L longer-book calendar out area).answer.number ≡ 0 → PlannedBefore b more a.all_later (rows_of (plan (appended b more)))
+module _ (book longer-book calendar : List ℕ) (b : Book) (more : List Flow) (a : Appended book longer-book calendar b more) where
+  accepted-plan : (out area : List ℕ) → (plan_call longer-book calendar out area).answer.number ≡ 0 → PlannedBefore b more a.all_later (rows_of (plan (appended b more)))
   unfolding PlansByTheRules
   accepted-plan out area z =
       planned-before b more a.all_later (rows_of (plan (appended b more)))
-      (plans_by_the_rules L longer-book calendar out area (appended b more) a.longer_reads z).all_placed
+      (plans_by_the_rules longer-book calendar out area (appended b more) a.longer_reads z).all_placed
 
-  keeps_table : (out area out' area' : List ℕ) → (plan_call L book calendar out area).answer.number ≡ 0 → (plan_call L longer-book calendar out' area').answer.number ≡ 0 →
-      KeepsTable b more (plan_call L book calendar out area) (plan_call L longer-book calendar out' area')
+  keeps_table : (out area out' area' : List ℕ) → (plan_call book calendar out area).answer.number ≡ 0 → (plan_call longer-book calendar out' area').answer.number ≡ 0 →
+      KeepsTable b more (plan_call book calendar out area) (plan_call longer-book calendar out' area')
   unfolding PlansByTheRules
   keeps_table out area out' area' z z' =
       let long = appended b more in
       let p = accepted-plan out' area' z' in
       let same : rows_of (plan b) ≡ p.earlier = ap rows_of p.placed in
-      let rows : table_rows b (table_of (plan_call L book calendar out area)) ≡ p.earlier = written-rows L fit book calendar out area b a.reads z ∙ same in
-      let rows' : table_rows long (table_of (plan_call L longer-book calendar out' area')) ≡ p.earlier ++ p.rest =
-      written-rows L fit longer-book calendar out' area' long a.longer_reads z' ∙ p.stand-first in
+      let rows : table_rows b (table_of (plan_call book calendar out area)) ≡ p.earlier = written-rows book calendar out area b a.reads z ∙ same in
+      let rows' : table_rows long (table_of (plan_call longer-book calendar out' area')) ≡ p.earlier ++ p.rest =
+      written-rows longer-book calendar out' area' long a.longer_reads z' ∙ p.stand-first in
       record {
         rows_first = rw (rows, rows') (take-append_seam p.earlier p.rest);
         finishes_first = λ f l.
-            written-finish L fit longer-book calendar out' area' long a.longer_reads z' f (omega (arith, l, longer-count b more a.all_later)) ∙ p.finishes f l
-            ∙ sym (written-finish L fit book calendar out area b a.reads z f l ∙ ap (λ rs. finish_of rs f) same);
+            written-finish longer-book calendar out' area' long a.longer_reads z' f (omega (arith, l, longer-count b more a.all_later)) ∙ p.finishes f l
+            ∙ sym (written-finish book calendar out area b a.reads z f l ∙ ap (λ rs. finish_of rs f) same);
         late_still =
             omega (
               arith,
-              (plans_by_the_rules L book calendar out area b a.reads z).late_flows_is,
+              (plans_by_the_rules book calendar out area b a.reads z).late_flows_is,
               ap (late_flows b) same,
-              (plans_by_the_rules L longer-book calendar out' area' long a.longer_reads z').late_flows_is,
+              (plans_by_the_rules longer-book calendar out' area' long a.longer_reads z').late_flows_is,
               late_no-fewer b more a.all_later (rows_of (plan long)) p,
             );
       }
 
-  accepted_before : (out area out' area' : List ℕ) → (plan_call L longer-book calendar out' area').answer.number ≡ 0 → length out' ≤ length out → L.bytes ≤ length area →
-      (plan_call L book calendar out area).answer.number ≡ 0
+  accepted_before : (out area out' area' : List ℕ) → (plan_call longer-book calendar out' area').answer.number ≡ 0 → length out' ≤ length out → work_bytes ≤ length area →
+      (plan_call book calendar out area).answer.number ≡ 0
   accepted_before out area out' area' z l h =
       let long = appended b more in
       let p = accepted-plan out' area' z in
-      let enough = plan-number_0 L (call_case L longer-book calendar out' area' long a.longer_reads) z in
+      let enough = plan-number_0 (call_case longer-book calendar out' area' long a.longer_reads) z in
       ap (λ o. o.answer.number)
-      (call_plans L book calendar out area b a.reads h
-      ∙ outcome-written L b out area p.earlier p.placed (omega (arith, l, enough, table_no-longer b more a.all_later (rows_of (plan long)) p)))
+      (call_plans book calendar out area b a.reads h
+      ∙ outcome-written b out area p.earlier p.placed (omega (arith, l, enough, table_no-longer b more a.all_later (rows_of (plan long)) p)))
 
-  infeasible_still : (out area out' area' : List ℕ) → (plan_call L book calendar out area).answer.number ≡ 12 → L.bytes ≤ length area' →
-      (plan_call L longer-book calendar out' area').answer ≡ (plan_call L book calendar out area).answer
+  infeasible_still : (out area out' area' : List ℕ) → (plan_call book calendar out area).answer.number ≡ 12 → work_bytes ≤ length area' →
+      (plan_call longer-book calendar out' area').answer ≡ (plan_call book calendar out area).answer
   infeasible_still out area out' area' z h =
       let long = appended b more in
-      let w = plan-number_12 L (call_case L book calendar out area b a.reads) z in
+      let w = plan-number_12 (call_case book calendar out area b a.reads) z in
       ap (λ o. o.answer)
-      (call_plans L longer-book calendar out' area' long a.longer_reads h
-      ∙ outcome-infeasible L long out' area' w.0 (still-infeasible b more a.all_later w.0 w.1))
+      (call_plans longer-book calendar out' area' long a.longer_reads h
+      ∙ outcome-infeasible long out' area' w.0 (still-infeasible b more a.all_later w.0 w.1))
       ∙ ap (λ o. o.answer) (sym w.2)
 
-pub appends : (L : Limits) → Fits L → Appends L
+pub appends : Appends
 unfolding Appends
-appends L fit book longer-book calendar b more a = record {
-  keeps_table = keeps_table L fit book longer-book calendar b more a;
-  accepted_before = accepted_before L fit book longer-book calendar b more a;
-  infeasible_still = infeasible_still L fit book longer-book calendar b more a;
+appends book longer-book calendar b more a = record {
+  keeps_table = keeps_table book longer-book calendar b more a;
+  accepted_before = accepted_before book longer-book calendar b more a;
+  infeasible_still = infeasible_still book longer-book calendar b more a;
   same_finish = λ f l area.
-      finish-read L fit longer-book calendar (appended b more) a.longer_reads f (omega (arith, l, longer-count b more a.all_later)) area
-      ∙ same_finish b more a.all_later L f l area
-      ∙ sym (finish-read L fit book calendar b a.reads f l area);
+      finish-read longer-book calendar (appended b more) a.longer_reads f (omega (arith, l, longer-count b more a.all_later)) area
+      ∙ same_finish b more a.all_later f l area
+      ∙ sym (finish-read book calendar b a.reads f l area);
   same_quote = same_quote b more a.all_later;
 }

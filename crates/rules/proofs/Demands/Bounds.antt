@@ -6,9 +6,7 @@ use mathlib.Core.List.{List}
 use native.Mathlib.Omega.{arith}
 use lib.ListN.{length}
 use Rattle.rules.specs.declared.Verdict.TheVariants.{Pass}
-use Rattle.rules.specs.declared.Limits.{Limits}
 use Rattle.rules.specs.Walks.{sum_to}
-use Rattle.rules.specs.Ranges.{Fits}
 use Rattle.rules.specs.Book.{Book, InRange, flow_count, job_count, flow_of, job_of}
 use Rattle.rules.specs.Rows.{Row, total_of}
 use Rattle.rules.specs.Table.{table_length, table_bytes}
@@ -28,11 +26,11 @@ use Rattle.rules.proofs.Placing.PlannedTable.{planned-rows_are-schedule_rows}
 use Rattle.rules.proofs.Placing.PlannedValid.{planned-valid, planned_in-slots}
 
 -- rows that pass the check are no more than all sizes added
-module _ (L : Limits) (b : Book) (range : InRange L b) (rows : List Row) (pass : RowsPass L b rows) where
+module _ (b : Book) (range : InRange b) (rows : List Row) (pass : RowsPass b rows) where
   rows-within-sizes : length rows ≤ sizes_of b
   unfolding sizes_of
   rows-within-sizes =
-      let is_row = passing-is_row L b range rows pass in
+      let is_row = passing-is_row b range rows pass in
       omega (
         arith,
         rows_most rows (λ r m. (is_row r m).takes),
@@ -42,19 +40,19 @@ module _ (L : Limits) (b : Book) (range : InRange L b) (rows : List Row) (pass :
       )
 
 -- so a table without a fault is no longer
-table-within : (L : Limits) (b : Book) → InRange L b → (s : List ℕ) → table_fault L b s ≡ Pass → length s ≤ 8 + 2 * flow_count b + 6 * sizes_of b
+table-within : (b : Book) → InRange b → (s : List ℕ) → table_fault b s ≡ Pass → length s ≤ 8 + 2 * flow_count b + 6 * sizes_of b
 unfolding table_length
-table-within L b range s pass =
-    let p = table_passes b s L pass in
-    omega (arith, rows-within-sizes L b range (table_rows b s) p.rows_pass, tables-length b s (head_passes b s p.head_passes))
+table-within b range s pass =
+    let p = table_passes b s pass in
+    omega (arith, rows-within-sizes b range (table_rows b s) p.rows_pass, tables-length b s (head_passes b s p.head_passes))
 
-pub bounds : (L : Limits) → Fits L → Bounds L
-bounds L fit = record {
-  pseudo_jobs = λ book calendar b reads f l. chain_length (flow_of b f) (in-range-sized L (used_in-range L (read_in-range L book calendar b reads) f l));
+pub bounds : Bounds
+bounds = record {
+  pseudo_jobs = λ book calendar b reads f l. chain_length (flow_of b f) (in-range-sized (used_in-range (read_in-range book calendar b reads) f l));
   table_most = λ book calendar b reads rows e.
-      let range = read_in-range L book calendar b reads in
-      let passes = rows-accepted L fit b range rows (planned-rows_are-schedule_rows L fit b range rows e) (planned-valid L fit b range rows e) (planned_in-slots L fit b range rows e) in
-      omega (arith, table-within L b range (table_bytes b rows) passes.0, table-bytes-length b rows);
+      let range = read_in-range book calendar b reads in
+      let passes = rows-accepted b range rows (planned-rows_are-schedule_rows b range rows e) (planned-valid b range rows e) (planned_in-slots b range rows e) in
+      omega (arith, table-within b range (table_bytes b rows) passes.0, table-bytes-length b rows);
   accepted_most = λ book calendar table area b reads z.
-      table-within L b (read_in-range L book calendar b reads) table (call-accepts L book calendar table area b reads z).0;
+      table-within b (read_in-range book calendar b reads) table (call-accepts book calendar table area b reads z).0;
 }

@@ -8,9 +8,7 @@ use mathlib.Core.List.{List, []}
 use lib.Dec.{leb}
 use borrow.Author.Tests.{leb-false}
 use Rattle.rules.specs.declared.Verdict.TheVariants.{Pass, Refused}
-use Rattle.rules.specs.declared.Limits.{Limits}
 use Rattle.rules.specs.Answers.{none, check_refused}
-use Rattle.rules.specs.Ranges.{Fits}
 use Rattle.rules.specs.Calendar.{Calendar, is_open, calendar_fault}
 use Rattle.rules.specs.Book.{Flow, Book, with_calendar, flow_in, flow_of, usable}
 use Rattle.rules.specs.Reading.{book_of, book_fault, read_book}
@@ -27,15 +25,15 @@ use Rattle.rules.proofs.Reading.Passing.{read_in-range}
 use Rattle.rules.proofs.Reading.Caps.{used_in-range}
 
 -- ---- 24
-by_24 : (L : Limits) (calendar : List ℕ) (n f j : ℕ) → calendar_fault L calendar ≡ Refused n f j → (n ≡ 24) × ((f ≡ none) × (j ≡ none))
-by_24 L calendar n f j e =
-    ⊎_elim (λ p. not-pass n f j (sym e ∙ p)) (λ r. let q : Refused n f j ≡ Refused 24 none none = sym e ∙ r in (cc, (cc, cc))) (calendar-either L calendar)
+by_24 : (calendar : List ℕ) (n f j : ℕ) → calendar_fault calendar ≡ Refused n f j → (n ≡ 24) × ((f ≡ none) × (j ≡ none))
+by_24 calendar n f j e =
+    ⊎_elim (λ p. not-pass n f j (sym e ∙ p)) (λ r. let q : Refused n f j ≡ Refused 24 none none = sym e ∙ r in (cc, (cc, cc))) (calendar-either calendar)
 
 -- "before 11", here and in the other calls: whatever work area is lent
-check_24 : (L : Limits) (book calendar table area : List ℕ) → book_fault L book ≡ Pass → calendar_fault L calendar ≡ Refused 24 none none →
-    check_call L book calendar table area ≡ record { answer = check_refused 24 none none; area = area }
+check_24 : (book calendar table area : List ℕ) → book_fault book ≡ Pass → calendar_fault calendar ≡ Refused 24 none none →
+    check_call book calendar table area ≡ record { answer = check_refused 24 none none; area = area }
 unfolding check_call check_reading read_book
-check_24 L book calendar table area e d = rw (e, d) refl
+check_24 book calendar table area e d = rw (e, d) refl
 
 -- ---- validity: a schedule that keeps the rules with one calendar keeps them with another where it keeps to the slots that are usable then
 job_with_lem : (c d : Calendar) (b : Book) (among : ℕ → Bool) (f i : ℕ) → IsJob (with_calendar c b) among f i → IsJob (with_calendar d b) among f i
@@ -86,26 +84,26 @@ valid_with c b among σ v keeps =
     λ u. v.in_usable f i t (job_with_lem c [] b among f i j) (unfold flow_of flow_in in u) in
     ⊎_elim (keeps f i t j) late (unusable c b (flow_of (with_calendar c b) f) t e))
 
-pub calendars : (L : Limits) → Calendars L
+pub calendars : Calendars
 unfolding read_book plan_call plan_reading dispatch_call dispatch_checked
-calendars L = record {
-  by_24 = by_24 L;
+calendars = record {
+  by_24 = by_24;
   book_first = λ book calendar n f j e. rw e refl;
   plan_24 = λ book calendar out area e d. rw (e, d) refl;
-  check_24 = check_24 L;
+  check_24 = check_24;
   dispatch_24 = λ book calendar table out area e d.
-      ap (dispatch_checked L (book_of book) (table_rows (book_of book) table) out area) (check_24 L book calendar table area e d);
+      ap (dispatch_checked (book_of book) (table_rows (book_of book) table) out area) (check_24 book calendar table area e d);
   valid_open = valid_open;
   valid_without = valid_without;
   valid_with = valid_with;
 }
 
 -- ---- rule 6's limit
-pub limit_by_rule : (L : Limits) → Fits L → LimitByRule L
+pub limit_by_rule : LimitByRule
 unfolding LimitByRule
-limit_by_rule L fit book calendar b e f l =
-    let range = read_in-range L book calendar b e in
+limit_by_rule book calendar b e f l =
+    let range = read_in-range book calendar b e in
     record {
-      so_many = limit-count L fit b (flow_of b f) range.calendar_in_range (used_in-range L range f l).deadline_most;
+      so_many = limit-count b (flow_of b f) range.calendar_in_range (used_in-range range f l).deadline_most;
       none_earlier = limit-not_yet b (flow_of b f);
     }

@@ -9,9 +9,7 @@ use mathlib.Core.Bool.{true}
 use mathlib.Core.List.{List, []}
 use native.Mathlib.Nat.{le_trans, le_of_lt, lt-suc_self, div-le_of_le-mul}
 use native.Mathlib.Omega.{arith}
-use Rattle.rules.specs.declared.Limits.{Limits}
 use Rattle.rules.specs.Walks.{sum_to, count_to}
-use Rattle.rules.specs.Ranges.{Fits}
 use Rattle.rules.specs.Calendar.{is_open, open_before}
 use Rattle.rules.specs.Book.{Flow, Book, flow_count, job_count, flow_of, usable, twice_deadline, InRange}
 use Rattle.rules.specs.Ideal.{path}
@@ -54,7 +52,7 @@ work_of-sizes : (w : Flow) → Sized w → work_of w ≡ flow_work w
 unfolding work_of flow_work
 work_of-sizes w sized = chain-works w sized
 
-module _ (L : Limits) (fit : Fits L) (b : Book) (range : InRange L b) where
+module _ (b : Book) (range : InRange b) where
   -- so the quote of that flow is
   quote-served : (n : ℕ) → n < flow_count b →
       quote b (served_at b n) ≡ open_before b.calendar (served_flow b n).release + path (served_flow b n) + works_up_to (served_flow b) (suc n) / b.processors
@@ -62,7 +60,7 @@ module _ (L : Limits) (fit : Fits L) (b : Book) (range : InRange L b) where
   quote-served n l =
       ap (λ m. open_before b.calendar (served_flow b n).release + path (served_flow b n) + m / b.processors)
       (work-served b n l
-      ∙ sum_ext (λ k. work_of (served_flow b k)) (λ k. flow_work (served_flow b k)) (suc n) (λ k h. work_of-sizes (served_flow b k) (sized-at L fit b range k (omega arith))))
+      ∙ sum_ext (λ k. work_of (served_flow b k)) (λ k. flow_work (served_flow b k)) (suc n) (λ k h. work_of-sizes (served_flow b k) (sized-at b range k (omega arith))))
 
   -- ---- a flow that is placed
   -- while work is left, fewer open slots have passed
@@ -73,8 +71,8 @@ module _ (L : Limits) (fit : Fits L) (b : Book) (range : InRange L b) where
         arith,
         quote-served n below,
         count-usable b (served_flow b n) t,
-        quote_bound b.processors n (served_flow b) (λ m. usable b (served_flow b m)) (free_for b n) (used_in earlier) (sized-at L fit b range n below)
-            (free-or-used L fit b range n earlier e) (used-within-work L fit b range n earlier (omega arith) e) range.processors_least t left,
+        quote_bound b.processors n (served_flow b) (λ m. usable b (served_flow b m)) (free_for b n) (used_in earlier) (sized-at b range n below)
+            (free-or-used b range n earlier e) (used-within-work b range n earlier (omega arith) e) range.processors_least t left,
       )
 
   module _ (k : ℕ) (rows : List Row) (h : k ≤ flow_count b) (e : place_first b k ≡ planned rows) (n : ℕ) (l : n < k) where
@@ -83,7 +81,7 @@ module _ (L : Limits) (fit : Fits L) (b : Book) (range : InRange L b) where
       where
         go : (0 < units_left_at (served_flow b n) (free_for b n) t) ⊎ (units_left_at (served_flow b n) (free_for b n) t ≤ 0) → (progress (served_flow b n) (free_for b n) t).left ≡ []
         go (inl left) = let p = placed-earlier b k rows e n l in absurd (omega (arith, before-quote n p.0 (omega arith) p.1 t left))
-        go (inr none) = nothing_left (served_flow b n) (free_for b n) (chain_live (served_flow b n) (sized-at L fit b range n (omega arith))) t (omega arith)
+        go (inr none) = nothing_left (served_flow b n) (free_for b n) (chain_live (served_flow b n) (sized-at b range n (omega arith))) t (omega arith)
 
     ends_by-quote : (d : ℕ) → quote b (served_at b n) ≤ open_before b.calendar d → EndsBy (schedule_of rows) (served_at b n) d
     unfolding EndsBy
@@ -101,7 +99,7 @@ module _ (L : Limits) (fit : Fits L) (b : Book) (range : InRange L b) where
     served-within-quote : WithinQuote b (served_at b n) (finish_of rows (served_at b n))
     served-within-quote =
         first-within (finish_of rows (served_at b n))
-        (λ d q. first-finish-least L fit b range k rows h e (served_at b n) d (ends_by-quote d q))
+        (λ d q. first-finish-least b range k rows h e (served_at b n) d (ends_by-quote d q))
       where
         first-within : (t : ℕ) → ((d : ℕ) → quote b (served_at b n) ≤ open_before b.calendar d → t ≤ d) → open_before b.calendar t ≤ quote b (served_at b n)
         first-within zero ends = omega (arith, open_none b.calendar)
@@ -117,19 +115,19 @@ module _ (L : Limits) (fit : Fits L) (b : Book) (range : InRange L b) where
   finish-within-quote k rows h e f l c = subst (λ g. WithinQuote b g (finish_of rows g)) (served-position b f l) (served-within-quote k rows h e (position b f) c)
 
   planned-within-quote : (rows : List Row) → plan b ≡ planned rows → (f : ℕ) → f < flow_count b → WithinQuote b f (finish_of rows f)
-  planned-within-quote rows e f l = finish-within-quote (flow_count b) rows (omega arith) (all_placed L fit b range rows e) f l (position_below b f l)
+  planned-within-quote rows e f l = finish-within-quote (flow_count b) rows (omega arith) (all_placed b range rows e) f l (position_below b f l)
 
   -- ---- a schedule that is on time
   served-within-twice : (n : ℕ) → n < flow_count b → (σ : Schedule) → Valid b (up_to b (served_at b n)) σ →
       ((g : ℕ) → g < flow_count b → up_to b (served_at b n) g ≡ true → EndsBy σ g (flow_of b g).deadline) → quote b (served_at b n) ≤ twice_deadline b (served_flow b n)
   unfolding twice_deadline open_before
   served-within-twice n l σ valid on-time =
-      let on = sequence-on_time L fit b range n (served_at b n) l refl σ valid on-time in
+      let on = sequence-on_time b range n (served_at b n) l refl σ valid on-time in
       let inside : (m t : ℕ) → m < suc n → usable b (served_flow b m) t ≡ true → is_open b.calendar t ≡ true = λ m t h. usable_open b (served_flow b m) t in
       let order : (m : ℕ) → m < n → (served_flow b m).deadline ≤ (served_flow b n).deadline = λ m h. service-deadlines b m n (omega arith) l in
       let path-on-time : path (served_flow b n) ≤ count_to (usable b (served_flow b n)) (served_flow b n).deadline =
       path-fits b.processors n (served_flow b) (λ m. usable b (served_flow b m)) (is_open b.calendar) (λ m. (served_flow b m).deadline) inside order
-      (λ m. σ (served_at b m)) on (sized-at L fit b range n l) in
+      (λ m. σ (served_at b m)) on (sized-at b range n l) in
       let area-on-time : works_up_to (served_flow b) (suc n) ≤ b.processors * count_to (is_open b.calendar) (served_flow b n).deadline =
       area-fits b.processors n (served_flow b) (λ m. usable b (served_flow b m)) (is_open b.calendar) (λ m. (served_flow b m).deadline) inside order
       (λ m. σ (served_at b m)) on in
@@ -139,7 +137,7 @@ module _ (L : Limits) (fit : Fits L) (b : Book) (range : InRange L b) where
         path-on-time,
         div-le_of_le-mul b.processors area-on-time,
         count-usable b (served_flow b n) (served_flow b n).deadline,
-        open_mono b.calendar (le_of_lt (range_at L fit b range n l).release_below),
+        open_mono b.calendar (le_of_lt (range_at b range n l).release_below),
       )
 
   quote_within_twice : (f : ℕ) → f < flow_count b → (σ : Schedule) → Valid b (up_to b f) σ →
@@ -148,19 +146,19 @@ module _ (L : Limits) (fit : Fits L) (b : Book) (range : InRange L b) where
       subst (λ f. (σ : Schedule) → Valid b (up_to b f) σ → ((g : ℕ) → g < flow_count b → up_to b f g ≡ true → EndsBy σ g (flow_of b g).deadline) → quote b f ≤ twice_deadline b (flow_of b f))
       (served-position b f l) (served-within-twice (position b f) (position_below b f l))
 
-pub quotes : (L : Limits) → Fits L → Quotes L
+pub quotes : Quotes
 unfolding PlansByTheRules work_up_to
-quotes L fit = record {
+quotes = record {
   in_table = λ book calendar out area b reads z f l.
-      subst (WithinQuote b f) (sym (written-finish L fit book calendar out area b reads z f l))
-      (planned-within-quote L fit b (read_in-range L book calendar b reads) (rows_of (plan b)) (plans_by_the_rules L book calendar out area b reads z).all_placed f l);
+      subst (WithinQuote b f) (sym (written-finish book calendar out area b reads z f l))
+      (planned-within-quote b (read_in-range book calendar b reads) (rows_of (plan b)) (plans_by_the_rules book calendar out area b reads z).all_placed f l);
   in_rows = λ book calendar out area b reads z.
-      planned-within-quote L fit b (read_in-range L book calendar b reads) (rows_of (plan b)) (plan-number_13 L (call_case L book calendar out area b reads) z).0;
+      planned-within-quote b (read_in-range book calendar b reads) (rows_of (plan b)) (plan-number_13 (call_case book calendar out area b reads) z).0;
   answered = λ book calendar area f b reads.
-      answered-holds L fit book calendar b reads f (WithinQuote b f)
-      (λ l rows e. finish-within-quote L fit b (read_in-range L book calendar b reads) (suc (position b f)) rows (position_below b f l) e f l (lt-suc_self (position b f))) area;
+      answered-holds book calendar b reads f (WithinQuote b f)
+      (λ l rows e. finish-within-quote b (read_in-range book calendar b reads) (suc (position b f)) rows (position_below b f l) e f l (lt-suc_self (position b f))) area;
   work_up_to_is = λ b. sum-up_to b (λ g. work_of (flow_of b g));
   work_is_sizes = λ book calendar b reads f l.
-      (unfold flow_work in work_of-sizes (flow_of b f) (in-range-sized L (used_in-range L (read_in-range L book calendar b reads) f l)));
-  quote_within_twice = λ book calendar b reads. quote_within_twice L fit b (read_in-range L book calendar b reads);
+      (unfold flow_work in work_of-sizes (flow_of b f) (in-range-sized (used_in-range (read_in-range book calendar b reads) f l)));
+  quote_within_twice = λ book calendar b reads. quote_within_twice b (read_in-range book calendar b reads);
 }

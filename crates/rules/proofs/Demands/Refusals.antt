@@ -12,11 +12,10 @@ use lib.Dec.{ltb, leb, eqb}
 use borrow.Author.Tests.{leb-true, eqb-true, lt-leb, ne_eqb, le-ltb, lt-ltb}
 use Rattle.rules.specs.declared.Verdict.{Verdict}
 use Rattle.rules.specs.declared.Verdict.TheVariants.{Pass, Refused}
-use Rattle.rules.specs.declared.Limits.{Limits}
 use Rattle.rules.specs.Walks.{if◌then◌else◌, any_to}
 use Rattle.rules.specs.Fields.{byte, field}
 use Rattle.rules.specs.Answers.{none, ◌and_then◌, first_fault, plan_refused, check_refused, number_of}
-use Rattle.rules.specs.Ranges.{outside, most_processors, most_jobs, most_size, most_cap, most_windows}
+use Rattle.rules.specs.Limits.{outside, most_processors, most_flows, most_deadline, most_jobs, most_size, most_cap, most_windows, slots, work_bytes}
 use Rattle.rules.specs.Calendar.{is_open, calendar_head, window_length, window_fault, calendar_fault}
 use Rattle.rules.specs.Book.{Book, flow_count, job_count, flow_of, job_of}
 use Rattle.rules.specs.Reading.{book_head, version_of, flow_head, job_record, release_at, jobs_at, flow_start, job_start, flow_head_fault, job_fault, flow_fault, leftover_fault, book_fault, book_with, Reading, read, unread, reading_of, read_book, book_verdict}
@@ -60,11 +59,11 @@ module _ (these : ℕ → Bool) where
   numbered-first g (suc n) h = numbered_then (first_fault g n) (g n) (numbered-first g n h) (h n)
 
 -- ---- "1 to 4 .. Then come the flows: 5, 6, 7 for the head, and 5, 8, 9, 10 for each job"; 22 "directly after 6" (02, Req 01)
-flow-head_numbered : (L : Limits) (s : List ℕ) (f at : ℕ) → Numbered by_eleven (flow_head_fault L s f at)
+flow-head_numbered : (s : List ℕ) (f at : ℕ) → Numbered by_eleven (flow_head_fault s f at)
 unfolding flow_head_fault
-flow-head_numbered L s f at =
+flow-head_numbered s f at =
     numbered_test by_eleven (ltb (length s) (at + flow_head (version_of s))) 5 f none _ (omega arith, refl)
-    (numbered_test by_eleven (outside 1 L.deadline (field 2 s at)) 6 f none _ (omega arith, refl)
+    (numbered_test by_eleven (outside 1 most_deadline (field 2 s at)) 6 f none _ (omega arith, refl)
     (numbered_test by_eleven (leb (field 2 s at) (release_at s at)) 22 f none _ (omega arith, refl)
     (numbered_test by_eleven (outside 1 most_jobs (jobs_at s at)) 7 f none Pass (omega arith, refl) (numbered-pass by_eleven))))
 
@@ -76,58 +75,58 @@ job_numbered s f i at =
     (numbered_test by_eleven (outside 1 most_cap (field 2 s (at + 4))) 9 f i _ (omega arith, refl)
     (numbered_test by_eleven (leb (2 ^ i) (field 8 s (at + 6))) 10 f i Pass (omega arith, refl) (numbered-pass by_eleven))))
 
-flow_numbered : (L : Limits) (s : List ℕ) (f at : ℕ) → Numbered by_eleven (flow_fault L s f at)
+flow_numbered : (s : List ℕ) (f at : ℕ) → Numbered by_eleven (flow_fault s f at)
 unfolding flow_fault
-flow_numbered L s f at =
-    numbered_then by_eleven (flow_head_fault L s f at) (first_fault (λ i. job_fault s f i (job_start s at i)) (jobs_at s at)) (flow-head_numbered L s f at)
+flow_numbered s f at =
+    numbered_then by_eleven (flow_head_fault s f at) (first_fault (λ i. job_fault s f i (job_start s at i)) (jobs_at s at)) (flow-head_numbered s f at)
     (numbered-first by_eleven (λ i. job_fault s f i (job_start s at i)) (jobs_at s at) (λ i. job_numbered s f i (job_start s at i)))
 
 leftover_numbered : (s : List ℕ) → Numbered by_eleven (leftover_fault s)
 unfolding leftover_fault
 leftover_numbered s = numbered_hold by_eleven (eqb (flow_start s (byte s 7)) (length s)) 5 none none (omega arith, refl)
 
-pub book_numbered : (L : Limits) (s : List ℕ) → Numbered by_eleven (book_fault L s)
+pub book_numbered : (s : List ℕ) → Numbered by_eleven (book_fault s)
 unfolding book_fault
-book_numbered L s =
+book_numbered s =
     numbered_test by_eleven (ltb (length s) book_head || not (eqb (field 4 s 0) (length s))) 1 none none _ (omega arith, refl)
     (numbered_test by_eleven (not (eqb (version_of s) 1 || eqb (version_of s) 2)) 2 none none _ (omega arith, refl)
     (numbered_test by_eleven (outside 1 most_processors (field 2 s 5)) 3 none none _ (omega arith, refl)
-    (numbered_test by_eleven (ltb L.flows (byte s 7)) 4 none none _ (omega arith, refl)
-    (numbered_then by_eleven (first_fault (λ f. flow_fault L s f (flow_start s f)) (byte s 7)) (leftover_fault s)
-    (numbered-first by_eleven (λ f. flow_fault L s f (flow_start s f)) (byte s 7) (λ f. flow_numbered L s f (flow_start s f))) (leftover_numbered s)))))
+    (numbered_test by_eleven (ltb most_flows (byte s 7)) 4 none none _ (omega arith, refl)
+    (numbered_then by_eleven (first_fault (λ f. flow_fault s f (flow_start s f)) (byte s 7)) (leftover_fault s)
+    (numbered-first by_eleven (λ f. flow_fault s f (flow_start s f)) (byte s 7) (λ f. flow_numbered s f (flow_start s f))) (leftover_numbered s)))))
 
 -- "24 when the calendar breaks its layout" (02, Req 07)
-pub calendar-either : (L : Limits) (s : List ℕ) → (calendar_fault L s ≡ Pass) ⊎ (calendar_fault L s ≡ Refused 24 none none)
+pub calendar-either : (s : List ℕ) → (calendar_fault s ≡ Pass) ⊎ (calendar_fault s ≡ Refused 24 none none)
 unfolding calendar_fault
-calendar-either L s =
+calendar-either s =
     go (ltb (length s) calendar_head || not (eqb (field 4 s 0) (length s)) || not (eqb (byte s 4) 1) || ltb most_windows (byte s 5)
-    || not (eqb (length s) (calendar_head + window_length * byte s 5)) || any_to (window_fault L s) (byte s 5))
+    || not (eqb (length s) (calendar_head + window_length * byte s 5)) || any_to (window_fault s) (byte s 5))
   where
     go : (t : Bool) → ((if t then Refused 24 none none else Pass) ≡ Pass) ⊎ ((if t then Refused 24 none none else Pass) ≡ Refused 24 none none)
     go true = inr refl
     go false = inl refl
 
-pub calendar_numbered : (L : Limits) (s : List ℕ) → Numbered by_eleven (calendar_fault L s)
-calendar_numbered L s =
-    ⊎_elim (λ e. rw e (numbered-pass by_eleven)) (λ e. rw e (numbered-refused by_eleven 24 none none (omega arith, refl))) (calendar-either L s)
+pub calendar_numbered : (s : List ℕ) → Numbered by_eleven (calendar_fault s)
+calendar_numbered s =
+    ⊎_elim (λ e. rw e (numbered-pass by_eleven)) (λ e. rw e (numbered-refused by_eleven 24 none none (omega arith, refl))) (calendar-either s)
 
-read_numbered : (L : Limits) (s calendar : List ℕ) → Numbered by_eleven (book_fault L s and_then calendar_fault L calendar)
-read_numbered L s calendar = numbered_then by_eleven (book_fault L s) (calendar_fault L calendar) (book_numbered L s) (calendar_numbered L calendar)
+read_numbered : (s calendar : List ℕ) → Numbered by_eleven (book_fault s and_then calendar_fault calendar)
+read_numbered s calendar = numbered_then by_eleven (book_fault s) (calendar_fault calendar) (book_numbered s) (calendar_numbered calendar)
 
 -- a book that is not read, or whose calendar is not, is refused by one of these numbers
-pub unread_numbered : (L : Limits) (s calendar : List ℕ) (n f j : ℕ) → read_book L s calendar ≡ unread n f j → (1 ≤ n) × (by_eleven n ≡ true)
+pub unread_numbered : (s calendar : List ℕ) (n f j : ℕ) → read_book s calendar ≡ unread n f j → (1 ≤ n) × (by_eleven n ≡ true)
 unfolding read_book
-unread_numbered L s calendar n f j = go (book_fault L s and_then calendar_fault L calendar) refl
+unread_numbered s calendar n f j = go (book_fault s and_then calendar_fault calendar) refl
   where
-    go : (v : Verdict) → (book_fault L s and_then calendar_fault L calendar) ≡ v → reading_of v (book_with s calendar) ≡ unread n f j → (1 ≤ n) × (by_eleven n ≡ true)
+    go : (v : Verdict) → (book_fault s and_then calendar_fault calendar) ≡ v → reading_of v (book_with s calendar) ≡ unread n f j → (1 ≤ n) × (by_eleven n ≡ true)
     go Pass q e = absurd (let z : ◌≡◌ {A = ℕ} 0 1 = cc in omega arith)
-    go (Refused m g i) q e = let d : m ≡ n = cc in rw d at ((read_numbered L s calendar).among m g i q)
+    go (Refused m g i) q e = let d : m ≡ n = cc in rw d at ((read_numbered s calendar).among m g i q)
 
 -- number 0 is answered of a book that is read, by every call that hands on those numbers
-pub zero-reads : (L : Limits) (s calendar : List ℕ) (number : Reading → ℕ) → ((n f j : ℕ) → number (unread n f j) ≡ n) → number (read_book L s calendar) ≡ 0 →
-    read_book L s calendar ≡ read (book_with s calendar)
+pub zero-reads : (s calendar : List ℕ) (number : Reading → ℕ) → ((n f j : ℕ) → number (unread n f j) ≡ n) → number (read_book s calendar) ≡ 0 →
+    read_book s calendar ≡ read (book_with s calendar)
 unfolding read_book
-zero-reads L s calendar number refused = go (book_fault L s and_then calendar_fault L calendar) (read_numbered L s calendar)
+zero-reads s calendar number refused = go (book_fault s and_then calendar_fault calendar) (read_numbered s calendar)
   where
     go : (v : Verdict) → Numbered by_eleven v → number (reading_of v (book_with s calendar)) ≡ 0 → reading_of v (book_with s calendar) ≡ read (book_with s calendar)
     go Pass h z = refl
@@ -164,12 +163,12 @@ module _ (these : ℕ → Bool) (b : Book) (s : List ℕ) (those : (n : ℕ) →
       go true e = h
       go false e = numbered-refused these 25 f j (omega arith, shut t e)
 
-  row_numbered : (L : Limits) (k : ℕ) → Numbered these (row_fault L b opened rows k)
+  row_numbered : (k : ℕ) → Numbered these (row_fault b opened rows k)
   unfolding row_fault
-  row_numbered L k =
+  row_numbered k =
       let r = get_or rows k no_row in
       numbered_test these
-      (leb L.slots r.slot || leb (flow_count b) r.flow || leb (job_count (flow_of b r.flow)) r.job || eqb r.processors 0)
+      (leb slots r.slot || leb (flow_count b) r.flow || leb (job_count (flow_of b r.flow)) r.job || eqb r.processors 0)
       15 r.flow r.job _ (omega arith, those 15 refl)
       (open_numbered r.slot r.flow r.job _
       (numbered_test these (not (rises b rows k)) 16 r.flow r.job _ (omega arith, those 16 refl)
@@ -186,27 +185,27 @@ module _ (these : ℕ → Bool) (b : Book) (s : List ℕ) (those : (n : ℕ) →
   unfolding finish_fault
   finish_numbered f = numbered_hold these (eqb (finish_in s f) (finish_of rows f)) 21 f none (omega arith, those 21 refl)
 
-  pub table_numbered_by : (L : Limits) → Numbered these (table_fault L b s)
+  pub table_numbered_by : Numbered these (table_fault b s)
   unfolding table_fault
-  table_numbered_by L =
-      let walk = first_fault (row_fault L b opened rows) (length rows) in
+  table_numbered_by =
+      let walk = first_fault (row_fault b opened rows) (length rows) in
       let totals = first_fault (λ f. first_fault (total_fault b rows f) (job_count (flow_of b f))) (flow_count b) in
       let finishes = first_fault (finish_fault s rows) (flow_count b) in
       numbered_then these (table_head_fault b s) (walk and_then totals and_then finishes) head_numbered
-      (numbered_then these walk (totals and_then finishes) (numbered-first these (row_fault L b opened rows) (length rows) (row_numbered L))
+      (numbered_then these walk (totals and_then finishes) (numbered-first these (row_fault b opened rows) (length rows) row_numbered)
       (numbered_then these totals finishes
       (numbered-first these (λ f. first_fault (total_fault b rows f) (job_count (flow_of b f))) (flow_count b)
       (λ f. numbered-first these (total_fault b rows f) (job_count (flow_of b f)) (total_numbered f)))
       (numbered-first these (finish_fault s rows) (flow_count b) finish_numbered)))
 
-pub table_numbered : (L : Limits) (b : Book) (s : List ℕ) → Numbered of_table (table_fault L b s)
-table_numbered L b s = table_numbered_by of_table b s (λ n e. ap (◌|| eqb n 25) e) (λ t e. refl) L
+pub table_numbered : (b : Book) (s : List ℕ) → Numbered of_table (table_fault b s)
+table_numbered b s = table_numbered_by of_table b s (λ n e. ap (◌|| eqb n 25) e) (λ t e. refl)
 
 -- ---- the planner
 -- what demand 1 says of an outcome of the planner
-record PlannerAnswers (L : Limits) (out area : List ℕ) (o : PlanOutcome) : Type 0 where
+record PlannerAnswers (out area : List ℕ) (o : PlanOutcome) : Type 0 where
   number_is : (o.answer.number ≤ 13) ⊎ ((o.answer.number ≡ 22) ⊎ (o.answer.number ≡ 24))
-  refusal : 0 < o.answer.number → PlannerRefusal L out area o
+  refusal : 0 < o.answer.number → PlannerRefusal out area o
 
 -- the numbers before or by 11, and those after it
 pub early-number : {X : Type 0} (n : ℕ) → by_eleven n ≡ true → (n ≤ 11 → X) → (n ≡ 22 → X) → (n ≡ 24 → X) → X
@@ -218,125 +217,125 @@ late-number : (n : ℕ) → 12 ≤ n → (n ≡ 22 → ⊥) → (n ≡ 24 → �
 late-number n l m k = ap₂ ◌||◌ (ap₂ ◌||◌ (lt-leb n 11 (omega arith)) (ne_eqb n 22 m)) (ne_eqb n 24 k)
 
 -- what they leave of the area
-area-kept : (L : Limits) (n : ℕ) (area : List ℕ) → by_eleven n ≡ true → AreaAfterRefusal L n area area
-area-kept L n area h = record { kept = λ k. refl; zeroed = λ k. absurd (true≢false (sym h ∙ k)) }
+area-kept : (n : ℕ) (area : List ℕ) → by_eleven n ≡ true → AreaAfterRefusal n area area
+area-kept n area h = record { kept = λ k. refl; zeroed = λ k. absurd (true≢false (sym h ∙ k)) }
 
-area-zeroed : (L : Limits) (n : ℕ) (area : List ℕ) → by_eleven n ≡ false → AreaAfterRefusal L n area (work_zero L.slots area)
-area-zeroed L n area h = record { kept = λ k. absurd (true≢false (sym k ∙ h)); zeroed = λ k. refl }
+area-zeroed : (n : ℕ) (area : List ℕ) → by_eleven n ≡ false → AreaAfterRefusal n area (work_zero slots area)
+area-zeroed n area h = record { kept = λ k. absurd (true≢false (sym k ∙ h)); zeroed = λ k. refl }
 
-module _ (L : Limits) (out area : List ℕ) where
-  planner-refused : (n f j : ℕ) (left : List ℕ) → (n ≤ 13) ⊎ ((n ≡ 22) ⊎ (n ≡ 24)) → AreaAfterRefusal L n area left →
-      PlannerAnswers L out area (record { answer = plan_refused n f j; output = out; area = left })
+module _ (out area : List ℕ) where
+  planner-refused : (n f j : ℕ) (left : List ℕ) → (n ≤ 13) ⊎ ((n ≡ 22) ⊎ (n ≡ 24)) → AreaAfterRefusal n area left →
+      PlannerAnswers out area (record { answer = plan_refused n f j; output = out; area = left })
   planner-refused n f j left is a = record {
     number_is = is;
     refusal = λ l. record { late_zero = refl; length_zero = refl; output_kept = refl; area_left = a };
   }
 
-  planner-kept : (n f j : ℕ) → by_eleven n ≡ true → PlannerAnswers L out area (record { answer = plan_refused n f j; output = out; area = area })
+  planner-kept : (n f j : ℕ) → by_eleven n ≡ true → PlannerAnswers out area (record { answer = plan_refused n f j; output = out; area = area })
   planner-kept n f j h =
-      planner-refused n f j area (early-number n h (λ l. inl (omega arith)) (λ e. inr (inl e)) (λ e. inr (inr e))) (area-kept L n area h)
+      planner-refused n f j area (early-number n h (λ l. inl (omega arith)) (λ e. inr (inl e)) (λ e. inr (inr e))) (area-kept n area h)
 
-  case-answers : {b : Book} {o : PlanOutcome} → PlanCase L b out area o → PlannerAnswers L out area o
+  case-answers : {b : Book} {o : PlanOutcome} → PlanCase b out area o → PlannerAnswers out area o
   case-answers (short_11 h) = planner-kept 11 none none refl
-  case-answers (stopped_12 h f e) = planner-refused 12 f none (work_zero L.slots area) (inl (omega arith)) (area-zeroed L 12 area refl)
-  case-answers (long_13 h rows e l) = planner-refused 13 none none (work_zero L.slots area) (inl (omega arith)) (area-zeroed L 13 area refl)
+  case-answers (stopped_12 h f e) = planner-refused 12 f none (work_zero slots area) (inl (omega arith)) (area-zeroed 12 area refl)
+  case-answers (long_13 h rows e l) = planner-refused 13 none none (work_zero slots area) (inl (omega arith)) (area-zeroed 13 area refl)
   case-answers (written_0 h rows e l) = record { number_is = inl (omega arith); refusal = λ p. absurd (omega arith) }
 
-  plan_reading-answers : (v : Verdict) (b : Book) → Numbered by_eleven v → PlannerAnswers L out area (plan_reading L out area (reading_of v b))
-  plan_reading-answers Pass b h = case-answers (reading_case L b out area)
+  plan_reading-answers : (v : Verdict) (b : Book) → Numbered by_eleven v → PlannerAnswers out area (plan_reading out area (reading_of v b))
+  plan_reading-answers Pass b h = case-answers (reading_case b out area)
   plan_reading-answers (Refused n f j) b h = unfold plan_reading in planner-kept n f j (h.among n f j refl).1
 
-planner-answers : (L : Limits) (book calendar out area : List ℕ) → PlannerAnswers L out area (plan_call L book calendar out area)
+planner-answers : (book calendar out area : List ℕ) → PlannerAnswers out area (plan_call book calendar out area)
 unfolding plan_call read_book
-planner-answers L book calendar out area =
-    plan_reading-answers L out area (book_fault L book and_then calendar_fault L calendar) (book_with book calendar) (read_numbered L book calendar)
+planner-answers book calendar out area =
+    plan_reading-answers out area (book_fault book and_then calendar_fault calendar) (book_with book calendar) (read_numbered book calendar)
 
 -- ---- the table check
-record CheckAnswers (L : Limits) (area : List ℕ) (o : CheckOutcome) : Type 0 where
+record CheckAnswers (area : List ℕ) (o : CheckOutcome) : Type 0 where
   number_is : (o.answer.number ≤ 11) ⊎
       (((14 ≤ o.answer.number) × (o.answer.number ≤ 22)) ⊎ ((24 ≤ o.answer.number) × (o.answer.number ≤ 25)))
-  refusal : 0 < o.answer.number → CheckRefusal L area o
+  refusal : 0 < o.answer.number → CheckRefusal area o
 
-check-kept : (L : Limits) (area : List ℕ) (n f j : ℕ) → by_eleven n ≡ true → CheckAnswers L area (record { answer = check_refused n f j; area = area })
-check-kept L area n f j h = record {
+check-kept : (area : List ℕ) (n f j : ℕ) → by_eleven n ≡ true → CheckAnswers area (record { answer = check_refused n f j; area = area })
+check-kept area n f j h = record {
   number_is = early-number n h inl (λ e. inr (inl (omega arith, omega arith))) (λ e. inr (inr (omega arith, omega arith)));
-  refusal = λ l. record { late_zero = refl; area_left = area-kept L n area h };
+  refusal = λ l. record { late_zero = refl; area_left = area-kept n area h };
 }
 
-check-zeroed : (L : Limits) (area : List ℕ) (n f j : ℕ) → by_eleven n ≡ false → (((14 ≤ n) × (n ≤ 22)) ⊎ ((24 ≤ n) × (n ≤ 25))) →
-    CheckAnswers L area (record { answer = check_refused n f j; area = work_zero L.slots area })
-check-zeroed L area n f j l is = record {
+check-zeroed : (area : List ℕ) (n f j : ℕ) → by_eleven n ≡ false → (((14 ≤ n) × (n ≤ 22)) ⊎ ((24 ≤ n) × (n ≤ 25))) →
+    CheckAnswers area (record { answer = check_refused n f j; area = work_zero slots area })
+check-zeroed area n f j l is = record {
   number_is = inr is;
-  refusal = λ z. record { late_zero = refl; area_left = area-zeroed L n area l };
+  refusal = λ z. record { late_zero = refl; area_left = area-zeroed n area l };
 }
 
-check-outcome-answers : (L : Limits) (b : Book) (s area : List ℕ) (v : Verdict) → Numbered of_table v → CheckAnswers L area (check_outcome L b s area v)
+check-outcome-answers : (b : Book) (s area : List ℕ) (v : Verdict) → Numbered of_table v → CheckAnswers area (check_outcome b s area v)
 unfolding check_outcome
-check-outcome-answers L b s area Pass h = record { number_is = inl (omega arith); refusal = λ l. absurd (omega arith) }
-check-outcome-answers L b s area (Refused n f j) h =
+check-outcome-answers b s area Pass h = record { number_is = inl (omega arith); refusal = λ l. absurd (omega arith) }
+check-outcome-answers b s area (Refused n f j) h =
     ⊎_elim
     (λ e.
     let both = (and-eq-true_iff (leb 14 n) (leb n 21)).0 e in
     let least = leb-true 14 n both.0 in
     let most = leb-true n 21 both.1 in
-    check-zeroed L area n f j (late-number n (omega (arith, least)) (λ q. omega (arith, most)) (λ q. omega (arith, most))) (inl (least, omega (arith, most))))
-    (λ e. rw (eqb-true n 25 e) (check-zeroed L area 25 f j refl (inr (omega arith, omega arith)))) (or_cases (without_shut n) (eqb n 25) (h.among n f j refl).1)
+    check-zeroed area n f j (late-number n (omega (arith, least)) (λ q. omega (arith, most)) (λ q. omega (arith, most))) (inl (least, omega (arith, most))))
+    (λ e. rw (eqb-true n 25 e) (check-zeroed area 25 f j refl (inr (omega arith, omega arith)))) (or_cases (without_shut n) (eqb n 25) (h.among n f j refl).1)
 
-check_reading-answers : (L : Limits) (s area : List ℕ) (v : Verdict) (b : Book) → Numbered by_eleven v → CheckAnswers L area (check_reading L s area (reading_of v b))
+check_reading-answers : (s area : List ℕ) (v : Verdict) (b : Book) → Numbered by_eleven v → CheckAnswers area (check_reading s area (reading_of v b))
 unfolding check_reading
-check_reading-answers L s area (Refused n f j) b h = check-kept L area n f j (h.among n f j refl).1
-check_reading-answers L s area Pass b h =
-    check_cases L b s area (CheckAnswers L area) (λ l. check-kept L area 11 none none refl)
-    (λ l. check-outcome-answers L b s area (table_fault L b s) (table_numbered L b s))
+check_reading-answers s area (Refused n f j) b h = check-kept area n f j (h.among n f j refl).1
+check_reading-answers s area Pass b h =
+    check_cases b s area (CheckAnswers area) (λ l. check-kept area 11 none none refl)
+    (λ l. check-outcome-answers b s area (table_fault b s) (table_numbered b s))
 
-check-answers : (L : Limits) (book calendar s area : List ℕ) → CheckAnswers L area (check_call L book calendar s area)
+check-answers : (book calendar s area : List ℕ) → CheckAnswers area (check_call book calendar s area)
 unfolding check_call read_book
-check-answers L book calendar s area =
-    check_reading-answers L s area (book_fault L book and_then calendar_fault L calendar) (book_with book calendar) (read_numbered L book calendar)
+check-answers book calendar s area =
+    check_reading-answers s area (book_fault book and_then calendar_fault calendar) (book_with book calendar) (read_numbered book calendar)
 
 -- ---- an answer says the verdict: that on the book and its calendar, and then that on the table
-module _ (L : Limits) (book calendar : List ℕ) where
+module _ (book calendar : List ℕ) where
   plan_says_of : (out area : List ℕ) (v : Verdict) (b : Book) → 0 < number_of v →
-      PlanSays v (plan_reading L out area (reading_of v b)).answer
+      PlanSays v (plan_reading out area (reading_of v b)).answer
   unfolding plan_reading
   plan_says_of out area Pass b l = absurd (omega arith)
   plan_says_of out area (Refused n f j) b l = record { number_is = refl; flow_is = refl; job_is = refl }
 
   check_says_of : (s area : List ℕ) (v : Verdict) (b : Book) → 0 < number_of v →
-      CheckSays v (check_reading L s area (reading_of v b)).answer
+      CheckSays v (check_reading s area (reading_of v b)).answer
   unfolding check_reading
   check_says_of s area Pass b l = absurd (omega arith)
   check_says_of s area (Refused n f j) b l = record { number_is = refl; flow_is = refl; job_is = refl }
 
-  planner_says : (out area : List ℕ) → 0 < number_of (book_verdict L book calendar) →
-      PlanSays (book_verdict L book calendar) (plan_call L book calendar out area).answer
+  planner_says : (out area : List ℕ) → 0 < number_of (book_verdict book calendar) →
+      PlanSays (book_verdict book calendar) (plan_call book calendar out area).answer
   unfolding plan_call read_book
-  planner_says out area = plan_says_of out area (book_verdict L book calendar) (book_with book calendar)
+  planner_says out area = plan_says_of out area (book_verdict book calendar) (book_with book calendar)
 
-  check_says : (s area : List ℕ) → 0 < number_of (book_verdict L book calendar) →
-      CheckSays (book_verdict L book calendar) (check_call L book calendar s area).answer
+  check_says : (s area : List ℕ) → 0 < number_of (book_verdict book calendar) →
+      CheckSays (book_verdict book calendar) (check_call book calendar s area).answer
   unfolding check_call read_book
-  check_says s area = check_says_of s area (book_verdict L book calendar) (book_with book calendar)
+  check_says s area = check_says_of s area (book_verdict book calendar) (book_with book calendar)
 
-  table_says : (s area : List ℕ) (b : Book) → read_book L book calendar ≡ read b → L.bytes ≤ length area →
-      CheckSays (table_fault L b s) (check_call L book calendar s area).answer
+  table_says : (s area : List ℕ) (b : Book) → read_book book calendar ≡ read b → work_bytes ≤ length area →
+      CheckSays (table_fault b s) (check_call book calendar s area).answer
   unfolding check_call check_reading check_outcome
-  table_says s area b reads long = rw (reads, le-ltb (length area) L.bytes long) (said (table_fault L b s))
+  table_says s area b reads long = rw (reads, le-ltb (length area) work_bytes long) (said (table_fault b s))
     where
-      said : (v : Verdict) → CheckSays v (check_outcome L b s area v).answer
+      said : (v : Verdict) → CheckSays v (check_outcome b s area v).answer
       said Pass = record { number_is = refl; flow_is = refl; job_is = refl }
       said (Refused n f j) = record { number_is = refl; flow_is = refl; job_is = refl }
 
-pub demand_1 : (L : Limits) → Demand1 L
+pub demand_1 : Demand1
 unfolding plan_call plan_reading check_call check_reading
-demand_1 L = record {
-  planner_says = planner_says L;
-  check_says = check_says L;
-  planner_11 = λ book calendar out area b reads short. rw (reads, lt-ltb (length area) L.bytes short) refl;
-  check_11 = λ book calendar table area b reads short. rw (reads, lt-ltb (length area) L.bytes short) refl;
-  table_says = table_says L;
-  planner_number = λ book calendar out area. (planner-answers L book calendar out area).number_is;
-  planner_refusal = λ book calendar out area. (planner-answers L book calendar out area).refusal;
-  check_number = λ book calendar table area. (check-answers L book calendar table area).number_is;
-  check_refusal = λ book calendar table area. (check-answers L book calendar table area).refusal;
+demand_1 = record {
+  planner_says = planner_says;
+  check_says = check_says;
+  planner_11 = λ book calendar out area b reads short. rw (reads, lt-ltb (length area) work_bytes short) refl;
+  check_11 = λ book calendar table area b reads short. rw (reads, lt-ltb (length area) work_bytes short) refl;
+  table_says = table_says;
+  planner_number = λ book calendar out area. (planner-answers book calendar out area).number_is;
+  planner_refusal = λ book calendar out area. (planner-answers book calendar out area).refusal;
+  check_number = λ book calendar table area. (check-answers book calendar table area).number_is;
+  check_refusal = λ book calendar table area. (check-answers book calendar table area).refusal;
 }

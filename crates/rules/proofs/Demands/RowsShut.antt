@@ -11,10 +11,10 @@ use lib.Dec.{ltb, eqb}
 use borrow.Author.Tests.{le-ltb}
 use Rattle.rules.specs.declared.Verdict.{Verdict}
 use Rattle.rules.specs.declared.Verdict.TheVariants.{Pass, Refused}
-use Rattle.rules.specs.declared.Limits.{Limits}
 use Rattle.rules.specs.Walks.{if◌then◌else◌}
 use Rattle.rules.specs.Fields.{byte, field}
 use Rattle.rules.specs.Answers.{none, ◌and_then◌, check_refused, number_of}
+use Rattle.rules.specs.Limits.{work_bytes}
 use Rattle.rules.specs.Calendar.{is_open}
 use Rattle.rules.specs.Book.{Book, flow_count, job_count, flow_of, job_of}
 use Rattle.rules.specs.Reading.{read}
@@ -35,18 +35,18 @@ after-said false false true begun f j g i e = omega (arith, ap number_of e)
 after-said false false false true f j g i e = omega (arith, ap number_of e)
 after-said false false false false f j g i e = omega (arith, ap number_of e)
 
-module _ (L : Limits) (b : Book) (opened : ℕ → Bool) (rows : List Row) (k f j : ℕ) where
+module _ (b : Book) (opened : ℕ → Bool) (rows : List Row) (k f j : ℕ) where
   abbrev r : Row
   r = get_or rows k no_row
 
-  row-said : row_fault L b opened rows k ≡ Refused 25 f j → PassesFifteen L b r × (opened r.slot ≡ false) × (r.flow ≡ f) × (r.job ≡ j)
+  row-said : row_fault b opened rows k ≡ Refused 25 f j → PassesFifteen b r × (opened r.slot ≡ false) × (r.flow ≡ f) × (r.job ≡ j)
   unfolding row_fault
   row-said e =
       let range = test_skipped _ 15 r.flow r.job _ 25 f j refl e in
       let w = test-said _ 25 r.flow r.job _ f j range.1
       (after-said (not (rises b rows k)) (ltb (job_of (flow_of b r.flow) r.job).cap r.processors)
       (ltb b.processors (used_in (take k rows) r.slot + r.processors)) (before_release b r || lacks_predecessor b (take k rows) r) r.flow r.job f j) in
-      let inside = in-book_of L b r range.0 in (
+      let inside = in-book_of b r range.0 in (
         record { slot_in = inside.0; flow_in_is = inside.1; job_in = inside.2; processors_some = inside.3 },
         not_true (opened r.slot) w.0,
         w.1,
@@ -57,18 +57,18 @@ module _ (L : Limits) (b : Book) (opened : ℕ → Bool) (rows : List Row) (k f 
       not_true true e = absurd (true≢false (sym e))
       not_true false e = refl
 
-module _ (L : Limits) (b : Book) (s : List ℕ) where
+module _ (b : Book) (s : List ℕ) where
   -- the row that a verdict of 25 comes from
-  table-said : (f j : ℕ) → table_fault L b s ≡ Refused 25 f j → (k : ℕ) × ShutRow L b s k × ((row_in b s k).flow ≡ f) × ((row_in b s k).job ≡ j)
+  table-said : (f j : ℕ) → table_fault b s ≡ Refused 25 f j → (k : ℕ) × ShutRow b s k × ((row_in b s k).flow ≡ f) × ((row_in b s k).job ≡ j)
   unfolding table_fault table_head_fault total_fault finish_fault
   table-said f j e =
       ⊎_elim of-head
       (λ p. ⊎_elim of_row (λ q. ⊎_elim of-totals (λ w. of-finishes w.1) (then_met (totals_fault b s) (finishes_fault b s) 25 f j q.1))
-      (then_met (rows_fault b s L) (totals_fault b s and_then finishes_fault b s) 25 f j p.1))
-      (then_met (table_head_fault b s) (rows_fault b s L and_then totals_fault b s and_then finishes_fault b s) 25 f j e)
+      (then_met (rows_fault b s) (totals_fault b s and_then finishes_fault b s) 25 f j p.1))
+      (then_met (table_head_fault b s) (rows_fault b s and_then totals_fault b s and_then finishes_fault b s) 25 f j e)
     where
       Found : Type 0
-      Found = (k : ℕ) × ShutRow L b s k × ((row_in b s k).flow ≡ f) × ((row_in b s k).job ≡ j)
+      Found = (k : ℕ) × ShutRow b s k × ((row_in b s k).flow ≡ f) × ((row_in b s k).job ≡ j)
 
       of-head : table_head_fault b s ≡ Refused 25 f j → Found
       of-head p =
@@ -76,10 +76,10 @@ module _ (L : Limits) (b : Book) (s : List ℕ) where
           || not (eqb (field 2 s 5) b.processors) || not (eqb (byte s 7) (flow_count b)) || not (eqb ((length s - table_head b) % row_length) 0))
           14 none none Pass 25 f j refl p).1)
 
-      of_row : rows_fault b s L ≡ Refused 25 f j → Found
+      of_row : rows_fault b s ≡ Refused 25 f j → Found
       of_row p =
-          let w = fault_met (row_fault L b (is_open b.calendar) (table_rows b s)) (length (table_rows b s)) 25 f j p in
-          let said = row-said L b (is_open b.calendar) (table_rows b s) w.0 f j w.3 in
+          let w = fault_met (row_fault b (is_open b.calendar) (table_rows b s)) (length (table_rows b s)) 25 f j p in
+          let said = row-said b (is_open b.calendar) (table_rows b s) w.0 f j w.3 in
           (w.0, record { is_row = w.1; before_pass = w.2; passes_15 = said.0; shut = said.1 }, said.2, said.3)
 
       of-totals : totals_fault b s ≡ Refused 25 f j → Found
@@ -94,20 +94,20 @@ module _ (L : Limits) (b : Book) (s : List ℕ) where
           hold_skipped (eqb (finish_in s flow.0) (finish_of (table_rows b s) flow.0)) 21 flow.0 none 25 f j refl flow.3
 
   -- the call
-  call-said : (area : List ℕ) → (check_reading L s area (read b)).answer.number ≡ 25 →
-      (f : ℕ) × (j : ℕ) × (table_fault L b s ≡ Refused 25 f j) × ((check_reading L s area (read b)).answer ≡ check_refused 25 f j)
+  call-said : (area : List ℕ) → (check_reading s area (read b)).answer.number ≡ 25 →
+      (f : ℕ) × (j : ℕ) × (table_fault b s ≡ Refused 25 f j) × ((check_reading s area (read b)).answer ≡ check_refused 25 f j)
   unfolding check_outcome
   call-said area =
-      check_cases L b s area (λ o. o.answer.number ≡ 25 → (f : ℕ) × (j : ℕ) × (table_fault L b s ≡ Refused 25 f j) × (o.answer ≡ check_refused 25 f j))
-      (λ l z. absurd (omega arith)) (λ l. said (table_fault L b s) refl)
+      check_cases b s area (λ o. o.answer.number ≡ 25 → (f : ℕ) × (j : ℕ) × (table_fault b s ≡ Refused 25 f j) × (o.answer ≡ check_refused 25 f j))
+      (λ l z. absurd (omega arith)) (λ l. said (table_fault b s) refl)
     where
-      said : (v : Verdict) → table_fault L b s ≡ v → (check_outcome L b s area v).answer.number ≡ 25 →
-          (f : ℕ) × (j : ℕ) × (table_fault L b s ≡ Refused 25 f j) × ((check_outcome L b s area v).answer ≡ check_refused 25 f j)
+      said : (v : Verdict) → table_fault b s ≡ v → (check_outcome b s area v).answer.number ≡ 25 →
+          (f : ℕ) × (j : ℕ) × (table_fault b s ≡ Refused 25 f j) × ((check_outcome b s area v).answer ≡ check_refused 25 f j)
       said Pass e z = absurd (omega arith)
       said (Refused n f j) e z = (f, j, e ∙ ap (λ m. Refused m f j) z, ap (λ m. check_refused m f j) z)
 
   -- the first row with a fault ends the walk
-  shut-said : (k : ℕ) → table_head_fault b s ≡ Pass → ShutRow L b s k → table_fault L b s ≡ Refused 25 (row_in b s k).flow (row_in b s k).job
+  shut-said : (k : ℕ) → table_head_fault b s ≡ Pass → ShutRow b s k → table_fault b s ≡ Refused 25 (row_in b s k).flow (row_in b s k).job
   unfolding table_fault
   shut-said k head row =
       let rows = table_rows b s in
@@ -115,18 +115,18 @@ module _ (L : Limits) (b : Book) (s : List ℕ) where
       let p = row.passes_15 in
       rw (
         head,
-        fault_stop (row_fault L b opened rows) (length rows) k (Refused 25 (row_in b s k).flow (row_in b s k).job) row.is_row (not-pass 25 _ _)
-            (all_pass (row_fault L b opened rows) k row.before_pass)
-            (shut_is_25 L b opened rows k p.slot_in p.flow_in_is p.job_in p.processors_some row.shut),
+        fault_stop (row_fault b opened rows) (length rows) k (Refused 25 (row_in b s k).flow (row_in b s k).job) row.is_row (not-pass 25 _ _)
+            (all_pass (row_fault b opened rows) k row.before_pass)
+            (shut_is_25 b opened rows k p.slot_in p.flow_in_is p.job_in p.processors_some row.shut),
       ) refl
 
-pub rows_shut : (L : Limits) → RowsShut L
+pub rows_shut : RowsShut
 unfolding check_call check_reading check_outcome
-rows_shut L = record {
+rows_shut = record {
   only_shut = λ book calendar table area b reads z.
-      let c = call-said L b table area (ap (λ r. (check_reading L table area r).answer.number) (sym reads) ∙ z) in
-      let w = table-said L b table c.0 c.1 c.2 in
-      (w.0, w.1, ap (λ r. (check_reading L table area r).answer) reads ∙ c.3 ∙ ap₂ (check_refused 25) (sym w.2) (sym w.3));
+      let c = call-said b table area (ap (λ r. (check_reading table area r).answer.number) (sym reads) ∙ z) in
+      let w = table-said b table c.0 c.1 c.2 in
+      (w.0, w.1, ap (λ r. (check_reading table area r).answer) reads ∙ c.3 ∙ ap₂ (check_refused 25) (sym w.2) (sym w.3));
   every_shut = λ book calendar table area b k reads long head row.
-      rw (reads, le-ltb (length area) L.bytes long, shut-said L b table k head row) refl;
+      rw (reads, le-ltb (length area) work_bytes long, shut-said b table k head row) refl;
 }

@@ -3,8 +3,6 @@
 use mathlib.Core.Path.{◌≡◌, refl, sym, ap, ◌∙◌}
 use Prim.Native.Nat.{ℕ}
 use mathlib.Core.List.{List}
-use Rattle.rules.specs.declared.Limits.{Limits}
-use Rattle.rules.specs.Ranges.{Fits}
 use Rattle.rules.specs.Book.{Book, flow_in, flow_of, lowered}
 use Rattle.rules.specs.Reading.{version_of, book_bytes, read, read_book}
 use Rattle.rules.specs.Planner.{plan_call}
@@ -18,37 +16,37 @@ use Rattle.rules.proofs.Reading.Lowered.{lowered_reads, same_use}
 use Rattle.rules.proofs.Demands.Dispatches.{dispatch-read}
 use Rattle.rules.proofs.Demands.Finishes.{finish-same}
 
-module _ (L : Limits) (fit : Fits L) (book other calendar : List ℕ) (b c : Book) (reads : read_book L book calendar ≡ read b) (reads' : read_book L other calendar ≡ read c) (same : SameUse b c) where
-  same_check : (table area : List ℕ) → check_call L book calendar table area ≡ check_call L other calendar table area
+module _ (book other calendar : List ℕ) (b c : Book) (reads : read_book book calendar ≡ read b) (reads' : read_book other calendar ≡ read c) (same : SameUse b c) where
+  same_check : (table area : List ℕ) → check_call book calendar table area ≡ check_call other calendar table area
   unfolding check_call
-  same_check table area = rw (reads, reads') (check_reading-same L b c same table area)
+  same_check table area = rw (reads, reads') (check_reading-same b c same table area)
 
-  same_calls : SameCalls L book other calendar
+  same_calls : SameCalls book other calendar
   unfolding plan_call
   same_calls = record {
-    same_plan = λ out area. rw (reads, reads') (plan_reading-same L b c same out area);
+    same_plan = λ out area. rw (reads, reads') (plan_reading-same b c same out area);
     same_check = same_check;
     same_list = λ table out area.
-        dispatch-read L book calendar b reads table out area
-        ∙ ap (dispatch_checked L b (table_rows b table) out area) (same_check table area)
-        ∙ dispatch-same b c same.flows L table out area (check_call L other calendar table area)
-        ∙ sym (dispatch-read L other calendar c reads' table out area);
-    same_finish = finish-same L fit book other calendar b c reads reads' same;
+        dispatch-read book calendar b reads table out area
+        ∙ ap (dispatch_checked b (table_rows b table) out area) (same_check table area)
+        ∙ dispatch-same b c same.flows table out area (check_call other calendar table area)
+        ∙ sym (dispatch-read other calendar c reads' table out area);
+    same_finish = finish-same book other calendar b c reads reads' same;
   }
 
-pub version_1_kept : (L : Limits) → Fits L → Version1Kept L
-version_1_kept L fit = record {
-  release_zero = read-release-zero L fit;
+pub version_1_kept : Version1Kept
+version_1_kept = record {
+  release_zero = read-release-zero;
   as_version_2 = λ book calendar b reads.
-      same_calls L fit book (book_bytes 2 b) calendar b b reads (version_2-reads L fit book calendar b reads)
+      same_calls book (book_bytes 2 b) calendar b b reads (version_2-reads book calendar b reads)
       (record { flows = record { processors = refl; count = refl; flow = λ f. refl }; calendar = refl });
 }
 
-pub caps_lowered : (L : Limits) → Fits L → CapsLowered L
+pub caps_lowered : CapsLowered
 unfolding flow_of
-caps_lowered L fit = record {
-  lowered_reads = lowered_reads L fit;
+caps_lowered = record {
+  lowered_reads = lowered_reads;
   as_lowered = λ book calendar b reads.
-      same_calls L fit book (book_bytes (version_of book) (lowered b)) calendar b (lowered b) reads (lowered_reads L fit book calendar b reads) (same_use b);
+      same_calls book (book_bytes (version_of book) (lowered b)) calendar b (lowered b) reads (lowered_reads book calendar b reads) (same_use b);
   untouched = λ b l f. caps-kept b.processors (flow_in b f) (l f);
 }

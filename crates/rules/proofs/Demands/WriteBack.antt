@@ -9,8 +9,6 @@ use native.Mathlib.Numerals.{unary_clauses}
 use mathlib.Core.List.{List}
 use lib.Dec.{leb, leb-suc-suc}
 use borrow.Author.Tests.{leb-true, leb-false, le-leb}
-use Rattle.rules.specs.declared.Limits.{Limits}
-use Rattle.rules.specs.Ranges.{Fits}
 use Rattle.rules.specs.Book.{Flow, Book, flow_count, flow_of, InRange}
 use Rattle.rules.specs.Rows.{Row, finish_of, is_late}
 use Rattle.rules.specs.Schedule.{Schedule, every_flow, Valid, EndsBy, InSlots, schedule_of, schedule_rows}
@@ -25,10 +23,10 @@ use Rattle.rules.proofs.Placing.PlannedValid.{planned-valid, planned_in-slots}
 use Rattle.rules.proofs.Placing.PlannedTable.{planned-rows_are-schedule_rows}
 
 -- a flow of a book in range has something in every valid schedule: its first job has a size
-flow_has_something : (L : Limits) (b : Book) → InRange L b → (σ : Schedule) → Valid b every_flow σ → (f : ℕ) → f < flow_count b → EndsBy σ f 0 → ⊥
+flow_has_something : (b : Book) → InRange b → (σ : Schedule) → Valid b every_flow σ → (f : ℕ) → f < flow_count b → EndsBy σ f 0 → ⊥
 unfolding EndsBy
-flow_has_something L b range σ v f l ends =
-    let w = used_in-range L range f l in
+flow_has_something b range σ v f l ends =
+    let w = used_in-range range f l in
     omega (
       arith,
       (w.each_job 0 w.jobs_least).size_least,
@@ -65,31 +63,31 @@ module _ (b : Book) (σ : Schedule) (f finish : ℕ) (ends : (d : ℕ) → finis
       go none false e = absurd (none finish (next-left e))
 
 -- the finish by a schedule's own rows
-schedule-late_means : (L : Limits) (b : Book) → InRange L b → (σ : Schedule) → Valid b every_flow σ → InSlots L σ → (f : ℕ) → f < flow_count b →
-    LateMeans b σ f (finish_of (schedule_rows L b σ) f)
+schedule-late_means : (b : Book) → InRange b → (σ : Schedule) → Valid b every_flow σ → InSlots σ → (f : ℕ) → f < flow_count b →
+    LateMeans b σ f (finish_of (schedule_rows b σ) f)
 unfolding EndsBy
-schedule-late_means L b range σ v s f l =
-    late_means b σ f (finish_of rows f) ends (λ d h. ends-finish rows f d (λ r m. (schedule-rows_in L b σ r m).is_row.takes) (λ i t m. same i t ∙ h i t m))
+schedule-late_means b range σ v s f l =
+    late_means b σ f (finish_of rows f) ends (λ d h. ends-finish rows f d (λ r m. (schedule-rows_in b σ r m).is_row.takes) (λ i t m. same i t ∙ h i t m))
     (above_0 (lt-or_ge 0 (finish_of rows f)))
   where
     rows : List Row
-    rows = schedule_rows L b σ
+    rows = schedule_rows b σ
 
     same : (i t : ℕ) → schedule_of rows f i t ≡ σ f i t
-    same i t = schedule_of-rows L b σ (valid-within L b σ v s) f i t
+    same i t = schedule_of-rows b σ (valid-within b σ v s) f i t
 
     ends : (d : ℕ) → finish_of rows f ≤ d → EndsBy σ f d
     ends d h i t m = sym (same i t) ∙ finish-ends rows f d h i t m
 
     above_0 : (0 < finish_of rows f) ⊎ (finish_of rows f ≤ 0) → 0 < finish_of rows f
     above_0 (inl h) = h
-    above_0 (inr h) = absurd (flow_has_something L b range σ v f l (ends 0 h))
+    above_0 (inr h) = absurd (flow_has_something b range σ v f l (ends 0 h))
 
-pub write_back : (L : Limits) → Fits L → WriteBack L
-write_back L fit = record {
+pub write_back : WriteBack
+write_back = record {
   of_plans = λ book calendar b reads rows e f l.
-      let range = read_in-range L book calendar b reads in
-      subst (λ r. LateMeans b (schedule_of rows) f (finish_of r f)) (sym (planned-rows_are-schedule_rows L fit b range rows e))
-      (schedule-late_means L b range (schedule_of rows) (planned-valid L fit b range rows e) (planned_in-slots L fit b range rows e) f l);
-  of_schedules = λ book calendar b reads. schedule-late_means L b (read_in-range L book calendar b reads);
+      let range = read_in-range book calendar b reads in
+      subst (λ r. LateMeans b (schedule_of rows) f (finish_of r f)) (sym (planned-rows_are-schedule_rows b range rows e))
+      (schedule-late_means b range (schedule_of rows) (planned-valid b range rows e) (planned_in-slots b range rows e) f l);
+  of_schedules = λ book calendar b reads. schedule-late_means b (read_in-range book calendar b reads);
 }

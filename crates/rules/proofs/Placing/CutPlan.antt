@@ -8,10 +8,8 @@ use native.Mathlib.Omega.{arith}
 use lib.ListN.{drop}
 use lib.Dec.{eqb}
 use borrow.Author.Tests.{eqb-true, eq-eqb}
-use Rattle.rules.specs.declared.Limits.{Limits}
 use Rattle.rules.specs.Walks.{if◌then◌else◌, join_from}
 use Rattle.rules.specs.Fields.{bytes_of}
-use Rattle.rules.specs.Ranges.{Fits}
 use Rattle.rules.specs.Book.{Flow, Book, flow_count, job_count, flow_of, usable, InRange}
 use Rattle.rules.specs.PseudoJobs.{PseudoJob}
 use Rattle.rules.specs.Service.{served_at}
@@ -21,7 +19,7 @@ use Rattle.rules.specs.Cut.{cut}
 use Rattle.rules.proofs.Rows.Rising.{◌∈◌, first_in}
 use Rattle.rules.proofs.Placing.OpenSlots.{limit-same}
 use Rattle.rules.proofs.Reading.CutBook.{kept, kept-once, cut-processors, cut-calendar, cut-count, cut_in-range, cut_service, cut_service-flow}
-use Rattle.rules.proofs.Placing.PlannedValid.{planned-rows_fit}
+use Rattle.rules.proofs.Placing.PlannedValid.{planned-rows-fit}
 use Rattle.rules.proofs.Reading.Position.{same_test}
 
 -- ---- rows and plans under other flow numbers
@@ -133,8 +131,8 @@ module _ (b : Book) (k : ℕ) (fits : k ≤ flow_count b) where
   cut-plan = cut_places k (omega arith) ∙ ap (λ n. renumber_plan (kept b k) (place_first (cut b k) n)) (sym (cut-count b k fits))
 
   -- each flow of it has its finish
-  pub cut-finish : (L : Limits) → Fits L → InRange L b → (rows : List Row) → plan (cut b k) ≡ planned rows → (m : ℕ) → m < flow_count (cut b k) →
+  pub cut-finish : InRange b → (rows : List Row) → plan (cut b k) ≡ planned rows → (m : ℕ) → m < flow_count (cut b k) →
       finish_of (map (renumber (kept b k)) rows) (kept b k m) ≡ finish_of rows m
-  cut-finish L fit range rows e m l =
+  cut-finish range rows e m l =
       finish_renumbered (kept b k) rows m
-      (λ r i. kept-once b k r.flow m (planned-rows_fit L fit (cut b k) (cut_in-range b k L range) rows e r i).flow_in_is l)
+      (λ r i. kept-once b k r.flow m (planned-rows-fit (cut b k) (cut_in-range b k range) rows e r i).flow_in_is l)

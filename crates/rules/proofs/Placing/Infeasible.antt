@@ -11,9 +11,7 @@ use native.Mathlib.Nat.{le_trans, le_of_lt}
 use native.Mathlib.Omega.{arith}
 use lib.Dec.{eqb}
 use borrow.Author.Tests.{eq-eqb}
-use Rattle.rules.specs.declared.Limits.{Limits}
 use Rattle.rules.specs.Walks.{sum_to}
-use Rattle.rules.specs.Ranges.{Fits}
 use Rattle.rules.specs.Calendar.{is_open, open_before}
 use Rattle.rules.specs.Book.{Book, flow_count, job_count, flow_of, usable, twice_deadline, InRange}
 use Rattle.rules.specs.Service.{served_before, served_at, up_to}
@@ -33,7 +31,7 @@ use Rattle.rules.proofs.Placing.Refusal.{refusal}
 use Rattle.rules.proofs.Placing.PlannedRows.{served_flow, free_for, Stopped}
 use Rattle.rules.proofs.Placing.PlannedValid.{range_at, sized-at, used-within-work}
 
-module _ (L : Limits) (fit : Fits L) (b : Book) (range : InRange L b) where
+module _ (b : Book) (range : InRange b) where
   -- in a slot that the flow at a position can use, the processors free for it and those that the flows before it use are P
   pub free-or-used : (n : ℕ) (earlier : List Row) → place_first b n ≡ planned earlier → (t : ℕ) → usable b (served_flow b n) t ≡ true →
       b.processors ≤ used_in earlier t + free_for b n t
@@ -89,16 +87,16 @@ module _ (L : Limits) (fit : Fits L) (b : Book) (range : InRange L b) where
       0 < units_left_at (served_flow b n) (free_for b n) (slots_for b (served_flow b n)) → NoneOnTime b (served_at b n)
   unfolding NoneOnTime
   none_on_time n earlier below e left σ valid on-time =
-      refusal b.processors n (served_flow b) (λ m. usable b (served_flow b m)) (free_for b n) (used_in earlier) (sized-at L fit b range n below)
-      (free-or-used n earlier e) (used-within-work L fit b range n earlier (omega arith) e)
+      refusal b.processors n (served_flow b) (λ m. usable b (served_flow b m)) (free_for b n) (used_in earlier) (sized-at b range n below)
+      (free-or-used n earlier e) (used-within-work b range n earlier (omega arith) e)
       (slots_for b (served_flow b n)) (is_open b.calendar) (λ m. (served_flow b m).deadline) (λ m t l. usable_open b (served_flow b m) t)
       (λ m l. service-deadlines b m n (omega arith) below)
       (unfold open_before twice_deadline in omega (
         arith,
         count-usable b (served_flow b n) (served_flow b n).deadline,
         count-usable b (served_flow b n) (slots_for b (served_flow b n)),
-        limit-count L fit b (served_flow b n) range.calendar_in_range (range_at L fit b range n below).deadline_most,
-        open_mono b.calendar (le_of_lt (range_at L fit b range n below).release_below),
+        limit-count b (served_flow b n) range.calendar_in_range (range_at b range n below).deadline_most,
+        open_mono b.calendar (le_of_lt (range_at b range n below).release_below),
       ))
       left
       (λ m. σ (served_at b m)) (sequence-on_time n (served_at b n) below refl σ valid on-time)
@@ -109,5 +107,5 @@ module _ (L : Limits) (fit : Fits L) (b : Book) (range : InRange L b) where
       let n = s.position_at in
       let below : n < flow_count b = omega (arith, s.position_below) in
       let left : 0 < units_left_at (served_flow b n) (free_for b n) (slots_for b (served_flow b n)) =
-      something-left (served_flow b n) (free_for b n) (chain_live (served_flow b n) (sized-at L fit b range n below)) (slots_for b (served_flow b n)) s.not_finished in
+      something-left (served_flow b n) (free_for b n) (chain_live (served_flow b n) (sized-at b range n below)) (slots_for b (served_flow b n)) s.not_finished in
       (rw s.served at (service-below b n below), rw s.served at (none_on_time n s.earlier below s.placed_before left))

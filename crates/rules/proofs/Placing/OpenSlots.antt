@@ -1,5 +1,5 @@
--- Open slots of a calendar: how many stand before a slot, and the first slot before which a number of them stands. A calendar in range has reopened by a
--- caller's last deadline, so that twice the open slots before a deadline have passed when the caller's last slot has. Assumes nothing.
+-- Open slots of a calendar: how many stand before a slot, and the first slot before which a number of them stands. A calendar in range has reopened by slot
+-- 4,096, so that twice the open slots before a deadline have passed by slot 8,192 at the latest. Assumes nothing.
 use mathlib.Core.Path.{◌≡◌, refl, ap, ◌∙◌}
 use Prim.Native.Nat.{ℕ, zero, suc, ◌+◌, ◌*◌, ◌-◌, ◌≤◌, ◌<◌}
 use mathlib.Core.Bool.{Bool, true, false, not, and-false}
@@ -9,9 +9,8 @@ use native.Mathlib.Omega.{arith}
 use lib.ListN.{length}
 use lib.Dec.{ltb, leb}
 use borrow.Author.Tests.{le-leb, lt-ltb, le-ltb}
-use Rattle.rules.specs.declared.Limits.{Limits}
 use Rattle.rules.specs.Walks.{if◌then◌else◌, sum_to, bit}
-use Rattle.rules.specs.Ranges.{mill, Fits}
+use Rattle.rules.specs.Limits.{most_reopening, most_deadline, slots}
 use Rattle.rules.specs.Calendar.{Calendar, in_window, is_open, open_before, pass_open, slot_after, window_of, CalendarInRange}
 use Rattle.rules.specs.Book.{Flow, Book, twice_deadline}
 use Rattle.rules.specs.Placing.{slots_for}
@@ -90,27 +89,27 @@ module _ (c : Calendar) where
       taken false = omega arith
 
   -- ---- the first slot before which n open slots stand
-  after : (n : ℕ) → Passed mill.slots n 0 (slot_after c n)
+  after : (n : ℕ) → Passed slots n 0 (slot_after c n)
   unfolding slot_after
-  after n = passed mill.slots n 0
+  after n = passed slots n 0
 
-  pub slot-after_most : (n : ℕ) → slot_after c n ≤ mill.slots
+  pub slot-after_most : (n : ℕ) → slot_after c n ≤ slots
   slot-after_most n = omega (arith, (after n).within)
 
   pub slot-after-not_yet : (n t : ℕ) → t < slot_after c n → open_before c t < n
   slot-after-not_yet n t l = omega (arith, (after n).not_yet t (omega arith) l, open_none)
 
-  pub slot-after-count : (n : ℕ) → n ≤ open_before c mill.slots → open_before c (slot_after c n) ≡ n
+  pub slot-after-count : (n : ℕ) → n ≤ open_before c slots → open_before c (slot_after c n) ≡ n
   slot-after-count n h = go (after n).count
     where
-      go : (open_before c (slot_after c n) ≡ open_before c 0 + n) ⊎ ((slot_after c n ≡ 0 + mill.slots) × (open_before c (slot_after c n) < open_before c 0 + n)) → open_before c (slot_after c n) ≡ n
+      go : (open_before c (slot_after c n) ≡ open_before c 0 + n) ⊎ ((slot_after c n ≡ 0 + slots) × (open_before c (slot_after c n) < open_before c 0 + n)) → open_before c (slot_after c n) ≡ n
       go (inl q) = omega (arith, open_none)
       go (inr q) =
-          let e : slot_after c n ≡ mill.slots = omega (arith, q.0) in
+          let e : slot_after c n ≡ slots = omega (arith, q.0) in
           absurd (omega (arith, q.1, open_none, ap (open_before c) e))
 
   -- no other slot is that
-  pub slot-after_is : (n u : ℕ) → u ≤ mill.slots → open_before c u ≡ n → ((t : ℕ) → t < u → open_before c t < n) → slot_after c n ≡ u
+  pub slot-after_is : (n u : ℕ) → u ≤ slots → open_before c u ≡ n → ((t : ℕ) → t < u → open_before c t < n) → slot_after c n ≡ u
   slot-after_is n u l e first =
       let stands : open_before c (slot_after c n) ≡ n = slot-after-count n (omega (arith, open_mono l)) in
       neither-less (slot_after c n) u (λ a. omega (arith, first (slot_after c n) a, stands)) (λ a. omega (arith, slot-after-not_yet n u a))
@@ -138,50 +137,32 @@ open-from (v ∷ vs) t h =
     let past : ltb t v.reopening ≡ false = le-ltb t v.reopening (h 0 (omega arith)) in
     rw (past, open-from vs t (λ k l. h (suc k) (omega arith)), and-false (leb v.shut t)) refl
 
-module _ (L : Limits) (fit : Fits L) (c : Calendar) (range : CalendarInRange L c) where
-  pub reopened : (t : ℕ) → L.reopening ≤ t → is_open c t ≡ true
+module _ (c : Calendar) (range : CalendarInRange c) where
+  pub reopened : (t : ℕ) → most_reopening ≤ t → is_open c t ≡ true
   reopened t h = open-from c t (λ k l. omega (arith, range.reopens k l))
 
   -- twice the open slots before a deadline have passed by the last slot
-  pub twice-fits : (d : ℕ) → d ≤ L.deadline → 2 * open_before c d ≤ open_before c L.slots
-  twice-fits d h =
-      let deadline : L.reopening + (L.deadline - L.reopening) ≡ L.deadline = omega arith in
-      let last : L.reopening + (L.slots - L.reopening) ≡ L.slots = omega arith in
-      omega (
-        arith,
-        open_mono c {t = d} {u = L.deadline} h,
-        open-on c L.reopening (L.deadline - L.reopening) reopened,
-        open-on c L.reopening (L.slots - L.reopening) reopened,
-        ap (open_before c) deadline,
-        ap (open_before c) last,
-        open_most c L.reopening,
-      )
+  pub twice-fits : (d : ℕ) → d ≤ most_deadline → 2 * open_before c d ≤ open_before c slots
+  twice-fits d h = omega (arith, open-on c most_reopening 4096 reopened, open_mono c {t = d} {u = most_reopening} h, open_most c most_reopening)
 
 -- ---- rule 6
 module _ (b : Book) (w : Flow) where
+  pub limit_most : slots_for b w ≤ slots
+  unfolding slots_for
+  limit_most = slot-after_most b.calendar _
+
+  twice_passes : CalendarInRange b.calendar → w.deadline ≤ most_deadline → twice_deadline b w ≤ open_before b.calendar slots
+  unfolding twice_deadline
+  twice_passes range h = omega (arith, twice-fits b.calendar range w.deadline h)
+
+  -- twice the open slots before the deadline stand before the limit, and before no earlier slot
+  pub limit-count : CalendarInRange b.calendar → w.deadline ≤ most_deadline → open_before b.calendar (slots_for b w) ≡ twice_deadline b w
+  unfolding slots_for
+  limit-count range h = slot-after-count b.calendar (twice_deadline b w) (twice_passes range h)
+
   pub limit-not_yet : (t : ℕ) → t < slots_for b w → open_before b.calendar t < twice_deadline b w
   unfolding slots_for
   limit-not_yet t l = slot-after-not_yet b.calendar (twice_deadline b w) t l
-
-module _ (L : Limits) (fit : Fits L) (b : Book) (w : Flow) (range : CalendarInRange L b.calendar) (h : w.deadline ≤ L.deadline) where
-  twice_passes : twice_deadline b w ≤ open_before b.calendar L.slots
-  unfolding twice_deadline
-  twice_passes = twice-fits L fit b.calendar range w.deadline h
-
-  -- twice the open slots before the deadline stand before the limit, and before no earlier slot
-  pub limit-count : open_before b.calendar (slots_for b w) ≡ twice_deadline b w
-  unfolding slots_for
-  limit-count =
-      slot-after-count b.calendar (twice_deadline b w)
-      (omega (arith, twice_passes, open_mono b.calendar {t = L.slots} {u = mill.slots} (omega arith)))
-
-  -- the limit is one of the caller's slots, or the first behind them
-  pub limit_most : slots_for b w ≤ L.slots
-  limit_most = go (lt-or_ge L.slots (slots_for b w))
-    where
-      go : (L.slots < slots_for b w) ⊎ (slots_for b w ≤ L.slots) → slots_for b w ≤ L.slots
-      go (inl l) = absurd (omega (arith, limit-not_yet b w L.slots l, twice_passes))
-      go (inr l) = l
 
 -- books with the same calendar have the same limit
 pub limit-same : (b c : Book) → b.calendar ≡ c.calendar → (w : Flow) → slots_for b w ≡ slots_for c w
@@ -197,7 +178,7 @@ pub open-all : (t : ℕ) → open_before [] t ≡ t
 open-all zero = open_none []
 open-all (suc t) = rw (open_next [] t, always t, open-all t) (omega arith)
 
-pub limit-without : (b : Book) (w : Flow) → b.calendar ≡ [] → w.deadline ≤ mill.deadline → slots_for b w ≡ 2 * w.deadline
+pub limit-without : (b : Book) (w : Flow) → b.calendar ≡ [] → w.deadline ≤ most_deadline → slots_for b w ≡ 2 * w.deadline
 unfolding slots_for twice_deadline
 limit-without b w e h =
     ap (λ (c : Calendar). slot_after c (2 * open_before c w.deadline)) e

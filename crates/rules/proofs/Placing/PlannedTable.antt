@@ -5,9 +5,8 @@ use Prim.Native.Nat.{ℕ, ◌+◌, ◌-◌, ◌≤◌, ◌<◌}
 use mathlib.Core.List.{List, [], ◌++◌, append-nil}
 use native.Mathlib.Nat.{add-sub_of_le}
 use native.Mathlib.Omega.{arith}
-use Rattle.rules.specs.declared.Limits.{Limits}
 use Rattle.rules.specs.Walks.{join_from}
-use Rattle.rules.specs.Ranges.{Fits}
+use Rattle.rules.specs.Limits.{slots}
 use Rattle.rules.specs.Book.{Book, flow_count, job_count, InRange}
 use Rattle.rules.specs.Service.{served_at}
 use Rattle.rules.specs.Rows.{Row, row_for, late_flows}
@@ -22,7 +21,7 @@ use Rattle.rules.proofs.Placing.OpenSlots.{limit_most}
 use Rattle.rules.proofs.Rows.ScheduleRows.{schedule-rows-rising}
 use Rattle.rules.proofs.Rows.FlowRows.{flow_grid}
 use Rattle.rules.proofs.Placing.PlannedRows.{join-nothing, served_flow, planned_share, planned_grid, placed-rows, states-share, states-none_of-flow}
-use Rattle.rules.proofs.Placing.PlannedValid.{range_at, all_placed, planned-valid, planned_in-slots}
+use Rattle.rules.proofs.Placing.PlannedValid.{all_placed, planned-valid, planned_in-slots}
 
 -- ---- rows of a flow by slot and job
 grid_ext : (f m n : ℕ) (τ υ : ℕ → ℕ → ℕ) → ((i t : ℕ) → i < m → t < n → τ i t ≡ υ i t) → flow_grid f m n τ ≡ flow_grid f m n υ
@@ -45,34 +44,34 @@ grid-longer f m n k τ l h =
     join-split (λ t. join_from (λ i. row_for t f i (τ i t)) m 0) n (k - n) 0 ∙
     ap (join_from (λ t. join_from (λ i. row_for t f i (τ i t)) m 0) n 0 ++◌) rest ∙ append-nil (join_from (λ t. join_from (λ i. row_for t f i (τ i t)) m 0) n 0))
 
-module _ (L : Limits) (fit : Fits L) (b : Book) (range : InRange L b) (rows : List Row) (e : plan b ≡ planned rows) where
-  own-rows : (n : ℕ) → n < flow_count b → planned_grid b n ≡ flow_grid (served_at b n) (job_count (served_flow b n)) L.slots (schedule_of rows (served_at b n))
+module _ (b : Book) (range : InRange b) (rows : List Row) (e : plan b ≡ planned rows) where
+  own-rows : (n : ℕ) → n < flow_count b → planned_grid b n ≡ flow_grid (served_at b n) (job_count (served_flow b n)) slots (schedule_of rows (served_at b n))
   unfolding planned_grid
   own-rows n l =
       grid_ext (served_at b n) (job_count (served_flow b n)) (slots_for b (served_flow b n)) (planned_share b n) (schedule_of rows (served_at b n))
-      (λ i t a c. sym (states-share b (flow_count b) rows (all_placed L fit b range rows e) (omega arith) n i t l a c)) ∙
-      grid-longer (served_at b n) (job_count (served_flow b n)) (slots_for b (served_flow b n)) L.slots (schedule_of rows (served_at b n))
-      (limit_most L fit b (served_flow b n) range.calendar_in_range (range_at L fit b range n l).deadline_most)
-      (λ i t a c. states-none_of-flow b (flow_count b) rows (all_placed L fit b range rows e) (omega arith) n i t l (λ x y. omega arith))
+      (λ i t a c. sym (states-share b (flow_count b) rows (all_placed b range rows e) (omega arith) n i t l a c)) ∙
+      grid-longer (served_at b n) (job_count (served_flow b n)) (slots_for b (served_flow b n)) slots (schedule_of rows (served_at b n))
+      (limit_most b (served_flow b n))
+      (λ i t a c. states-none_of-flow b (flow_count b) rows (all_placed b range rows e) (omega arith) n i t l (λ x y. omega arith))
 
   -- the rows of a plan are the rows of the schedule that they state
-  pub planned-rows_are-schedule_rows : rows ≡ schedule_rows L b (schedule_of rows)
+  pub planned-rows_are-schedule_rows : rows ≡ schedule_rows b (schedule_of rows)
   unfolding schedule_rows flow_grid
   planned-rows_are-schedule_rows =
-      placed-rows b (flow_count b) rows (all_placed L fit b range rows e) ∙
-      join-ext (planned_grid b) (λ n. flow_grid (served_at b n) (job_count (served_flow b n)) L.slots (schedule_of rows (served_at b n))) (flow_count b) 0
+      placed-rows b (flow_count b) rows (all_placed b range rows e) ∙
+      join-ext (planned_grid b) (λ n. flow_grid (served_at b n) (job_count (served_flow b n)) slots (schedule_of rows (served_at b n))) (flow_count b) 0
       (λ n l. own-rows (0 + n) (omega arith))
 
   -- they stand in the stated order
   pub planned-rows-rising : Rising (Before b) rows
-  planned-rows-rising = subst (Rising (Before b)) (sym planned-rows_are-schedule_rows) (schedule-rows-rising L b (schedule_of rows))
+  planned-rows-rising = subst (Rising (Before b)) (sym planned-rows_are-schedule_rows) (schedule-rows-rising b (schedule_of rows))
 
   -- the table that is written is the table of a valid schedule
-  pub planned-table_is-schedule_table : IsScheduleTable L b (table_bytes b rows) (late_flows b rows)
+  pub planned-table_is-schedule_table : IsScheduleTable b (table_bytes b rows) (late_flows b rows)
   planned-table_is-schedule_table = record {
     schedule = schedule_of rows;
-    valid = planned-valid L fit b range rows e;
-    in_slots = planned_in-slots L fit b range rows e;
+    valid = planned-valid b range rows e;
+    in_slots = planned_in-slots b range rows e;
     written = unfold schedule_table in ap (table_bytes b) planned-rows_are-schedule_rows;
     late_flows_is = ap (late_flows b) planned-rows_are-schedule_rows;
   }

@@ -9,9 +9,8 @@ use mathlib.Core.List.{List}
 use mathlib.Core.Logic.{◌⊎◌, inl, inr}
 use native.Mathlib.Nat.{le_trans}
 use native.Mathlib.Omega.{arith}
-use Rattle.rules.specs.declared.Limits.{Limits}
 use Rattle.rules.specs.Walks.{sum_to, join_from}
-use Rattle.rules.specs.Ranges.{Fits}
+use Rattle.rules.specs.Limits.{slots}
 use Rattle.rules.specs.Book.{Book, flow_count, job_count, flow_of, job_of, precedes, usable, FlowInRange, InRange}
 use Rattle.rules.specs.Service.{served_at}
 use Rattle.rules.specs.Rows.{Row, sum_where, used_in, finish_of}
@@ -76,12 +75,12 @@ valid-among b p q σ same v = record {
     back : (f i : ℕ) → IsJob b q f i → IsJob b p f i
     back f i j = over q p (λ g l. sym (same g l)) f i j
 
-module _ (L : Limits) (fit : Fits L) (b : Book) (range : InRange L b) where
-  pub range_at : (n : ℕ) → n < flow_count b → FlowInRange L b.processors (served_flow b n)
-  range_at n l = used_in-range L range (served_at b n) (service-below b n l)
+module _ (b : Book) (range : InRange b) where
+  pub range_at : (n : ℕ) → n < flow_count b → FlowInRange b.processors (served_flow b n)
+  range_at n l = used_in-range range (served_at b n) (service-below b n l)
 
   pub sized-at : (n : ℕ) → n < flow_count b → Sized (served_flow b n)
-  sized-at n l = in-range-sized L (range_at n l)
+  sized-at n l = in-range-sized (range_at n l)
 
   -- ---- the use of slots
   -- a flow's rows use at most what the flow is given
@@ -162,16 +161,16 @@ module _ (L : Limits) (fit : Fits L) (b : Book) (range : InRange L b) where
       flow-sum : (i t : ℕ) → i < job_count (served_flow b n) → t ≤ slots_for b (served_flow b n) → sum_to (schedule_of rows (served_at b n) i) t ≡ sum_to (planned_share b n i) t
       flow-sum i t a c = sum_ext _ _ t (λ u d. states-share b k rows e h n i u l a (omega arith))
 
-      slots-enough : slots_for b (served_flow b n) ≤ L.slots
-      slots-enough = limit_most L fit b (served_flow b n) range.calendar_in_range (range_at n within_count).deadline_most
+      slots-enough : slots_for b (served_flow b n) ≤ slots
+      slots-enough = limit_most b (served_flow b n)
 
-      flow-sizes : (i : ℕ) → i < job_count (served_flow b n) → sum_to (schedule_of rows (served_at b n) i) L.slots ≡ (job_of (served_flow b n) i).size
+      flow-sizes : (i : ℕ) → i < job_count (served_flow b n) → sum_to (schedule_of rows (served_at b n) i) slots ≡ (job_of (served_flow b n) i).size
       flow-sizes i a =
           omega (
             arith,
             flow-sum i (slots_for b (served_flow b n)) a (omega arith),
             placed_exactly (served_flow b n) (free_for b n) (sized-at n within_count) i (slots_for b (served_flow b n)) a (placed-finished b k rows e n l),
-            sum_quiet (schedule_of rows (served_at b n) i) (slots_for b (served_flow b n)) L.slots (flow-ends i),
+            sum_quiet (schedule_of rows (served_at b n) i) (slots_for b (served_flow b n)) slots (flow-ends i),
             sum_up (schedule_of rows (served_at b n) i) slots-enough,
           )
 
@@ -214,13 +213,13 @@ module _ (L : Limits) (fit : Fits L) (b : Book) (range : InRange L b) where
         go false q = other f (λ i t. states-nothing b k rows e f i t (at_no-position f q)) q
 
     -- each row is one of a flow placed
-    pub first-rows_fit : (r : Row) → r ∈ rows → RowFits b r
-    first-rows_fit r m =
+    pub first-rows-fit : (r : Row) → r ∈ rows → RowFits b r
+    first-rows-fit r m =
         let n = join_in (planned_grid b) k (subst (λ (xs : List Row). r ∈ xs) (placed-rows b k rows e) m) in
-        of_flow n.0 n.1 n.2
+        fit n.0 n.1 n.2
       where
-        of_flow : (n : ℕ) → n < k → r ∈ planned_grid b n → RowFits b r
-        of_flow n l g =
+        fit : (n : ℕ) → n < k → r ∈ planned_grid b n → RowFits b r
+        fit n l g =
             let s = grid_in (served_at b n) (job_count (served_flow b n)) (slots_for b (served_flow b n)) (planned_share b n) r (unfold planned_grid in g) in
             subst (RowFits b) (sym s.4)
             (record {
@@ -232,9 +231,9 @@ module _ (L : Limits) (fit : Fits L) (b : Book) (range : InRange L b) where
             })
 
     -- its slots are those of a table
-    pub first_in-slots : InSlots L (schedule_of rows)
+    pub first_in-slots : InSlots (schedule_of rows)
     unfolding InSlots
-    first_in-slots = by-flow (λ f. (i t : ℕ) → L.slots ≤ t → schedule_of rows f i t ≡ 0)
+    first_in-slots = by-flow (λ f. (i t : ℕ) → slots ≤ t → schedule_of rows f i t ≡ 0)
         (λ n l i t g. flow-ends n l i t (le_trans (slots-enough n l) g)) (λ f z q i t g. z i t)
 
     -- the rows of the first k flows are a valid schedule of these
@@ -248,12 +247,12 @@ module _ (L : Limits) (fit : Fits L) (b : Book) (range : InRange L b) where
           (λ n l i t j. flow-caps n l i t j.job_in) (λ f z q i t j. omega (arith, z i t));
       together = λ t. omega (
         arith,
-        used-in_use b rows t (λ r m. record { flow_in_is = (first-rows_fit r m).flow_in_is; job_in = (first-rows_fit r m).job_in }),
+        used-in_use b rows t (λ r m. record { flow_in_is = (first-rows-fit r m).flow_in_is; job_in = (first-rows-fit r m).job_in }),
         used-within-processors k rows h e t,
       );
-      horizon = L.slots;
+      horizon = slots;
       nothing_after = unfold InSlots in first_in-slots;
-      sizes = by-flow (λ f. (i : ℕ) → IsJob b (among_first b k) f i → sum_to (schedule_of rows f i) L.slots ≡ (job_of (flow_of b f) i).size)
+      sizes = by-flow (λ f. (i : ℕ) → IsJob b (among_first b k) f i → sum_to (schedule_of rows f i) slots ≡ (job_of (flow_of b f) i).size)
           (λ n l i j. flow-sizes n l i j.job_in) (λ f z q i j. absurd (false≢true (sym q ∙ j.flow_among)));
       precedence = by-flow
           (λ f. (i m t : ℕ) → IsJob b (among_first b k) f i → precedes (flow_of b f) m i ≡ true → 0 < schedule_of rows f i t →
@@ -265,7 +264,7 @@ module _ (L : Limits) (fit : Fits L) (b : Book) (range : InRange L b) where
 
     -- a finish is no later than a slot from which on the flow has nothing
     pub first-finish-least : (f d : ℕ) → EndsBy (schedule_of rows) f d → finish_of rows f ≤ d
-    first-finish-least f d = ends-finish rows f d (λ r m. (first-rows_fit r m).processors_least)
+    first-finish-least f d = ends-finish rows f d (λ r m. (first-rows-fit r m).processors_least)
 
     -- each of them ends within twice its deadline, in open slots
     pub first-finish-within-twice : (f : ℕ) → WithinTwice b f (finish_of rows f)
@@ -273,7 +272,7 @@ module _ (L : Limits) (fit : Fits L) (b : Book) (range : InRange L b) where
         (λ n l. omega (
           arith,
           open_mono b.calendar (first-finish-least (served_at b n) (slots_for b (served_flow b n)) (unfold EndsBy in flow-ends n l)),
-          limit-count L fit b (served_flow b n) range.calendar_in_range (range_at n (within_count n l)).deadline_most,
+          limit-count b (served_flow b n) range.calendar_in_range (range_at n (within_count n l)).deadline_most,
         ))
         (λ f z q. omega (
           arith,
@@ -282,9 +281,9 @@ module _ (L : Limits) (fit : Fits L) (b : Book) (range : InRange L b) where
         ))
 
     -- and within the slots of a table
-    pub first-finish_in-slots : (f : ℕ) → finish_of rows f ≤ L.slots
+    pub first-finish_in-slots : (f : ℕ) → finish_of rows f ≤ slots
     unfolding InSlots EndsBy
-    first-finish_in-slots f = first-finish-least f L.slots (first_in-slots f)
+    first-finish_in-slots f = first-finish-least f slots (first_in-slots f)
 
   -- ---- the whole plan
   module _ (rows : List Row) (e : plan b ≡ planned rows) where
@@ -296,8 +295,8 @@ module _ (L : Limits) (fit : Fits L) (b : Book) (range : InRange L b) where
         valid-among b (among_first b (flow_count b)) every_flow (schedule_of rows) (among-all b)
         (first-planned-valid (flow_count b) rows (omega arith) all_placed)
 
-    pub planned_in-slots : InSlots L (schedule_of rows)
+    pub planned_in-slots : InSlots (schedule_of rows)
     planned_in-slots = first_in-slots (flow_count b) rows (omega arith) all_placed
 
-    pub planned-rows_fit : (r : Row) → r ∈ rows → RowFits b r
-    planned-rows_fit = first-rows_fit (flow_count b) rows (omega arith) all_placed
+    pub planned-rows-fit : (r : Row) → r ∈ rows → RowFits b r
+    planned-rows-fit = first-rows-fit (flow_count b) rows (omega arith) all_placed

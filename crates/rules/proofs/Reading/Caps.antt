@@ -5,7 +5,6 @@ use Prim.Native.Nat.{ℕ, ◌≤◌, ◌<◌}
 use native.Mathlib.Omega.{arith}
 use lib.ListN.{length-map, get_or, get_or-map}
 use lib.Seq.{ext_get_or}
-use Rattle.rules.specs.declared.Limits.{Limits}
 use Rattle.rules.specs.Book.{Job, Flow, Book, flow_count, job_count, no_job, flow_in, lower_cap, lower_caps, flow_of, job_of, FlowInRange, InRange}
 
 pub count-lowered : (P : ℕ) (w : Flow) → job_count (lower_caps P w) ≡ job_count w
@@ -24,9 +23,9 @@ unfolding lower_caps job_of
 job-lowered P w i = ap (get_or (lower_caps P w).jobs i) (sym (cap_kept P no_job (omega arith))) ∙ get_or-map (lower_cap P) w.jobs i no_job
 
 -- in range with any caps, a flow is in range with caps up to P, or to more, once they are lowered to P
-pub lowered_in-range : (L : Limits) {cap_limit : ℕ} (P most : ℕ) (w : Flow) → 1 ≤ P → P ≤ most → FlowInRange L cap_limit w → FlowInRange L most (lower_caps P w)
+pub lowered_in-range : {cap_limit : ℕ} (P most : ℕ) (w : Flow) → 1 ≤ P → P ≤ most → FlowInRange cap_limit w → FlowInRange most (lower_caps P w)
 unfolding lower_caps lower_cap
-lowered_in-range L P most w some up r = record {
+lowered_in-range P most w some up r = record {
   deadline_least = r.deadline_least;
   deadline_most = r.deadline_most;
   release_below = r.release_below;
@@ -45,9 +44,9 @@ lowered_in-range L P most w some up r = record {
 }
 
 -- each flow of a book in range, as it is used
-pub used_in-range : (L : Limits) {b : Book} → InRange L b → (f : ℕ) → f < flow_count b → FlowInRange L b.processors (flow_of b f)
+pub used_in-range : {b : Book} → InRange b → (f : ℕ) → f < flow_count b → FlowInRange b.processors (flow_of b f)
 unfolding flow_of
-used_in-range L {b} r f l = lowered_in-range L b.processors b.processors (flow_in b f) r.processors_least (omega arith) (r.each_flow f l)
+used_in-range {b} r f l = lowered_in-range b.processors b.processors (flow_in b f) r.processors_least (omega arith) (r.each_flow f l)
 
 -- where no cap is above P the flow is untouched
 pub caps-kept : (P : ℕ) (w : Flow) → ((i : ℕ) → (job_of w i).cap ≤ P) → lower_caps P w ≡ w

@@ -12,7 +12,6 @@ use native.Mathlib.Omega.{arith}
 use lib.ListN.{length, get_or}
 use lib.Dec.{eqb}
 use borrow.Author.Tests.{eqb-true, eq-eqb, ne_eqb}
-use Rattle.rules.specs.declared.Limits.{Limits}
 use Rattle.rules.specs.Walks.{if◌then◌else◌, sum_to, bit, count_to, any_to}
 use Rattle.rules.specs.Book.{Flow, Book, flow_count, no_flow, flow_in, lower_caps, flow_of, InRange}
 use Rattle.rules.specs.Service.{served_before, served_at}
@@ -208,8 +207,8 @@ module _ (b : Book) (k : ℕ) where
   cut-at_most = omega (arith, cut-length, chosen-here.count, count_most (λ i. among_first b k (0 + i)) (flow_count b))
 
   -- a book in range stays so when it is cut
-  pub cut_in-range : (L : Limits) → InRange L b → InRange L (cut b k)
-  cut_in-range L r = record {
+  pub cut_in-range : InRange b → InRange (cut b k)
+  cut_in-range r = record {
     processors_least = rw cut-processors r.processors_least;
     processors_most = rw cut-processors r.processors_most;
     flows_most = omega (arith, cut-at_most, r.flows_most);

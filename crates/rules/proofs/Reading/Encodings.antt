@@ -5,7 +5,6 @@ use Prim.Native.Nat.{ℕ, zero, suc, ◌+◌, ◌*◌, ◌≤◌, ◌<◌}
 use mathlib.Core.List.{List, ◌++◌}
 use native.Mathlib.Omega.{arith}
 use lib.ListN.{length, length-append}
-use Rattle.rules.specs.declared.Limits.{Limits}
 use Rattle.rules.specs.Walks.{join_from, sum_to}
 use Rattle.rules.specs.Fields.{byte, field, bytes_of, AllBytes}
 use Rattle.rules.specs.Calendar.{Calendar, window_of, calendar_of, calendar_head, window_length, window_at, calendar_bytes, window_bytes}
@@ -62,7 +61,7 @@ module _ (s : List ℕ) (bytes : AllBytes s) where
       each i l = rw (job_of-flow s at i (rw (job-count s at) at l)) (job-encoded (job_start s at i))
 
   -- the whole book, where it passes
-  module _ (L : Limits) (passes : BookPasses L s) where
+  module _ (passes : BookPasses s) where
     abbrev b : Book
     b = book_of s
 
@@ -119,7 +118,7 @@ module _ (s : List ℕ) (bytes : AllBytes s) where
         count = bytes_of 1 (flow_count b)
 
   -- ---- a calendar
-  module _ (L : Limits) (passes : CalendarPasses L s) where
+  module _ (passes : CalendarPasses s) where
     abbrev c : Calendar
     c = calendar_of s
 

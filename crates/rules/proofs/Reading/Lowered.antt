@@ -8,10 +8,9 @@ use lib.ListN.{length, length-map, get_or-map}
 use lib.Dec.{ltb, leb, eqb}
 use borrow.Author.Tests.{le-ltb, ne_eqb}
 use Rattle.rules.specs.declared.Verdict.TheVariants.{Pass, Refused}
-use Rattle.rules.specs.declared.Limits.{Limits}
 use Rattle.rules.specs.Walks.{if◌then◌else◌}
 use Rattle.rules.specs.Fields.{field, AllBytes}
-use Rattle.rules.specs.Ranges.{outside, most_processors, most_size, most_cap, Fits}
+use Rattle.rules.specs.Limits.{outside, most_processors, most_size, most_cap}
 use Rattle.rules.specs.Book.{Book, flow_count, no_flow, flow_in, lower_cap, lower_caps, flow_of, lowered, job_of, InRange}
 use Rattle.rules.specs.Reading.{version_of, job_record, job_fault, read_book, read, book_bytes}
 use Rattle.rules.proofs.Reading.Caps.{job-lowered, lowered_in-range, caps-kept}
@@ -51,15 +50,15 @@ module _ (b : Book) where
   }
 
   -- it is in range, and can be written in the same version
-  lowered_book_in-range : (L : Limits) → InRange L b → InRange L (lowered b)
+  lowered_book_in-range : InRange b → InRange (lowered b)
   unfolding lowered
-  lowered_book_in-range L r = record {
+  lowered_book_in-range r = record {
     processors_least = r.processors_least;
     processors_most = r.processors_most;
     flows_most = omega (arith, count_of-lowered, r.flows_most);
     each_flow = λ f l.
         rw (flow_in-lowered f)
-        (lowered_in-range L b.processors most_cap (flow_in b f) r.processors_least (omega (arith, r.processors_most))
+        (lowered_in-range b.processors most_cap (flow_in b f) r.processors_least (omega (arith, r.processors_most))
         (r.each_flow f (omega (arith, count_of-lowered))));
     calendar_in_range = r.calendar_in_range;
   }
@@ -72,11 +71,11 @@ module _ (b : Book) where
   }
 
 -- a book that is read is read with its caps lowered too
-pub lowered_reads : (L : Limits) → Fits L → (book calendar : List ℕ) (b : Book) → read_book L book calendar ≡ read b →
-    read_book L (book_bytes (version_of book) (lowered b)) calendar ≡ read (lowered b)
-lowered_reads L fit book calendar b e =
-    read-beside L fit book calendar b e (version_of book) (lowered b) (lowered_book_in-range b L (read_in-range L book calendar b e))
-    (lowered_writable b (version_of book) (read_writable L fit book calendar b e)) (sym (same_use b).calendar)
+pub lowered_reads : (book calendar : List ℕ) (b : Book) → read_book book calendar ≡ read b →
+    read_book (book_bytes (version_of book) (lowered b)) calendar ≡ read (lowered b)
+lowered_reads book calendar b e =
+    read-beside book calendar b e (version_of book) (lowered b) (lowered_book_in-range b (read_in-range book calendar b e))
+    (lowered_writable b (version_of book) (read_writable book calendar b e)) (sym (same_use b).calendar)
 
 -- ---- Req 02
 -- "Only a cap of 0 is still 9": two bytes hold no more than 65,535

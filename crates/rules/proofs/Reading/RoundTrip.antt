@@ -9,20 +9,19 @@ use native.Mathlib.Nat.{pow-le-pow_right}
 use native.Mathlib.Omega.{arith}
 use lib.ListN.{length, length-append}
 use lib.Dec.{eqb}
-use borrow.Author.Tests.{le-ltb, lt-leb}
+use borrow.Author.Tests.{le-ltb, lt-leb, eq-eqb}
 use Rattle.rules.specs.declared.Verdict.TheVariants.{Pass}
-use Rattle.rules.specs.declared.Limits.{Limits}
 use Rattle.rules.specs.Walks.{if◌then◌else◌, sum_to, list_from, join_from}
 use Rattle.rules.specs.Fields.{byte, field, bytes_of, AllBytes}
-use Rattle.rules.specs.Ranges.{most_jobs, most_cap, Fits}
+use Rattle.rules.specs.Limits.{most_jobs, most_cap, most_windows, most_reopening}
 use Rattle.rules.specs.Calendar.{Calendar, calendar_of, calendar_fault, CalendarInRange, window_of, calendar_bytes, calendar_head, window_length, window_at, begins_early, window_fault, no_window, Window, window_bytes}
 use Rattle.rules.specs.Book.{Job, Flow, Book, with_calendar, flow_count, job_count, no_flow, no_job, flow_in, job_of, JobInRange, FlowInRange, InRange}
 use Rattle.rules.specs.Reading.{book_head, version_of, release_size, flow_head, job_record, release_at, jobs_at, flow_start, job_start, job_at, flow_at, book_of, book_fault, read_book, job_bytes, flow_bytes, flows_bytes, book_bytes}
 use Rattle.rules.specs.Reading.Reading.{read}
 use Rattle.rules.proofs.Laws.Sums.{sum_ext, sum_const, sum-le, sum_up}
-use Rattle.rules.proofs.Laws.Walks.{list_of, join-length-zero}
+use Rattle.rules.proofs.Laws.Walks.{list_of, join-length-zero, any_false}
 use Rattle.rules.proofs.Laws.Fields.{bytes-length, StandsAt, stands-whole, stands-first, stands_after, stands_join, field-written, byte-written, bytes_of_lem, bytes-append, bytes_join, join-bytes-length, stands_join-at}
-use Rattle.rules.proofs.Reading.Passing.{calendar_no_fault, Known, FlowPasses, flow_no_fault, book_no_fault, pass-reads}
+use Rattle.rules.proofs.Reading.Passing.{Known, FlowPasses, flow_no_fault, book_no_fault, pass-reads}
 
 -- ---- lengths
 pub job-length : (j : Job) → length (job_bytes j) ≡ job_record
@@ -61,7 +60,7 @@ module _ (i : ℕ) (j : Job) (s : List ℕ) (at : ℕ) (r : JobInRange most_cap 
           (stands_after s at 6 (bytes_of 4 j.size ++ bytes_of 2 j.cap) (bytes_of 8 j.predecessors) (simp (length-append, bytes-length)) h)
 
 -- ---- a flow that stands in the bytes of a book of version v; its release fits its field
-module _ (L : Limits) (fit : Fits L) (v : ℕ) (w : Flow) (s : List ℕ) (at : ℕ) (r : FlowInRange L most_cap w) (fits : w.release < 256 ^ release_size v)
+module _ (v : ℕ) (w : Flow) (s : List ℕ) (at : ℕ) (r : FlowInRange most_cap w) (fits : w.release < 256 ^ release_size v)
     (version : version_of s ≡ v) (h : StandsAt s at (flow_bytes v w)) where
   -- the parts of the head
   abbrev deadline : List ℕ
@@ -122,7 +121,7 @@ module _ (L : Limits) (fit : Fits L) (v : ℕ) (w : Flow) (s : List ℕ) (at : �
       jobs-read = list_of (λ i. job_at s (job_start s at i)) (jobs_at s at) w.jobs no_job job-count-read job-read-at
 
   -- a flow in range that stands inside the bytes of a book passes
-  pub flow-stands-passes : at + length (flow_bytes v w) ≤ length s → FlowPasses L s at
+  pub flow-stands-passes : at + length (flow_bytes v w) ≤ length s → FlowPasses s at
   flow-stands-passes inside = record {
     head = record {
       flow_head_whole = rw version (omega (arith, flow-length v w));
@@ -199,9 +198,9 @@ pub record Writable (v : ℕ) (b : Book) : Type 0 where
   pub release_fits : (f : ℕ) → f < flow_count b → (flow_in b f).release < 256 ^ release_size v
 
 -- in version 2 all values in range can be written, in version 1 those without releases
-pub writable_two : (L : Limits) → Fits L → (b : Book) → InRange L b → Writable 2 b
+pub writable_two : (b : Book) → InRange b → Writable 2 b
 unfolding release_size
-writable_two L fit b r = record {
+writable_two b r = record {
   version_known = inr refl;
   release_fits = λ f l. omega (arith, (r.each_flow f l).release_below, (r.each_flow f l).deadline_most);
 }
@@ -218,7 +217,7 @@ release-size_most v = go (eqb v 2)
     go true = omega arith
     go false = omega arith
 
-module _ (L : Limits) (fit : Fits L) (v : ℕ) (b : Book) (r : InRange L b) (can : Writable v b) where
+module _ (v : ℕ) (b : Book) (r : InRange b) (can : Writable v b) where
   -- a book in range has at most 8 + 64 * (5 + 14 * 64) bytes
   pub book-length_most : length (book_bytes v b) ≤ 57672
   book-length_most =
@@ -266,7 +265,7 @@ module _ (L : Limits) (fit : Fits L) (v : ℕ) (b : Book) (r : InRange L b) (can
       let m : f < flow_count b = omega arith in
       let count : jobs_at (book_bytes v b) (flow_start (book_bytes v b) f) ≡ job_count (flow_in b f) =
       ap (jobs_at (book_bytes v b)) ih
-      ∙ job-count-read L fit v (flow_in b f) (book_bytes v b) (book_head + flows_before v b f) (r.each_flow f m)
+      ∙ job-count-read v (flow_in b f) (book_bytes v b) (book_head + flows_before v b f) (r.each_flow f m)
       (can.release_fits f m) version-read (flow-stands f m) in
       omega (arith, flow-length v (flow_in b f), ap release_size version-read)
 
@@ -285,8 +284,8 @@ module _ (L : Limits) (fit : Fits L) (v : ℕ) (b : Book) (r : InRange L b) (can
       )
 
   -- no test turns the bytes down
-  pub written-passes : book_fault L (book_bytes v b) ≡ Pass
-  written-passes = book_no_fault L (book_bytes v b) (record {
+  pub written-passes : book_fault (book_bytes v b) ≡ Pass
+  written-passes = book_no_fault (book_bytes v b) (record {
     head_whole = omega (arith, book-length v b);
     length_field = length-read;
     version_known = subst Known (sym version-read) can.version_known;
@@ -295,8 +294,8 @@ module _ (L : Limits) (fit : Fits L) (v : ℕ) (b : Book) (r : InRange L b) (can
     flows_to = rw flow-count-read r.flows_most;
     each_passes = λ f l.
         let m : f < flow_count b = rw flow-count-read at l in
-        flow_no_fault L (book_bytes v b) f (flow_start (book_bytes v b) f)
-        (flow-stands-passes L fit v (flow_in b f) (book_bytes v b) (flow_start (book_bytes v b) f) (r.each_flow f m)
+        flow_no_fault (book_bytes v b) f (flow_start (book_bytes v b) f)
+        (flow-stands-passes v (flow_in b f) (book_bytes v b) (flow_start (book_bytes v b) f) (r.each_flow f m)
         (can.release_fits f m) version-read (flow-stands_at_start f m) (flow_fits f m));
     nothing_left = omega (arith, ap (flow_start (book_bytes v b)) flow-count-read, flow_start-read (flow_count b) (omega arith), book-length v b, flows-length v b);
   })
@@ -311,7 +310,7 @@ module _ (L : Limits) (fit : Fits L) (v : ℕ) (b : Book) (r : InRange L b) (can
 
       flow-read-at : (f : ℕ) → f < flow_count b → flow_at s (flow_start s f) ≡ flow_in b f
       flow-read-at f l =
-          flow-read L fit v (flow_in b f) s (flow_start s f) (r.each_flow f l) (can.release_fits f l) version-read
+          flow-read v (flow_in b f) s (flow_start s f) (r.each_flow f l) (can.release_fits f l) version-read
           (flow-stands_at_start f l)
 
       flows-read : list_from (λ f. flow_at s (flow_start s f)) (byte s 7) 0 ≡ b.flows
@@ -337,11 +336,11 @@ book-all-bytes v b =
     (bytes_join (λ f. flow_bytes v (flow_in b f)) (flow_count b) 0 (λ f. flow-all-bytes v (flow_in b f)))
 
 -- the encoding of values in range is a book that reads back, with the bytes of its calendar
-pub read-written : (L : Limits) → Fits L → (v : ℕ) (b : Book) (calendar : List ℕ) → InRange L b → Writable v b → calendar_fault L calendar ≡ Pass → calendar_of calendar ≡ b.calendar →
-    read_book L (book_bytes v b) calendar ≡ read b
-read-written L fit v b calendar r can passes same =
-    pass-reads L (book_bytes v b) calendar (written-passes L fit v b r can) passes
-    ∙ ap (λ (k : Book). read (with_calendar (calendar_of calendar) k)) (written-values L fit v b r can)
+pub read-written : (v : ℕ) (b : Book) (calendar : List ℕ) → InRange b → Writable v b → calendar_fault calendar ≡ Pass → calendar_of calendar ≡ b.calendar →
+    read_book (book_bytes v b) calendar ≡ read b
+read-written v b calendar r can passes same =
+    pass-reads (book_bytes v b) calendar (written-passes v b r can) passes
+    ∙ ap (λ (k : Book). read (with_calendar (calendar_of calendar) k)) (written-values v b r can)
     ∙ ap (λ (c : Calendar). read (with_calendar c b)) same
 
 -- ---- a calendar
@@ -355,7 +354,7 @@ calendar_length c =
     simp (length-append, bytes-length)
     (omega (arith, join-bytes-length (λ k. window_bytes (window_of c k)) window_length (length c) (λ k l. window-length (window_of c k))))
 
-module _ (L : Limits) (fit : Fits L) (c : Calendar) (r : CalendarInRange L c) where
+module _ (c : Calendar) (r : CalendarInRange c) where
   abbrev encoded : List ℕ
   encoded = calendar_bytes c
 
@@ -417,11 +416,11 @@ module _ (L : Limits) (fit : Fits L) (c : Calendar) (r : CalendarInRange L c) wh
   unfolding calendar_of window_of
   calendar-read = list_of (window_at encoded) (byte encoded 5) c no_window count-read window-read
 
-  windows_fine : (k : ℕ) → k < byte encoded 5 → window_fault L encoded k ≡ false
+  windows_fine : (k : ℕ) → k < byte encoded 5 → window_fault encoded k ≡ false
   unfolding window_fault
   windows_fine k l =
       let m : k < length c = rw count-read at l in
-      rw (window-read k m, lt-leb (window_of c k).reopening (window_of c k).shut (r.not_empty k m), later k m, le-ltb L.reopening (window_of c k).reopening (r.reopens k m)) refl
+      rw (window-read k m, lt-leb (window_of c k).reopening (window_of c k).shut (r.not_empty k m), later k m, le-ltb most_reopening (window_of c k).reopening (r.reopens k m)) refl
     where
       later : (k : ℕ) → k < length c → begins_early encoded k ≡ false
       later zero l = unfold begins_early in refl
@@ -429,12 +428,14 @@ module _ (L : Limits) (fit : Fits L) (c : Calendar) (r : CalendarInRange L c) wh
           unfold begins_early in
           rw (window-read k (omega arith), window-read (suc k) l) (lt-leb (window_of c (suc k)).shut (window_of c k).reopening (r.apart k l))
 
-  pub calendar-written-passes : calendar_fault L encoded ≡ Pass
-  calendar-written-passes = calendar_no_fault L encoded (record {
-    calendar_whole = omega (arith, calendar_length c);
-    calendar_length = size-read;
-    calendar_version = version-one;
-    windows_to = omega (arith, count-read, r.windows_most);
-    calendar_bytes_is = omega (arith, calendar_length c, count-read);
-    no_window_fault = windows_fine;
-  })
+  pub calendar-written-passes : calendar_fault encoded ≡ Pass
+  unfolding calendar_fault
+  calendar-written-passes =
+      rw (
+        le-ltb (length encoded) calendar_head (omega (arith, calendar_length c)),
+        eq-eqb (field 4 encoded 0) (length encoded) size-read,
+        eq-eqb (byte encoded 4) 1 version-one,
+        le-ltb most_windows (byte encoded 5) (omega (arith, count-read, r.windows_most)),
+        eq-eqb (length encoded) (calendar_head + window_length * byte encoded 5) (omega (arith, calendar_length c, count-read)),
+        any_false (window_fault encoded) (byte encoded 5) windows_fine,
+      ) refl

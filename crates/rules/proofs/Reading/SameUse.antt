@@ -7,7 +7,6 @@ use mathlib.Core.List.{List, [], ◌∷◌}
 use lib.ListN.{length, get_or}
 use Rattle.rules.specs.declared.Verdict.{Verdict}
 use Rattle.rules.specs.declared.Verdict.TheVariants.{Pass, Refused}
-use Rattle.rules.specs.declared.Limits.{Limits}
 use Rattle.rules.specs.Walks.{count_to}
 use Rattle.rules.specs.Answers.{◌and_then◌, first_fault}
 use Rattle.rules.specs.Calendar.{Calendar, is_open}
@@ -75,10 +74,10 @@ module _ (b c : Book) (same : SameFlows b c) where
   unfolding table_bytes
   table_same rows = rw (length-same rows, same.processors, same.count) refl
 
-  pub outcome-same : (L : Limits) (out area : List ℕ) (p : Plan) → plan_outcome L b out area p ≡ plan_outcome L c out area p
+  pub outcome-same : (out area : List ℕ) (p : Plan) → plan_outcome b out area p ≡ plan_outcome c out area p
   unfolding plan_outcome
-  outcome-same L out area (infeasible f) = refl
-  outcome-same L out area (planned rows) = rw (length-same rows, late-same rows, table_same rows) refl
+  outcome-same out area (infeasible f) = refl
+  outcome-same out area (planned rows) = rw (length-same rows, late-same rows, table_same rows) refl
 
   pub rows_same : (s : List ℕ) → table_rows b s ≡ table_rows c s
   unfolding table_rows
@@ -94,42 +93,42 @@ module _ (b c : Book) (same : SameFlows b c) where
   rises-same rows zero = refl
   rises-same rows (suc k) = rw (served-same (get_or rows k no_row).flow (get_or rows (suc k) no_row).flow) refl
 
-  pub row_same : (L : Limits) (opened : ℕ → Bool) (rows : List Row) (k : ℕ) → row_fault L b opened rows k ≡ row_fault L c opened rows k
+  pub row_same : (opened : ℕ → Bool) (rows : List Row) (k : ℕ) → row_fault b opened rows k ≡ row_fault c opened rows k
   unfolding row_fault before_release lacks_predecessor
-  row_same L opened rows k = rw (same.flow (get_or rows k no_row).flow, same.count, rises-same rows k, same.processors) refl
+  row_same opened rows k = rw (same.flow (get_or rows k no_row).flow, same.count, rises-same rows k, same.processors) refl
 
   pub total-same : (rows : List Row) (f i : ℕ) → total_fault b rows f i ≡ total_fault c rows f i
   unfolding total_fault
   total-same rows f i = rw (same.flow f) refl
 
   -- the faults of a table, with the same slots open
-  pub faults-same : (L : Limits) (opened other : ℕ → Bool) → opened ≡ other → (s : List ℕ) →
+  pub faults-same : (opened other : ℕ → Bool) → opened ≡ other → (s : List ℕ) →
       (table_head_fault b s
-      and_then first_fault (row_fault L b opened (table_rows b s)) (length (table_rows b s))
+      and_then first_fault (row_fault b opened (table_rows b s)) (length (table_rows b s))
       and_then first_fault (λ f. first_fault (total_fault b (table_rows b s) f) (job_count (flow_of b f))) (flow_count b)
       and_then first_fault (finish_fault s (table_rows b s)) (flow_count b))
       ≡
       (table_head_fault c s
-      and_then first_fault (row_fault L c other (table_rows c s)) (length (table_rows c s))
+      and_then first_fault (row_fault c other (table_rows c s)) (length (table_rows c s))
       and_then first_fault (λ f. first_fault (total_fault c (table_rows c s) f) (job_count (flow_of c f))) (flow_count c)
       and_then first_fault (finish_fault s (table_rows c s)) (flow_count c))
-  faults-same L opened other e s = λ x.
+  faults-same opened other e s = λ x.
       let rows = rows_same s x in
       head-same s x
-      and_then first_fault (λ k. row_same L (e x) rows k x) (length rows)
+      and_then first_fault (λ k. row_same (e x) rows k x) (length rows)
       and_then first_fault (λ f. first_fault (λ i. total-same rows f i x) (job_count (same.flow f x))) (same.count x)
       and_then first_fault (finish_fault s rows) (same.count x)
 
-  pub judged-same : (L : Limits) (s area : List ℕ) (v : Verdict) → check_outcome L b s area v ≡ check_outcome L c s area v
+  pub judged-same : (s area : List ℕ) (v : Verdict) → check_outcome b s area v ≡ check_outcome c s area v
   unfolding check_outcome
-  judged-same L s area (Refused n f j) = refl
-  judged-same L s area Pass = rw (rows_same s, late-same (table_rows c s)) refl
+  judged-same s area (Refused n f j) = refl
+  judged-same s area Pass = rw (rows_same s, late-same (table_rows c s)) refl
 
   -- ---- the outcome of the dispatch list
-  pub dispatch-same : (L : Limits) (table out area : List ℕ) (o : CheckOutcome) →
-      dispatch_checked L b (table_rows b table) out area o ≡ dispatch_checked L c (table_rows c table) out area o
+  pub dispatch-same : (table out area : List ℕ) (o : CheckOutcome) →
+      dispatch_checked b (table_rows b table) out area o ≡ dispatch_checked c (table_rows c table) out area o
   unfolding dispatch_checked list_outcome list_bytes
-  dispatch-same L table out area o = rw (rows_same table, same.processors) refl
+  dispatch-same table out area o = rw (rows_same table, same.processors) refl
 
 -- one flow that both books use alike is placed alike, beside the same rows
 module _ (b c : Book) (processors : b.processors ≡ c.processors) (calendar : b.calendar ≡ c.calendar) (f : ℕ) (flow : flow_of b f ≡ flow_of c f)
@@ -144,7 +143,7 @@ module _ (b c : Book) (processors : b.processors ≡ c.processors) (calendar : b
       let free : free_processors b f rows ≡ free_processors c f rows = λ x t. free-same t x in
       rw (flow, limit-same b c calendar (flow_of c f), free) refl
 
-module _ (L : Limits) (b c : Book) (same : SameUse b c) where
+module _ (b c : Book) (same : SameUse b c) where
   -- ---- the plan
   pub first-same : (k : ℕ) → place_first b k ≡ place_first c k
   unfolding place_first
@@ -159,18 +158,18 @@ module _ (L : Limits) (b c : Book) (same : SameUse b c) where
   plan-same = λ x. first-same (same.flows.count x) x
 
   -- ---- the outcomes
-  pub plan_reading-same : (out area : List ℕ) → plan_reading L out area (read b) ≡ plan_reading L out area (read c)
+  pub plan_reading-same : (out area : List ℕ) → plan_reading out area (read b) ≡ plan_reading out area (read c)
   unfolding plan_reading
-  plan_reading-same out area = rw (plan-same, outcome-same b c same.flows L out area (plan c)) refl
+  plan_reading-same out area = rw (plan-same, outcome-same b c same.flows out area (plan c)) refl
 
-  fault-same : (s : List ℕ) → table_fault L b s ≡ table_fault L c s
+  fault-same : (s : List ℕ) → table_fault b s ≡ table_fault c s
   unfolding table_fault
-  fault-same s = faults-same b c same.flows L (is_open b.calendar) (is_open c.calendar) (ap is_open same.calendar) s
+  fault-same s = faults-same b c same.flows (is_open b.calendar) (is_open c.calendar) (ap is_open same.calendar) s
 
-  pub check_reading-same : (s area : List ℕ) → check_reading L s area (read b) ≡ check_reading L s area (read c)
+  pub check_reading-same : (s area : List ℕ) → check_reading s area (read b) ≡ check_reading s area (read c)
   unfolding check_reading
-  check_reading-same s area = rw (fault-same s, judged-same b c same.flows L s area (table_fault L c s)) refl
+  check_reading-same s area = rw (fault-same s, judged-same b c same.flows s area (table_fault c s)) refl
 
-  pub finish_reading-same : (f : ℕ) (area : List ℕ) → finish_reading L f area (read b) ≡ finish_reading L f area (read c)
+  pub finish_reading-same : (f : ℕ) (area : List ℕ) → finish_reading f area (read b) ≡ finish_reading f area (read c)
   unfolding finish_reading
   finish_reading-same f area = rw (position-same b c same.flows f, first-same (up_to_named c f)) refl

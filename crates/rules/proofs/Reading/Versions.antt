@@ -11,11 +11,10 @@ use lib.Dec.{ltb, leb}
 use borrow.Author.Tests.{lt-leb}
 use Rattle.rules.specs.declared.Verdict.{Verdict}
 use Rattle.rules.specs.declared.Verdict.TheVariants.{Pass, Refused}
-use Rattle.rules.specs.declared.Limits.{Limits}
 use Rattle.rules.specs.Walks.{if◌then◌else◌}
 use Rattle.rules.specs.Fields.{byte, field}
 use Rattle.rules.specs.Answers.{none}
-use Rattle.rules.specs.Ranges.{outside, most_jobs, Fits}
+use Rattle.rules.specs.Limits.{outside, most_deadline, most_jobs}
 use Rattle.rules.specs.Calendar.{calendar_of}
 use Rattle.rules.specs.Book.{Book, flow_count, flow_in, lower_caps, flow_of, InRange}
 use Rattle.rules.specs.Reading.{version_of, release_size, release_at, jobs_at, flow_start, flow_head_fault, book_with, read, read_book, book_bytes}
@@ -32,28 +31,28 @@ jobs-at_two : (s : List ℕ) (at : ℕ) → version_of s ≡ 1 → jobs_at s at 
 unfolding jobs_at release_size
 jobs-at_two s at e = rw e (ap (byte s) (add-zero (at + 2)))
 
-pub head_fault-one : (L : Limits) (s : List ℕ) (f at : ℕ) → version_of s ≡ 1 →
-    flow_head_fault L s f at
+pub head_fault-one : (s : List ℕ) (f at : ℕ) → version_of s ≡ 1 →
+    flow_head_fault s f at
     ≡ (if ltb (length s) (at + 3) then Refused 5 f none
-    else if outside 1 L.deadline (field 2 s at) then Refused 6 f none
+    else if outside 1 most_deadline (field 2 s at) then Refused 6 f none
     else if outside 1 most_jobs (byte s (at + 2)) then Refused 7 f none
     else Pass)
 unfolding flow_head_fault release_size
-head_fault-one L s f at e = rw (release-at-zero s at e, jobs-at_two s at e, e) (go (field 2 s at))
+head_fault-one s f at e = rw (release-at-zero s at e, jobs-at_two s at e, e) (go (field 2 s at))
   where
     rest : Verdict
     rest = if outside 1 most_jobs (byte s (at + 2)) then Refused 7 f none else Pass
 
-    go : (d : ℕ) → (if ltb (length s) (at + 3) then Refused 5 f none else if outside 1 L.deadline d then Refused 6 f none else if leb d 0 then Refused 22 f none else rest)
-        ≡ (if ltb (length s) (at + 3) then Refused 5 f none else if outside 1 L.deadline d then Refused 6 f none else rest)
+    go : (d : ℕ) → (if ltb (length s) (at + 3) then Refused 5 f none else if outside 1 most_deadline d then Refused 6 f none else if leb d 0 then Refused 22 f none else rest)
+        ≡ (if ltb (length s) (at + 3) then Refused 5 f none else if outside 1 most_deadline d then Refused 6 f none else rest)
     go zero = refl
     go (suc d) = rw (lt-leb (suc d) 0 (omega arith)) refl
 
-module _ (L : Limits) (fit : Fits L) (book calendar : List ℕ) (b : Book) (e : read_book L book calendar ≡ read b) where
+module _ (book calendar : List ℕ) (b : Book) (e : read_book book calendar ≡ read b) where
   pub read-release-zero : version_of book ≡ 1 → (f : ℕ) → f < flow_count b → (flow_of b f).release ≡ 0
   unfolding lower_caps flow_of flow_in
   read-release-zero one f l =
-      let same : b ≡ book_with book calendar = (read-passes L book calendar b e).is_book in
+      let same : b ≡ book_with book calendar = (read-passes book calendar b e).is_book in
       ap (λ (c : Book). (flow_in c f).release) same
       ∙ ap (λ w. w.release) (flow_in_book book f (omega (arith, ap flow_count same, flow-count book)))
       ∙ release_of-flow book (flow_start book f) ∙ release-at-zero book (flow_start book f) one
@@ -64,20 +63,20 @@ module _ (L : Limits) (fit : Fits L) (book calendar : List ℕ) (b : Book) (e : 
   read_writable = record { version_known = known; release_fits = fits known }
     where
       known : Known (version_of book)
-      known = (book_passes L book (read-passes L book calendar b e).book_passes).version_known
+      known = (book_passes book (read-passes book calendar b e).book_passes).version_known
 
       fits : Known (version_of book) → (f : ℕ) → f < flow_count b → (flow_in b f).release < 256 ^ release_size (version_of book)
       fits (inl one) f l = rw one (omega (arith, read-release-zero one f l))
-      fits (inr two) f l = rw two ((writable_two L fit b (read_in-range L book calendar b e)).release_fits f l)
+      fits (inr two) f l = rw two ((writable_two b (read_in-range book calendar b e)).release_fits f l)
 
   -- the calendar is that of the bytes beside the book
   pub read-calendar : calendar_of calendar ≡ b.calendar
-  read-calendar = sym (ap (λ (c : Book). c.calendar) (read-passes L book calendar b e).is_book)
+  read-calendar = sym (ap (λ (c : Book). c.calendar) (read-passes book calendar b e).is_book)
 
   -- another book with this calendar reads back beside the same bytes
-  pub read-beside : (v : ℕ) (c : Book) → InRange L c → Writable v c → c.calendar ≡ b.calendar → read_book L (book_bytes v c) calendar ≡ read c
-  read-beside v c r can same = read-written L fit v c calendar r can (read-passes L book calendar b e).calendar_passes (read-calendar ∙ sym same)
+  pub read-beside : (v : ℕ) (c : Book) → InRange c → Writable v c → c.calendar ≡ b.calendar → read_book (book_bytes v c) calendar ≡ read c
+  read-beside v c r can same = read-written v c calendar r can (read-passes book calendar b e).calendar_passes (read-calendar ∙ sym same)
 
   -- the version 2 book with these values reads alike
-  pub version_2-reads : read_book L (book_bytes 2 b) calendar ≡ read b
-  version_2-reads = let r = read_in-range L book calendar b e in read-beside 2 b r (writable_two L fit b r) refl
+  pub version_2-reads : read_book (book_bytes 2 b) calendar ≡ read b
+  version_2-reads = let r = read_in-range book calendar b e in read-beside 2 b r (writable_two b r) refl

@@ -11,9 +11,8 @@ use native.Mathlib.Omega.{arith}
 use mathlib.Core.List.Memᴰ
 use mathlib.Core.List.{List, [], ◌∷◌}
 use lib.ListN.{length}
-use Rattle.rules.specs.declared.Limits.{Limits}
 use Rattle.rules.specs.Walks.{if◌then◌else◌, join_from}
-use Rattle.rules.specs.Ranges.{most_jobs, mill, Fits}
+use Rattle.rules.specs.Limits.{slots, most_jobs, most_flows}
 use Rattle.rules.specs.Book.{Book, flow_count, job_count, flow_of, InRange}
 use Rattle.rules.specs.Service.{served_at}
 use Rattle.rules.specs.Rows.{Row, row_for, sum_where}
@@ -28,14 +27,14 @@ use Rattle.rules.proofs.Rows.RowOrder.{Before, before_differs, before_asymmetric
 use Rattle.rules.proofs.Rows.RowSums.{is_at, IsAt, at_is, not_at, counted_true, counted_false, sum_where-none, schedule-none, schedule_met, InBook}
 
 -- a row of a job of the book in one of the slots of a table, with at least 1 processor
-pub record IsRow (L : Limits) (b : Book) (r : Row) : Type 0 where
+pub record IsRow (b : Book) (r : Row) : Type 0 where
   pub in_book : InBook b r
-  pub slot_in : r.slot < L.slots
+  pub slot_in : r.slot < slots
   pub takes : 0 < r.processors
 
 -- such a row, with what a schedule gives there
-pub record RowOf (L : Limits) (b : Book) (σ : Schedule) (r : Row) : Type 0 where
-  pub is_row : IsRow L b r
+pub record RowOf (b : Book) (σ : Schedule) (r : Row) : Type 0 where
+  pub is_row : IsRow b r
   pub given_there : r.processors ≡ σ r.flow r.job r.slot
 
 -- its job is a job of the book
@@ -67,7 +66,7 @@ unfolding row_for
 row_for-length t f i zero = omega arith
 row_for-length t f i (suc n) = omega arith
 
-module _ (L : Limits) (b : Book) (σ : Schedule) where
+module _ (b : Book) (σ : Schedule) where
   abbrev rows_of_job : ℕ → ℕ → ℕ → List Row
   rows_of_job f t i = row_for t f i (σ f i t)
 
@@ -75,7 +74,7 @@ module _ (L : Limits) (b : Book) (σ : Schedule) where
   rows_of_slot f t = join_from (rows_of_job f t) (job_count (flow_of b f)) 0
 
   abbrev rows_of_flow : ℕ → List Row
-  rows_of_flow f = join_from (rows_of_slot f) L.slots 0
+  rows_of_flow f = join_from (rows_of_slot f) slots 0
 
   rows_of-job_in : (f t i : ℕ) {r : Row} → r ∈ rows_of_job f t i → IsAt f i t r
   rows_of-job_in f t i m =
@@ -86,9 +85,9 @@ module _ (L : Limits) (b : Book) (σ : Schedule) where
   rows_of-slot_in f t m = join_in (rows_of_job f t) (job_count (flow_of b f)) m
 
   -- where a row of flow f stands
-  rows_of-flow_in : (f : ℕ) {r : Row} → r ∈ rows_of_flow f → (t : ℕ) × (t < L.slots) × (i : ℕ) × (i < job_count (flow_of b f)) × (r ∈ rows_of_job f t i)
+  rows_of-flow_in : (f : ℕ) {r : Row} → r ∈ rows_of_flow f → (t : ℕ) × (t < slots) × (i : ℕ) × (i < job_count (flow_of b f)) × (r ∈ rows_of_job f t i)
   rows_of-flow_in f m =
-      let w = join_in (rows_of_slot f) L.slots m in
+      let w = join_in (rows_of_slot f) slots m in
       let v = rows_of-slot_in f w.0 w.2 in
       (w.0, w.1, v.0, v.1, v.2)
 
@@ -103,7 +102,7 @@ module _ (L : Limits) (b : Book) (σ : Schedule) where
 
   rows_of-flow-rising : (f : ℕ) → Rising (Before b) (rows_of_flow f)
   rows_of-flow-rising f =
-      rising_join (Before b) (rows_of_slot f) L.slots (λ t l. rows_of-slot-rising f t)
+      rising_join (Before b) (rows_of_slot f) slots (λ t l. rows_of-slot-rising f t)
       (λ t u l m x y p q.
       let v = rows_of-slot_in f t p in
       let w = rows_of-slot_in f u q in
@@ -115,7 +114,7 @@ module _ (L : Limits) (b : Book) (σ : Schedule) where
   flow-of_row f m = let w = rows_of-flow_in f m in (rows_of-job_in f w.0 w.2 w.4).of_flow
 
   -- "by service order of the flow, then slot, then job, all strictly rising"
-  pub schedule-rows-rising : Rising (Before b) (schedule_rows L b σ)
+  pub schedule-rows-rising : Rising (Before b) (schedule_rows b σ)
   unfolding schedule_rows
   schedule-rows-rising =
       rising_join (Before b) (λ n. rows_of_flow (served_at b n)) (flow_count b) (λ n l. rows_of-flow-rising (served_at b n))
@@ -124,21 +123,21 @@ module _ (L : Limits) (b : Book) (σ : Schedule) where
       (rw (flow-of_row (served_at b m) p, flow-of_row (served_at b n) q) (service_sorted b m n l h)))
 
   -- "one for each slot and job where the job has at least 1 processor": each row is such a one
-  pub schedule-rows_in : (r : Row) → r ∈ schedule_rows L b σ → RowOf L b σ r
+  pub schedule-rows_in : (r : Row) → r ∈ schedule_rows b σ → RowOf b σ r
   unfolding schedule_rows
   schedule-rows_in r m =
       let v = join_in (λ n. rows_of_flow (served_at b n)) (flow_count b) m in
       let f = served_at b v.0 in
       let w = rows_of-flow_in f v.2 in
       let e = row_for_in w.0 f w.2 (σ f w.2 w.0) w.4 in
-      subst (RowOf L b σ) (sym e.0)
+      subst (RowOf b σ) (sym e.0)
       (record {
         is_row = record { in_book = record { flow_in_is = service-below b v.0 v.1; job_in = w.3 }; slot_in = w.1; takes = e.1 };
         given_there = refl;
       })
 
   -- and there is one for each
-  pub in-schedule_rows : (r : Row) → RowOf L b σ r → r ∈ schedule_rows L b σ
+  pub in-schedule_rows : (r : Row) → RowOf b σ r → r ∈ schedule_rows b σ
   unfolding schedule_rows
   in-schedule_rows r h =
       let n = service-position b r.flow h.is_row.in_book.flow_in_is in
@@ -147,7 +146,7 @@ module _ (L : Limits) (b : Book) (σ : Schedule) where
       subst (λ p. r ∈ row_for r.slot f r.job p) h.given_there (in-row_for r.slot f r.job r.processors h.is_row.takes) in
       let at_slot : r ∈ rows_of_slot f r.slot =
       in_join (rows_of_job f r.slot) (job_count (flow_of b f)) r.job h.is_row.in_book.job_in at-job in
-      let at-flow : r ∈ rows_of_flow f = in_join (rows_of_slot f) L.slots r.slot h.is_row.slot_in at_slot in
+      let at-flow : r ∈ rows_of_flow f = in_join (rows_of_slot f) slots r.slot h.is_row.slot_in at_slot in
       in_join (λ k. rows_of_flow (served_at b k)) (flow_count b) n.0 n.1 (subst (λ f. r ∈ rows_of_flow f) (sym n.2) at-flow)
 
 -- ---- the schedule that rising rows state
@@ -188,14 +187,14 @@ pub row_ext : (q r : Row) → q.slot ≡ r.slot → q.flow ≡ r.flow → q.job 
 row_ext q r s f i n = λ x. row_with (s x) (f x) (i x) (n x)
 
 -- rows in rising order are the rows of the schedule that they state
-pub rows_of-schedule : (L : Limits) (b : Book) (rows : List Row) → Rising (Before b) rows → ((r : Row) → r ∈ rows → IsRow L b r) →
-    rows ≡ schedule_rows L b (schedule_of rows)
-rows_of-schedule L b rows h each =
-    rising_unique (Before b) (before_asymmetric b) rows (schedule_rows L b (schedule_of rows)) h (schedule-rows-rising L b (schedule_of rows))
-    (λ r m. in-schedule_rows L b (schedule_of rows) r (record { is_row = each r m; given_there = sym (rising-schedule b rows h r m) }))
-    (λ r m. back r (schedule-rows_in L b (schedule_of rows) r m))
+pub rows_of-schedule : (b : Book) (rows : List Row) → Rising (Before b) rows → ((r : Row) → r ∈ rows → IsRow b r) →
+    rows ≡ schedule_rows b (schedule_of rows)
+rows_of-schedule b rows h each =
+    rising_unique (Before b) (before_asymmetric b) rows (schedule_rows b (schedule_of rows)) h (schedule-rows-rising b (schedule_of rows))
+    (λ r m. in-schedule_rows b (schedule_of rows) r (record { is_row = each r m; given_there = sym (rising-schedule b rows h r m) }))
+    (λ r m. back r (schedule-rows_in b (schedule_of rows) r m))
   where
-    back : (r : Row) → RowOf L b (schedule_of rows) r → r ∈ rows
+    back : (r : Row) → RowOf b (schedule_of rows) r → r ∈ rows
     back r o =
         let w = schedule_met rows r.flow r.job r.slot (omega (arith, o.given_there, o.is_row.takes)) in
         subst (λ x. x ∈ rows) (same w.0 w.2 (rising-schedule b rows h w.0 w.1)) w.1
@@ -206,34 +205,34 @@ rows_of-schedule L b rows h each =
             (sym e ∙ rw (p.of_flow, p.of_job, p.of_slot) refl ∙ sym o.given_there)
 
 -- ---- a schedule that gives something only to jobs of the book, in the slots of a table
-unfoldable pub Within : (L : Limits) → Book → Schedule → Type 0
-Within L b σ = (f i t : ℕ) → 0 < σ f i t → IsRow L b (row_with t f i (σ f i t))
+unfoldable pub Within : Book → Schedule → Type 0
+Within b σ = (f i t : ℕ) → 0 < σ f i t → IsRow b (row_with t f i (σ f i t))
 
-pub valid-within : (L : Limits) (b : Book) (σ : Schedule) → Valid b every_flow σ → InSlots L σ → Within L b σ
+pub valid-within : (b : Book) (σ : Schedule) → Valid b every_flow σ → InSlots σ → Within b σ
 unfolding Within InSlots
-valid-within L b σ v s f i t l = go (lt-or_ge f (flow_count b)) (lt-or_ge i (job_count (flow_of b f))) (lt-or_ge t L.slots)
+valid-within b σ v s f i t l = go (lt-or_ge f (flow_count b)) (lt-or_ge i (job_count (flow_of b f))) (lt-or_ge t slots)
   where
     go : (f < flow_count b) ⊎ (flow_count b ≤ f) → (i < job_count (flow_of b f)) ⊎ (job_count (flow_of b f) ≤ i) →
-        (t < L.slots) ⊎ (L.slots ≤ t) → IsRow L b (row_with t f i (σ f i t))
+        (t < slots) ⊎ (slots ≤ t) → IsRow b (row_with t f i (σ f i t))
     go (inl x) (inl y) (inl z) = record { in_book = record { flow_in_is = x; job_in = y }; slot_in = z; takes = l }
     go (inr x) y z = absurd (omega (arith, v.no_others f i t (λ j. omega (arith, j.flow_in_is))))
     go (inl x) (inr y) z = absurd (omega (arith, v.no_others f i t (λ j. omega (arith, j.job_in))))
     go (inl x) (inl y) (inr z) = absurd (omega (arith, s f i t z))
 
 -- its rows state it
-pub schedule_of-rows : (L : Limits) (b : Book) (σ : Schedule) → Within L b σ → (f i t : ℕ) → schedule_of (schedule_rows L b σ) f i t ≡ σ f i t
+pub schedule_of-rows : (b : Book) (σ : Schedule) → Within b σ → (f i t : ℕ) → schedule_of (schedule_rows b σ) f i t ≡ σ f i t
 unfolding Within
-schedule_of-rows L b σ w f i t = go (lt-or_ge 0 (σ f i t))
+schedule_of-rows b σ w f i t = go (lt-or_ge 0 (σ f i t))
   where
-    go : (0 < σ f i t) ⊎ (σ f i t ≤ 0) → schedule_of (schedule_rows L b σ) f i t ≡ σ f i t
+    go : (0 < σ f i t) ⊎ (σ f i t ≤ 0) → schedule_of (schedule_rows b σ) f i t ≡ σ f i t
     go (inl l) =
-        rising-schedule b (schedule_rows L b σ) (schedule-rows-rising L b σ) (row_with t f i (σ f i t))
-        (in-schedule_rows L b σ (row_with t f i (σ f i t)) (record { is_row = w f i t l; given_there = refl }))
+        rising-schedule b (schedule_rows b σ) (schedule-rows-rising b σ) (row_with t f i (σ f i t))
+        (in-schedule_rows b σ (row_with t f i (σ f i t)) (record { is_row = w f i t l; given_there = refl }))
     go (inr l) =
         let zero-given : σ f i t ≡ 0 = omega arith in
-        schedule-none (schedule_rows L b σ) f i t (λ r m. nothing zero-given r (schedule-rows_in L b σ r m)) ∙ sym zero-given
+        schedule-none (schedule_rows b σ) f i t (λ r m. nothing zero-given r (schedule-rows_in b σ r m)) ∙ sym zero-given
       where
-        nothing : σ f i t ≡ 0 → (r : Row) → RowOf L b σ r → IsAt f i t r → ⊥
+        nothing : σ f i t ≡ 0 → (r : Row) → RowOf b σ r → IsAt f i t r → ⊥
         nothing z r o p =
             let e : σ r.flow r.job r.slot ≡ σ f i t = rw (p.of_flow, p.of_job, p.of_slot) refl in
             omega (arith, o.given_there, o.is_row.takes)
@@ -242,19 +241,19 @@ schedule_of-rows L b σ w f i t = go (lt-or_ge 0 (σ f i t))
 join-length-le : {A : Type 0} (g : ℕ → List A) (n c : ℕ) → ((k : ℕ) → k < n → length (g k) ≤ c) → length (join_from g n 0) ≤ c * n
 join-length-le g n c h = omega (arith, join-length-zero g n, sum-le (λ k. length (g k)) c n h)
 
-pub schedule-rows-length : (L : Limits) → Fits L → (b : Book) (σ : Schedule) → InRange L b → length (schedule_rows L b σ) ≤ most_jobs * mill.slots * mill.flows
+pub schedule-rows-length : (b : Book) (σ : Schedule) → InRange b → length (schedule_rows b σ) ≤ most_jobs * slots * most_flows
 unfolding schedule_rows
-schedule-rows-length L fit b σ h =
+schedule-rows-length b σ h =
     omega (
       arith,
-      join-length-le (λ n. rows_of_flow L b σ (served_at b n)) (flow_count b) (most_jobs * mill.slots)
+      join-length-le (λ n. rows_of_flow b σ (served_at b n)) (flow_count b) (most_jobs * slots)
           (λ n l. flow-length (served_at b n) (service-below b n l)),
       h.flows_most,
     )
   where
-    slot-length : (f t : ℕ) → f < flow_count b → length (rows_of_slot L b σ f t) ≤ most_jobs
+    slot-length : (f t : ℕ) → f < flow_count b → length (rows_of_slot b σ f t) ≤ most_jobs
     slot-length f t l =
-        omega (arith, join-length-le (rows_of_job L b σ f t) (job_count (flow_of b f)) 1 (λ i m. row_for-length t f i (σ f i t)), (used_in-range L h f l).jobs_most)
+        omega (arith, join-length-le (rows_of_job b σ f t) (job_count (flow_of b f)) 1 (λ i m. row_for-length t f i (σ f i t)), (used_in-range h f l).jobs_most)
 
-    flow-length : (f : ℕ) → f < flow_count b → length (rows_of_flow L b σ f) ≤ most_jobs * mill.slots
-    flow-length f l = omega (arith, join-length-le (rows_of_slot L b σ f) L.slots most_jobs (λ t m. slot-length f t l))
+    flow-length : (f : ℕ) → f < flow_count b → length (rows_of_flow b σ f) ≤ most_jobs * slots
+    flow-length f l = join-length-le (rows_of_slot b σ f) slots most_jobs (λ t m. slot-length f t l)

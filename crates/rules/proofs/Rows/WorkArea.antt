@@ -121,32 +121,3 @@ used-over-cleared n rows area = ap (λ (l : List ℕ). pairs (used_in rows) n 0 
 pub cleared-length : (n : ℕ) (area : List ℕ) → 2 * n ≤ length area → length (work_zero n area) ≡ length area
 unfolding work_zero
 cleared-length n area h = simp (length-append, length-drop, length-replicate) (omega arith)
-
--- ---- areas of n slots and of more
--- where no row uses a slot from n on, the pairs of the first n slots are the same, and past them they are zero
-module _ (n m : ℕ) (l : n ≤ m) (rows : List Row) (quiet : (t : ℕ) → n ≤ t → used_in rows t ≡ 0) where
-  apart : (area : List ℕ) → work_used m rows area ≡ pairs (used_in rows) n 0 ++ (replicate (2 * m - 2 * n) 0 ++ drop (2 * m) area)
-  unfolding work_used
-  apart area =
-      let e : m ≡ n + (m - n) = omega arith in
-      let z : 0 + n ≡ n = zero-add n in
-      let size : 2 * (m - n) ≡ 2 * m - 2 * n = omega arith in
-      let past : pairs (used_in rows) (m - n) n ≡ replicate (2 * m - 2 * n) 0 =
-      join-ext (λ t. bytes_of 2 (used_in rows t)) (λ t. bytes_of 2 0) (m - n) n (λ k h. ap (bytes_of 2) (quiet (n + k) (omega arith)))
-      ∙ zeros (m - n) n ∙ ap (λ k. replicate k 0) size in
-      ap (◌++ drop (2 * m) area)
-      (ap (λ k. pairs (used_in rows) k 0) e ∙ join-split (λ t. bytes_of 2 (used_in rows t)) n (m - n) 0
-      ∙ ap (pairs (used_in rows) n 0 ++◌) (ap (pairs (used_in rows) (m - n)) z ∙ past))
-      ∙ append_assoc (pairs (used_in rows) n 0) (replicate (2 * m - 2 * n) 0) (drop (2 * m) area)
-
-  pub used-first : (area area' : List ℕ) → take (2 * n) (work_used n rows area) ≡ take (2 * n) (work_used m rows area')
-  unfolding work_used
-  used-first area area' =
-      take_at (pairs (used_in rows) n 0) (drop (2 * n) area) (2 * n) (pairs-length (used_in rows) n 0)
-      ∙ sym (ap (take (2 * n)) (apart area') ∙ take_at (pairs (used_in rows) n 0) _ (2 * n) (pairs-length (used_in rows) n 0))
-
-  pub used-past : (area : List ℕ) → take (2 * m - 2 * n) (drop (2 * n) (work_used m rows area)) ≡ replicate (2 * m - 2 * n) 0
-  used-past area =
-      ap (λ s. take (2 * m - 2 * n) (drop (2 * n) s)) (apart area)
-      ∙ ap (take (2 * m - 2 * n)) (drop_at (pairs (used_in rows) n 0) _ (2 * n) (pairs-length (used_in rows) n 0))
-      ∙ take_at (replicate (2 * m - 2 * n) 0) (drop (2 * m) area) (2 * m - 2 * n) (length-replicate (2 * m - 2 * n) 0)

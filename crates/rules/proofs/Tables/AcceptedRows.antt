@@ -14,8 +14,8 @@ use lib.ListN.{length, take, drop, get_or}
 use lib.Seq.{take-length, split_at}
 use lib.Dec.{ltb, eqb}
 use borrow.Author.Tests.{eqb-true, le-ltb, eq-eqb}
-use Rattle.rules.specs.declared.Limits.{Limits}
 use Rattle.rules.specs.Walks.{sum_to}
+use Rattle.rules.specs.Limits.{slots}
 use Rattle.rules.specs.Calendar.{is_open}
 use Rattle.rules.specs.Book.{Book, flow_count, job_count, flow_of, job_of, precedes, usable, InRange}
 use Rattle.rules.specs.Rows.{Row, sum_where, used_in, is_of, total_of, done_before}
@@ -33,9 +33,9 @@ use Rattle.rules.proofs.Placing.Usable.{usable_open, released, usable-from, give
 use Rattle.rules.proofs.Tables.TablePasses.{PredecessorsDone, RowPasses, RowsPass}
 
 -- a predecessor is a job with a lower number
-pub predecessor-below : (L : Limits) (b : Book) → InRange L b → (f i k : ℕ) → f < flow_count b → i < job_count (flow_of b f) → precedes (flow_of b f) k i ≡ true → k < i
-predecessor-below L b range f i k l m p =
-    bit_below (job_of (flow_of b f) i).predecessors i k ((used_in-range L range f l).each_job i m).predecessors_below p
+pub predecessor-below : (b : Book) → InRange b → (f i k : ℕ) → f < flow_count b → i < job_count (flow_of b f) → precedes (flow_of b f) k i ≡ true → k < i
+predecessor-below b range f i k l m p =
+    bit_below (job_of (flow_of b f) i).predecessors i k ((used_in-range range f l).each_job i m).predecessors_below p
 
 -- the first rows have no more than all rows
 done-take : (rows : List Row) (n f i t : ℕ) → done_before (take n rows) f i t ≤ done_before rows f i t
@@ -50,12 +50,12 @@ done_at b r f i t at-r so_far k below p h =
     rw (at-r.of_flow, at-r.of_slot) at (h k (rw at-r.of_job below) (rw (at-r.of_flow, at-r.of_job) p))
 
 -- the use of a slot never passes P
-pub use_kept : (L : Limits) (b : Book) (opened : ℕ → Bool) (rows : List Row) (t k : ℕ) → k ≤ length rows → ((j : ℕ) → j < k → RowPasses L b opened rows j) →
+pub use_kept : (b : Book) (opened : ℕ → Bool) (rows : List Row) (t k : ℕ) → k ≤ length rows → ((j : ℕ) → j < k → RowPasses b opened rows j) →
     used_in (take k rows) t ≤ b.processors
 unfolding used_in sum_where
-use_kept L b opened rows t zero l pass = omega arith
-use_kept L b opened rows t (suc k) l pass =
-    go (eqb (get_or rows k no_row).slot t) refl (use_kept L b opened rows t k (omega arith) (λ j h. pass j (omega arith)))
+use_kept b opened rows t zero l pass = omega arith
+use_kept b opened rows t (suc k) l pass =
+    go (eqb (get_or rows k no_row).slot t) refl (use_kept b opened rows t k (omega arith) (λ j h. pass j (omega arith)))
   where
     r : Row
     r = get_or rows k no_row
@@ -71,23 +71,23 @@ use_kept L b opened rows t (suc k) l pass =
     go false e ih = omega (arith, sum_where-next in-slot rows k no_row l, counted_false in-slot r e)
 
 -- ---- rows that pass are those of a valid schedule
-module _ (L : Limits) (b : Book) (range : InRange L b) (rows : List Row) (pass : RowsPass L b rows) where
+module _ (b : Book) (range : InRange b) (rows : List Row) (pass : RowsPass b rows) where
   -- what is said of every position of the list is said of every row
-  row-at : {r : Row} → r ∈ rows → (k : ℕ) × RowPasses L b (is_open b.calendar) rows k × (get_or rows k no_row ≡ r)
+  row-at : {r : Row} → r ∈ rows → (k : ℕ) × RowPasses b (is_open b.calendar) rows k × (get_or rows k no_row ≡ r)
   row-at m = let w = in-at no_row m in (w.0, pass.each_row w.0 w.1, w.2)
 
-  pub passing-is_row : (r : Row) → r ∈ rows → IsRow L b r
+  pub passing-is_row : (r : Row) → r ∈ rows → IsRow b r
   passing-is_row r m =
       let w = row-at m in
-      subst (IsRow L b) w.2
+      subst (IsRow b) w.2
       (record { in_book = record { flow_in_is = w.1.flow_in_is; job_in = w.1.job_in }; slot_in = w.1.slot_in; takes = w.1.takes })
 
   pub passing-rising : Rising (Before b) rows
   passing-rising = rises-rising b rows (λ k l. (pass.each_row k l).comes_after)
 
   -- the rows that pass are those of the schedule that they state
-  pub passing-rows : rows ≡ schedule_rows L b (schedule_of rows)
-  passing-rows = rows_of-schedule L b rows passing-rising passing-is_row
+  pub passing-rows : rows ≡ schedule_rows b (schedule_of rows)
+  passing-rows = rows_of-schedule b rows passing-rising passing-is_row
 
   only-jobs : (f i t : ℕ) (r : Row) → r ∈ rows → IsAt f i t r → IsJob b every_flow f i
   only-jobs f i t r m at-r =
@@ -116,9 +116,9 @@ module _ (L : Limits) (b : Book) (range : InRange L b) (rows : List Row) (pass :
       go (inr l) = omega arith
 
   pub passing_use : (t : ℕ) → used_in rows t ≤ b.processors
-  passing_use t = rw (← take-length rows) (use_kept L b (is_open b.calendar) rows t (length rows) (omega arith) pass.each_row)
+  passing_use t = rw (← take-length rows) (use_kept b (is_open b.calendar) rows t (length rows) (omega arith) pass.each_row)
 
-  slot_in : (f i t : ℕ) → L.slots ≤ t → schedule_of rows f i t ≡ 0
+  slot_in : (f i t : ℕ) → slots ≤ t → schedule_of rows f i t ≡ 0
   slot_in f i t l = schedule-none rows f i t (λ r m at-r. omega (arith, (passing-is_row r m).slot_in, at-r.of_slot))
 
   predecessor-done : (f i k t : ℕ) → IsJob b every_flow f i → precedes (flow_of b f) k i ≡ true → 0 < schedule_of rows f i t →
@@ -126,7 +126,7 @@ module _ (L : Limits) (b : Book) (range : InRange L b) (rows : List Row) (pass :
   predecessor-done f i k t j p l =
       let w = schedule_met rows f i t l in
       let v = row-at w.1 in
-      let below = predecessor-below L b range f i k j.flow_in_is j.job_in p in
+      let below = predecessor-below b range f i k j.flow_in_is j.job_in p in
       let done =
       done_at b w.0 f i t w.2 (take v.0 rows) k below p
       (subst (PredecessorsDone b (take v.0 rows)) v.2 v.1.predecessors_done) in
@@ -157,14 +157,14 @@ module _ (L : Limits) (b : Book) (range : InRange L b) (rows : List Row) (pass :
     no_others = λ f i t n. schedule-none rows f i t (λ r m at-r. n (only-jobs f i t r m at-r));
     caps = λ f i t j. cap_kept f i t;
     together = λ t. rw (← used-in_use b rows t (λ r m. (passing-is_row r m).in_book)) (passing_use t);
-    horizon = L.slots;
+    horizon = slots;
     nothing_after = slot_in;
-    sizes = λ f i j. sum-schedule rows f i L.slots ∙ total_by rows f i L.slots (λ r m. (passing-is_row r m).slot_in) ∙ pass.totals f i j.flow_in_is j.job_in;
+    sizes = λ f i j. sum-schedule rows f i slots ∙ total_by rows f i slots (λ r m. (passing-is_row r m).slot_in) ∙ pass.totals f i j.flow_in_is j.job_in;
     precedence = predecessor-done;
     in_usable = λ f i t j. nothing-unusable f i t;
   }
 
-  pub passing_in-slots : InSlots L (schedule_of rows)
+  pub passing_in-slots : InSlots (schedule_of rows)
   unfolding InSlots
   passing_in-slots = slot_in
 
@@ -211,15 +211,15 @@ done-so_far b rows rising k l i =
     go x false e m = rw e refl
 
 -- ---- the rows of a valid schedule within the slots pass
-module _ (L : Limits) (b : Book) (range : InRange L b) (σ : Schedule) (valid : Valid b every_flow σ) (within : InSlots L σ) where
+module _ (b : Book) (range : InRange b) (σ : Schedule) (valid : Valid b every_flow σ) (within : InSlots σ) where
   abbrev rows : List Row
-  rows = schedule_rows L b σ
+  rows = schedule_rows b σ
 
   stated : (f i t : ℕ) → schedule_of rows f i t ≡ σ f i t
-  stated = schedule_of-rows L b σ (valid-within L b σ valid within)
+  stated = schedule_of-rows b σ (valid-within b σ valid within)
 
-  slot_of : (r : Row) → r ∈ rows → r.slot < L.slots
-  slot_of r m = (schedule-rows_in L b σ r m).is_row.slot_in
+  slot_of : (r : Row) → r ∈ rows → r.slot < slots
+  slot_of r m = (schedule-rows_in b σ r m).is_row.slot_in
 
   -- what the rows of a job sum to before a slot is what the schedule gives
   done-given : (f i t : ℕ) → done_before rows f i t ≡ sum_to (σ f i) t
@@ -228,22 +228,22 @@ module _ (L : Limits) (b : Book) (range : InRange L b) (σ : Schedule) (valid : 
   used-given : (t : ℕ) → used_in rows t ≡ in_use b σ t
   unfolding in_use
   used-given t =
-      used-in_use b rows t (λ r m. (schedule-rows_in L b σ r m).is_row.in_book)
+      used-in_use b rows t (λ r m. (schedule-rows_in b σ r m).is_row.in_book)
       ∙ sum_ext (λ f. sum_to (λ i. schedule_of rows f i t) (job_count (flow_of b f))) (λ f. sum_to (λ i. σ f i t) (job_count (flow_of b f))) (flow_count b)
       (λ f l. sum_ext (λ i. schedule_of rows f i t) (λ i. σ f i t) (job_count (flow_of b f)) (λ i m. stated f i t))
 
   total-given : (f i : ℕ) → IsJob b every_flow f i → total_of rows f i ≡ (job_of (flow_of b f) i).size
   unfolding InSlots
   total-given f i j =
-      let by_slots = sum_quiet (σ f i) L.slots valid.horizon (λ t l. within f i t l) in
-      let by-horizon = sum_quiet (σ f i) valid.horizon L.slots (λ t l. valid.nothing_after f i t l) in
-      omega (arith, total_by rows f i L.slots slot_of, done-given f i L.slots, valid.sizes f i j)
+      let by_slots = sum_quiet (σ f i) slots valid.horizon (λ t l. within f i t l) in
+      let by-horizon = sum_quiet (σ f i) valid.horizon slots (λ t l. valid.nothing_after f i t l) in
+      omega (arith, total_by rows f i slots slot_of, done-given f i slots, valid.sizes f i j)
 
-  row-passes : (k : ℕ) → k < length rows → RowPasses L b (is_open b.calendar) rows k
+  row-passes : (k : ℕ) → k < length rows → RowPasses b (is_open b.calendar) rows k
   unfolding PredecessorsDone
   row-passes k l =
       let r = get_or rows k no_row in
-      let o = schedule-rows_in L b σ r (at_in rows k no_row l) in
+      let o = schedule-rows_in b σ r (at_in rows k no_row l) in
       let j = row_is-job b r o.is_row.in_book in
       let given-some : 0 < σ r.flow r.job r.slot = omega (arith, o.given_there, o.is_row.takes) in
       let can = given-usable b every_flow σ valid r.flow r.job r.slot j given-some in
@@ -253,20 +253,20 @@ module _ (L : Limits) (b : Book) (range : InRange L b) (σ : Schedule) (valid : 
         job_in = j.job_in;
         takes = o.is_row.takes;
         slot_open = usable_open b (flow_of b r.flow) r.slot can;
-        comes_after = rising-rises b rows (schedule-rows-rising L b σ) k l;
+        comes_after = rising-rises b rows (schedule-rows-rising b σ) k l;
         cap_kept = omega (arith, o.given_there, valid.caps r.flow r.job r.slot j);
         processors_kept = omega (arith, used-so_far rows k l, used-given r.slot, valid.together r.slot);
         released = released b (flow_of b r.flow) r.slot can;
         predecessors_done = λ i m p.
             omega (
               arith,
-              done-so_far b rows (schedule-rows-rising L b σ) k l i,
+              done-so_far b rows (schedule-rows-rising b σ) k l i,
               done-given r.flow i r.slot,
               valid.precedence r.flow r.job i r.slot j p given-some,
             );
       }
 
-  pub valid-passes : RowsPass L b rows
+  pub valid-passes : RowsPass b rows
   valid-passes = record {
     each_row = row-passes;
     totals = λ f i l m. total-given f i (record { flow_among = refl; flow_in_is = l; job_in = m });

@@ -11,11 +11,9 @@ use lib.ListN.{length, length-append}
 use lib.Dec.{eqb}
 use borrow.Author.Tests.{ltb-false, eqb-true, le-ltb, eq-eqb, not-false}
 use Rattle.rules.specs.declared.Verdict.TheVariants.{Pass}
-use Rattle.rules.specs.declared.Limits.{Limits}
 use Rattle.rules.specs.Walks.{list_from, join_from}
 use Rattle.rules.specs.Fields.{byte, field, bytes_of, AllBytes}
 use Rattle.rules.specs.Answers.{none}
-use Rattle.rules.specs.Ranges.{Fits}
 use Rattle.rules.specs.Book.{Book, flow_count, InRange}
 use Rattle.rules.specs.Rows.{Row, finish_of}
 use Rattle.rules.specs.Table.{table_head, row_length, table_length, row_bytes, rows_bytes, table_bytes, finish_in, row_at}
@@ -180,9 +178,9 @@ table-rows_written b rows fits =
     let e : table_head b + row_length * 0 ≡ table_head b = omega arith in
     rw count (rows_written (table_bytes b rows) (table_head b) 0 rows fits (rw e (written-parts b rows).rows_stand))
 
-pub head-written : (L : Limits) → Fits L → (b : Book) (rows : List Row) → InRange L b → table_length b rows < 256 ^ 4 → table_head_fault b (table_bytes b rows) ≡ Pass
+pub head-written : (b : Book) (rows : List Row) → InRange b → table_length b rows < 256 ^ 4 → table_head_fault b (table_bytes b rows) ≡ Pass
 unfolding table_head_fault table_length
-head-written L fit b rows range fits =
+head-written b rows range fits =
     let s = table_bytes b rows in
     let p = written-parts b rows in
     let whole = table-bytes-length b rows in
@@ -218,9 +216,9 @@ row-at-fits s at h = record {
   processors_fit = field_lt 2 s (at + 4) h;
 }
 
-pub table-rows_fit : (b : Book) (s : List ℕ) → AllBytes s → (r : Row) → r ∈ table_rows b s → RowFits r
+pub table-rows-fit : (b : Book) (s : List ℕ) → AllBytes s → (r : Row) → r ∈ table_rows b s → RowFits r
 unfolding table_rows
-table-rows_fit b s h r m =
+table-rows-fit b s h r m =
     let at : ℕ → ℕ = λ k. table_head b + row_length * k in
     let n = (length s - table_head b) / row_length in
     let w = in-at no_row m in

@@ -1,9 +1,9 @@
 -- What is owed of the dispatch list (02, Req 03). Assumes nothing.
 use Rattle.std.specs.Prelude.{◌≡◌, ℕ, suc, ◌+◌, ◌*◌, ◌≤◌, ◌<◌, Bool, true, ◌&&◌, List, [], ◌∷◌, ◌++◌, length, take, drop, get_or, eqb}
-use Rattle.rules.specs.declared.Limits.{Limits}
 use Rattle.rules.specs.Walks.{bit}
 use Rattle.rules.specs.Fields.{AllBytes, field, bytes_of}
 use Rattle.rules.specs.Answers.{none, list_accepted, list_refused}
+use Rattle.rules.specs.Limits.{slots, work_bytes}
 use Rattle.rules.specs.Book.{Book}
 use Rattle.rules.specs.Reading.{read, read_book}
 use Rattle.rules.specs.Rows.{Row, used_in}
@@ -16,10 +16,10 @@ use Rattle.rules.specs.Demands.Refusals.{AreaAfterRefusal}
 -- ---- the dispatch list (02, Req 03)
 
 -- a refusal, by the check or by 13: "The output is never touched by a refusal, and every count, length or finish returned with it is 0."
-pub record DispatchRefusal (L : Limits) (out area : List ℕ) (o : DispatchOutcome) : Type 0 where
+pub record DispatchRefusal (out area : List ℕ) (o : DispatchOutcome) : Type 0 where
   pub length_zero : o.answer.length ≡ 0
   pub output_kept : o.output ≡ out
-  pub area_left : AreaAfterRefusal L o.answer.number area o.area
+  pub area_left : AreaAfterRefusal o.answer.number area o.area
 
 -- the rows are equal
 abbrev pub same_row : Row → Row → Bool
@@ -38,7 +38,7 @@ abbrev pub rows_listed : DispatchOutcome → List Row
 rows_listed o = rows_in_list (list_of o)
 
 -- what an accepted call leaves, read off its bytes, for a table with these rows
-pub record WritesList (L : Limits) (b : Book) (rows : List Row) (out : List ℕ) (o : DispatchOutcome) : Type 0 where
+pub record WritesList (b : Book) (rows : List Row) (out : List ℕ) (o : DispatchOutcome) : Type 0 where
   pub length_is : o.answer.length ≡ list_length rows
   -- "length (4), version 1 (1), P (2)"
   pub head : take list_head o.output ≡ bytes_of 4 (list_length rows) ++ bytes_of 1 1 ++ bytes_of 2 b.processors
@@ -50,34 +50,34 @@ pub record WritesList (L : Limits) (b : Book) (rows : List Row) (out : List ℕ)
   -- "output past it is untouched"
   pub past : drop o.answer.length o.output ≡ drop (list_length rows) out
   -- "the work area ends as the check leaves it": slot by slot it holds the sum of the list's rows
-  pub sums : (t : ℕ) → t < L.slots → field 2 o.area (2 * t) ≡ used_in (rows_listed o) t
+  pub sums : (t : ℕ) → t < slots → field 2 o.area (2 * t) ≡ used_in (rows_listed o) t
 
-pub record Dispatches (L : Limits) : Type 0 where
+pub record Dispatches : Type 0 where
   -- "The refusals of the check apply first", each with its number, place and area
-  pub check_first : (book calendar table out area : List ℕ) → 0 < (check_call L book calendar table area).answer.number →
-      dispatch_call L book calendar table out area ≡ record {
-        answer = list_refused (check_call L book calendar table area).answer.number (check_call L book calendar table area).answer.flow (check_call L book calendar table area).answer.job;
+  pub check_first : (book calendar table out area : List ℕ) → 0 < (check_call book calendar table area).answer.number →
+      dispatch_call book calendar table out area ≡ record {
+        answer = list_refused (check_call book calendar table area).answer.number (check_call book calendar table area).answer.flow (check_call book calendar table area).answer.job;
         output = out;
-        area = (check_call L book calendar table area).area;
+        area = (check_call book calendar table area).area;
       }
   -- "then 13 if the list is longer than the lent output"; otherwise "The answer is the list's length"
-  pub too_long : (book calendar table out area : List ℕ) (b : Book) → read_book L book calendar ≡ read b → (check_call L book calendar table area).answer.number ≡ 0 →
-      length out < list_length (table_rows b table) → (dispatch_call L book calendar table out area).answer ≡ list_refused 13 none none
-  pub long_enough : (book calendar table out area : List ℕ) (b : Book) → read_book L book calendar ≡ read b → (check_call L book calendar table area).answer.number ≡ 0 →
-      list_length (table_rows b table) ≤ length out → (dispatch_call L book calendar table out area).answer ≡ list_accepted (list_length (table_rows b table))
-  pub refusal : (book calendar table out area : List ℕ) → 0 < (dispatch_call L book calendar table out area).answer.number →
-      DispatchRefusal L out area (dispatch_call L book calendar table out area)
+  pub too_long : (book calendar table out area : List ℕ) (b : Book) → read_book book calendar ≡ read b → (check_call book calendar table area).answer.number ≡ 0 →
+      length out < list_length (table_rows b table) → (dispatch_call book calendar table out area).answer ≡ list_refused 13 none none
+  pub long_enough : (book calendar table out area : List ℕ) (b : Book) → read_book book calendar ≡ read b → (check_call book calendar table area).answer.number ≡ 0 →
+      list_length (table_rows b table) ≤ length out → (dispatch_call book calendar table out area).answer ≡ list_accepted (list_length (table_rows b table))
+  pub refusal : (book calendar table out area : List ℕ) → 0 < (dispatch_call book calendar table out area).answer.number →
+      DispatchRefusal out area (dispatch_call book calendar table out area)
   -- "the table's rows, ordered by slot, flow, job"
-  pub lists_table : (book calendar table out area : List ℕ) (b : Book) → read_book L book calendar ≡ read b → AllBytes table →
-      (dispatch_call L book calendar table out area).answer.number ≡ 0 → WritesList L b (table_rows b table) out (dispatch_call L book calendar table out area)
-  -- "the work area ends as the check leaves it", whole, the bytes past the caller's size too
-  pub area_as_check : (book calendar table out area : List ℕ) → (dispatch_call L book calendar table out area).answer.number ≡ 0 →
-      (dispatch_call L book calendar table out area).area ≡ (check_call L book calendar table area).area
+  pub lists_table : (book calendar table out area : List ℕ) (b : Book) → read_book book calendar ≡ read b → AllBytes table →
+      (dispatch_call book calendar table out area).answer.number ≡ 0 → WritesList b (table_rows b table) out (dispatch_call book calendar table out area)
+  -- "the work area ends as the check leaves it", whole, the bytes past 16,384 too
+  pub area_as_check : (book calendar table out area : List ℕ) → (dispatch_call book calendar table out area).answer.number ≡ 0 →
+      (dispatch_call book calendar table out area).area ≡ (check_call book calendar table area).area
   -- "Nothing is lost by it: two different accepted tables of one book never give equal lists."
   pub nothing_lost : (book calendar table other out out' area area' : List ℕ) → AllBytes table → AllBytes other →
-      (dispatch_call L book calendar table out area).answer.number ≡ 0 → (dispatch_call L book calendar other out' area').answer.number ≡ 0 →
-      list_of (dispatch_call L book calendar table out area) ≡ list_of (dispatch_call L book calendar other out' area') → table ≡ other
+      (dispatch_call book calendar table out area).answer.number ≡ 0 → (dispatch_call book calendar other out' area').answer.number ≡ 0 →
+      list_of (dispatch_call book calendar table out area) ≡ list_of (dispatch_call book calendar other out' area') → table ≡ other
   -- the list of a table that the planner wrote has every row of the plan
-  pub lists_plan : (book calendar out area list other : List ℕ) (b : Book) → read_book L book calendar ≡ read b → (plan_call L book calendar out area).answer.number ≡ 0 →
-      list_length (rows_of (plan b)) ≤ length list → L.bytes ≤ length other →
-      WritesList L b (rows_of (plan b)) list (dispatch_call L book calendar (take (plan_call L book calendar out area).answer.length (plan_call L book calendar out area).output) list other)
+  pub lists_plan : (book calendar out area list other : List ℕ) (b : Book) → read_book book calendar ≡ read b → (plan_call book calendar out area).answer.number ≡ 0 →
+      list_length (rows_of (plan b)) ≤ length list → work_bytes ≤ length other →
+      WritesList b (rows_of (plan b)) list (dispatch_call book calendar (take (plan_call book calendar out area).answer.length (plan_call book calendar out area).output) list other)

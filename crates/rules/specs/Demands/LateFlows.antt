@@ -1,6 +1,5 @@
 -- What it means that a flow is late (02, Req 06). Assumes nothing.
 use Rattle.std.specs.Prelude.{◌≡◌, ℕ, ◌<◌, true, false, List}
-use Rattle.rules.specs.declared.Limits.{Limits}
 use Rattle.rules.specs.Book.{Book, flow_count, flow_of}
 use Rattle.rules.specs.Reading.{read, read_book}
 use Rattle.rules.specs.Rows.{Row, finish_of, is_late}
@@ -25,8 +24,8 @@ pub record LateMeans (b : Book) (σ : Schedule) (f finish : ℕ) : Type 0 where
   pub deadline_1_late : (flow_of b f).deadline ≡ 1 → is_late (flow_of b f) finish ≡ true
 
 -- "in planner and check alike": of every plan, and of every valid schedule in a table's slots, whoever made it
-pub record WriteBack (L : Limits) : Type 0 where
-  pub of_plans : (book calendar : List ℕ) (b : Book) → read_book L book calendar ≡ read b → (rows : List Row) → plan b ≡ planned rows → (f : ℕ) → f < flow_count b →
+pub record WriteBack : Type 0 where
+  pub of_plans : (book calendar : List ℕ) (b : Book) → read_book book calendar ≡ read b → (rows : List Row) → plan b ≡ planned rows → (f : ℕ) → f < flow_count b →
       LateMeans b (schedule_of rows) f (finish_of rows f)
-  pub of_schedules : (book calendar : List ℕ) (b : Book) → read_book L book calendar ≡ read b → (σ : Schedule) → Valid b every_flow σ → InSlots L σ → (f : ℕ) → f < flow_count b →
-      LateMeans b σ f (finish_of (schedule_rows L b σ) f)
+  pub of_schedules : (book calendar : List ℕ) (b : Book) → read_book book calendar ≡ read b → (σ : Schedule) → Valid b every_flow σ → InSlots σ → (f : ℕ) → f < flow_count b →
+      LateMeans b σ f (finish_of (schedule_rows b σ) f)

@@ -24,7 +24,7 @@ returns : tie.Need-returns
 returns c =
     let r = c.before.before.before.before in
     let a = (start r).args in
-    let e = call-unread a.limits a.book.now a.calendar.now a.table.now a.work.now (sym r.verdict-of.ensures ∙ c.before.before.v.given.1) in
+    let e = call-unread a.book.now a.calendar.now a.table.now a.work.now (sym r.verdict-of.ensures ∙ c.before.before.v.given.1) in
     (c.refusal.ensures ∙ sym (ap (λ (o : CheckOutcome). o.answer) e), sym (ap (λ (o : CheckOutcome). o.area) e))
 
 enum_told : tie.Need-enum-told
@@ -46,7 +46,7 @@ returns-2 c =
     let r = t.before.before in
     let a = (start r).args in
     let passes = sym r.verdict-of.ensures ∙ t.enum_told.given.1 in
-    let e = call-calendar-unread a.limits a.book.now a.calendar.now a.table.now a.work.now passes (sym q.verdict-of2.ensures ∙ c.before.before.d.given.1) in
+    let e = call-calendar-unread a.book.now a.calendar.now a.table.now a.work.now passes (sym q.verdict-of2.ensures ∙ c.before.before.d.given.1) in
     (c.refusal2.ensures ∙ sym (ap (λ (o : CheckOutcome). o.answer) e), sym (ap (λ (o : CheckOutcome). o.area) e))
 
 enum-told-2 : tie.Need-enum-told-2
@@ -57,22 +57,22 @@ refusal-requires-3 c κs = tt
 
 returns-3 : tie.Need-returns-3
 returns-3 c =
-    let k = c.before.before.before in
+    let k = c.before.before in
     let q = k.before.before in
     let t = q.before in
     let r = t.before.before in
     let a = (start r).args in
     let passes = sym r.verdict-of.ensures ∙ t.enum_told.given.1 in
     let kept = sym q.verdict-of2.ensures ∙ k.enum-told2.given.1 in
-    let e = call-short a.limits a.book.now a.calendar.now a.table.now a.work.now passes kept c.before.if1.true in
+    let e = call-short a.book.now a.calendar.now a.table.now a.work.now passes kept c.before.if1.true in
     (c.refusal3.ensures ∙ sym (ap (λ (o : CheckOutcome). o.answer) e), sym (ap (λ (o : CheckOutcome). o.area) e))
 
 judge-with-requires : tie.Need-judge-with-requires
 judge-with-requires c κs =
-    let k = c.before.before.before in
+    let k = c.before.before in
     let q = k.before.before in
     let t = q.before in
-    ((start t.before.before).requires, sym t.before.before.verdict-of.ensures ∙ t.enum_told.given.1, sym q.verdict-of2.ensures ∙ k.enum-told2.given.1, c.before.if1.false)
+    (sym t.before.before.verdict-of.ensures ∙ t.enum_told.given.1, sym q.verdict-of2.ensures ∙ k.enum-told2.given.1, c.before.if1.false)
 
 enum-known-w : tie.Need-enum-known-w
 enum-known-w c = search rules
@@ -91,14 +91,14 @@ returns-4 c =
     let w = c.before.before.before.before.before.before in
     let judged = w.before.before.before.before in
     let room = judged.before.before in
-    let k = room.before.before in
+    let k = room.before in
     let q = k.before.before in
     let t = q.before in
     let r = t.before.before in
     let a = (start r).args in
     let passes = sym r.verdict-of.ensures ∙ t.enum_told.given.1 in
     let kept = sym q.verdict-of2.ensures ∙ k.enum-told2.given.1 in
-    let e = call-refused a.limits a.book.now a.calendar.now a.table.now a.work.now passes kept room.if1.false judged.judge-with.ensures w.w.given.1 in
+    let e = call-refused a.book.now a.calendar.now a.table.now a.work.now passes kept room.if1.false judged.judge-with.ensures w.w.given.1 in
     (c.refusal4.ensures ∙ sym (ap (λ (o : CheckOutcome). o.answer) e), c.before.before.before.clear.ensures ∙ sym (ap (λ (o : CheckOutcome). o.area) e))
 
 enum-told-3 : tie.Need-enum-told-3
@@ -111,14 +111,14 @@ returns-5 : tie.Need-returns-5
 returns-5 c =
     let judged = c.before.before.before.before in
     let room = judged.before.before in
-    let k = room.before.before in
+    let k = room.before in
     let q = k.before.before in
     let t = q.before in
     let r = t.before.before in
     let a = (start r).args in
     let passes = sym r.verdict-of.ensures ∙ t.enum_told.given.1 in
     let kept = sym q.verdict-of2.ensures ∙ k.enum-told2.given.1 in
-    let e = call-accepted a.limits a.book.now a.calendar.now a.table.now a.work.now passes kept room.if1.false judged.judge-with.ensures c.enum-told3.given.1 in
+    let e = call-accepted a.book.now a.calendar.now a.table.now a.work.now passes kept room.if1.false judged.judge-with.ensures c.enum-told3.given.1 in
     (sym (ap (λ (o : CheckOutcome). o.answer) e), sym (ap (λ (o : CheckOutcome). o.area) e))
 
 pub check-table-spec : {M : Type 1} → statement M

@@ -4,7 +4,7 @@ use Prim.Native.Nat.{◌-◌, ◌≤◌}
 use Rattle.rules.specs.declared.Verdict.TheVariants.{Pass}
 use Rattle.rules.specs.Answers.{first_fault}
 use Rattle.table_check.specs.Walk.{finish_fault_by}
-use Rattle.table_check.proofs.Finals.{none-walked, one-walked, all-walked, stopped, finish_right, finish_wrong}
+use Rattle.table_check.proofs.Finals.{none_walked, one_walked, all_walked, stopped, finish_right, finish_wrong}
 use borrow.Author.Rules.{rules}
 use native.Mathlib.Omega.{arith}
 use Rattle.table_check.proofs.finishes_verdict.Statement.{statement}
@@ -17,7 +17,7 @@ abbrev decreases-loop : tie.decreases-loop
 decreases-loop table flows finish f₀ f = flows - f
 
 loop-holds : tie.Need-loop-init invariant-loop decreases-loop
-loop-holds c = (omega arith, none-walked _)
+loop-holds c = (omega arith, none_walked _)
 
 mul-read16 : tie.Need-overflow-mul-read16 invariant-loop decreases-loop
 mul-read16 c = search rules
@@ -55,14 +55,14 @@ loop-again c =
     let a = c.before.before.before.before.before.args in
     let l = c.before.before.before.loop in (
       omega arith,
-      one-walked (finish_fault_by a.table.now a.t3) l.f l.invariant.1
+      one_walked (finish_fault_by a.table.now a.t3) l.f l.invariant.1
           (finish_right a.table.now a.t3 l.f c.before.read16.result c.before.read16.ensures c.if1.false),
     )
 
 returns-2 : tie.Need-returns-2 invariant-loop decreases-loop
 returns-2 c =
     let l = c.before.loop in
-    sym (all-walked _ l.f _ l.invariant.0 c.loop-test.false l.invariant.1)
+    sym (all_walked _ l.f _ l.invariant.0 c.loop-test.false l.invariant.1)
 
 pub finishes-verdict-spec : {M : Type 1} → statement M
 finishes-verdict-spec =

@@ -6,7 +6,7 @@ use Rattle.rules.specs.declared.Verdict.TheVariants.{Pass}
 use Rattle.rules.specs.Answers.{first_fault}
 use Rattle.table_check.specs.Tests.{mismatch_fault}
 use Rattle.table_check.specs.Walk.{mismatches_fault}
-use Rattle.table_check.proofs.Finals.{none-walked, one-walked, all-walked, stopped, mismatch-found, mismatch-none}
+use Rattle.table_check.proofs.Finals.{none_walked, one_walked, all_walked, stopped, mismatch-found, mismatch-none}
 use borrow.Author.Rules.{rules}
 use native.Mathlib.Omega.{arith}
 use Rattle.table_check.proofs.totals_verdict.Statement.{statement}
@@ -19,7 +19,7 @@ abbrev decreases-loop : tie.decreases-loop
 decreases-loop flows mismatch f₀ f = flows - f
 
 loop-holds : tie.Need-loop-init invariant-loop decreases-loop
-loop-holds c = (omega arith, none-walked _)
+loop-holds c = (omega arith, none_walked _)
 
 array-read-job : tie.Need-array-read-job invariant-loop decreases-loop
 array-read-job c = search rules
@@ -42,11 +42,11 @@ loop-less c = search rules
 loop-again : tie.Need-loop-preserved invariant-loop decreases-loop
 loop-again c =
     let l = c.before.before.loop in
-    (omega arith, one-walked _ l.f l.invariant.1 (mismatch-none l.f _ c.if1.false))
+    (omega arith, one_walked _ l.f l.invariant.1 (mismatch-none l.f _ c.if1.false))
 
 returns-2 : tie.Need-returns-2 invariant-loop decreases-loop
 unfolding mismatches_fault
-returns-2 c = let l = c.before.loop in sym (all-walked _ l.f _ l.invariant.0 c.loop-test.false l.invariant.1)
+returns-2 c = let l = c.before.loop in sym (all_walked _ l.f _ l.invariant.0 c.loop-test.false l.invariant.1)
 
 pub totals-verdict-spec : {M : Type 1} → statement M
 totals-verdict-spec = tie.close (tie.spec invariant-loop decreases-loop loop-holds array-read-job cast-t10 returns add-f loop-less loop-again returns-2)

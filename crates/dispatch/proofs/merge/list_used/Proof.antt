@@ -21,7 +21,7 @@ mul-read16 c = omega (arith, c.wide16.ensures.1)
 read16-requires : tie.Need-read16-requires
 read16-requires c κs =
     let p = c.before.before.before.before.before.before.before.before.requires in
-    omega (arith, c.wide16.ensures.0, p.2.1, p.2.2.room)
+    omega (arith, c.wide16.ensures.0, p.0.a_slot, p.2.room)
 
 returns : tie.Need-returns
 returns c =
@@ -30,7 +30,7 @@ returns c =
     let p = s.requires.0 in
     let e : 2 * c.before.before.wide16.result ≡ 2 * a.slot = ap (2 *◌) c.before.before.wide16.ensures.0 in
     let unused : used_in (accepted_rows a.book.now a.table.now) a.slot ≡ 0 =
-    sym (pair-used _ _ p.accepted _ p.a_slot _ a.work.now s.requires.2.1 s.requires.2.2) ∙ ap (field 2 a.work.now) (sym e) ∙ sym c.before.read16.ensures ∙ c.if1.true in
+    sym (pair-used _ _ p.accepted _ p.a_slot a.work.now s.requires.2) ∙ ap (field 2 a.work.now) (sym e) ∙ sym c.before.read16.ensures ∙ c.if1.true in
     record {
       cursors = cursors-pass _ _ p.accepted _ p.a_slot unused _ _ p.cursors;
       listed = rw (no-rows_in _ _ p.accepted _ p.a_slot unused (flow_count (book_of a.book.now))) (listed-none _ _);

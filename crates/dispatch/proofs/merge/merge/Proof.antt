@@ -5,7 +5,7 @@ use mathlib.Core.List.{List}
 use lib.ListN.{length}
 use lib.Seq.{sets}
 use Rattle.rules.specs.Walks.{join_from}
-use Rattle.rules.specs.Ranges.{mill}
+use Rattle.rules.specs.Limits.{slots}
 use Rattle.rules.specs.Book.{flow_count}
 use Rattle.rules.specs.Reading.{book_of}
 use Rattle.rules.specs.Rows.{Row}
@@ -20,24 +20,20 @@ use Rattle.dispatch.proofs.merge.merge.Statement.{statement}
 use Rattle.dispatch.proofs.merge.merge.Tie as tie
 
 abbrev invariant-loop : tie.invariant-loop
-invariant-loop book table jobs work out₀ ats₀ dues₀ flows size to₀ slot₀ out ats dues to slot = (slot ≤ mill.slots) × (length out ≡ length out₀) × Cursors (book_of book) table slot 0 ats dues × RowsListed (rows_below (accepted_rows book table) (flow_count (book_of book)) slot) 7 out₀ out to
+invariant-loop book table jobs work out₀ ats₀ dues₀ flows size to₀ slot₀ out ats dues to slot = (slot ≤ slots) × (length out ≡ length out₀) × Cursors (book_of book) table slot 0 ats dues × RowsListed (rows_below (accepted_rows book table) (flow_count (book_of book)) slot) 7 out₀ out to
 
 abbrev decreases-loop : tie.decreases-loop
-decreases-loop book table jobs work out₀ ats₀ dues₀ flows size to₀ slot₀ out ats dues to slot = mill.slots - slot
+decreases-loop book table jobs work out₀ ats₀ dues₀ flows size to₀ slot₀ out ats dues to slot = slots - slot
 
 -- where the function begins, and in a turn: the list is longer, so that a slot is left
 abbrev start : tie.At-loop invariant-loop decreases-loop → tie.Start invariant-loop decreases-loop
 start c = c.before.before.before.before.before.before.before.before
 
-left : (c : tie.In-loop invariant-loop decreases-loop) → c.before.loop.slot < (start c.before).pre.2.0
+left : (c : tie.In-loop invariant-loop decreases-loop) → c.before.loop.slot < slots
 unfolding offset_after list_length
 left c =
     let l = c.before.loop in
-    let p = (start c.before).pre in
-    slot-left _ _ p.0.accepted _ p.2.1.rows_in l.slot (omega (arith, l.invariant.3.next_is, p.4))
-
-left-few : (c : tie.In-loop invariant-loop decreases-loop) → c.before.loop.slot < mill.slots
-left-few c = omega (arith, left c, (start c.before).pre.2.1.few)
+    slot-left _ _ (start c.before).pre.0.accepted l.slot l.invariant.0 (omega (arith, l.invariant.3.next_is, (start c.before).pre.4))
 
 loop-holds : tie.Need-loop-init invariant-loop decreases-loop
 unfolding rows_below join_from
@@ -50,20 +46,19 @@ unfolding offset_after list_length
 list-used-requires c κs =
     let l = c.before.before.before.before.loop in
     let p = (start c.before.before.before.before).pre in
-    let inside = left c.before.before.before in
-    let a_slot : l.slot < mill.slots = omega (arith, inside, p.2.1.few) in (
+    let a_slot = left c.before.before.before in (
       record { accepted = p.0.accepted; a_slot = a_slot; cursors = l.invariant.2 },
       p.1,
-      (p.2.0, inside, p.2.1),
+      p.2,
       p.3,
       rw p.3 (omega (arith, l.invariant.1, l.invariant.3.next_is, slot-room _ _ p.0.accepted l.slot a_slot, p.4, p.5)),
     )
 
 add-slot : tie.Need-overflow-add-slot invariant-loop decreases-loop
-add-slot c = omega (arith, left-few c.before.before.before.before.before.before.before.before.before.before)
+add-slot c = omega (arith, left c.before.before.before.before.before.before.before.before.before.before)
 
 loop-less : tie.Need-loop-smaller invariant-loop decreases-loop
-loop-less c = omega (arith, left-few c.before.before.before.before.before.before.before.before.before.before)
+loop-less c = omega (arith, left c.before.before.before.before.before.before.before.before.before.before)
 
 loop-again : tie.Need-loop-preserved invariant-loop decreases-loop
 loop-again c =
@@ -71,7 +66,7 @@ loop-again c =
     let l = t.before.loop in
     let r = c.before.before.before.before.before.before.list-used.ensures in
     let e : suc l.slot ≡ l.slot + 1 = omega arith in (
-      omega (arith, left-few t),
+      omega (arith, left t),
       search rules,
       rw e at r.cursors,
       rw (sym e, below_next _ _ (start t.before).pre.0.accepted) (listed-append l.invariant.3 r.listed),

@@ -1,7 +1,7 @@
 -- `table_check::row::test_row` meets its contract: where 15, 25 or 16 is met it is the number; otherwise the row's slot and job are in range, and what
 -- was read is that of the flow and of the work area. Assumes nothing.
 use native.Mathlib.Omega.{arith}
-use Rattle.table_check.specs.Tests.{open_in}
+use Rattle.calendar.specs.Area.{open_by}
 use Rattle.table_check.proofs.Finals.{few-jobs}
 use Rattle.table_check.proofs.TestNumbers.{tested-standing, tested-inside, tested-amount}
 use Rattle.table_check.proofs.row.test_row.Statement.{statement}
@@ -11,10 +11,10 @@ rank-of-requires : tie.Need-rank-of-requires
 rank-of-requires c κs = tt
 
 standing-fault-requires : tie.Need-standing-fault-requires
-standing-fault-requires c κs = let p = c.before.before.before.before.before.requires in (few-jobs p.0, p.2)
+standing-fault-requires c κs = few-jobs c.before.before.before.before.before.before.requires.0
 
 returns : tie.Need-returns
-returns c = tested-standing _ _ (open_in _ _) _ _ _ _ _ _ c.before.before.before.before.before.before.before.requires.0.jobs c.before.before.rank-of.ensures.0 c.before.standing_fault.ensures _ c.if1.true
+returns c = tested-standing _ (open_by _) _ _ _ _ _ _ c.before.before.before.before.before.before.before.before.requires.0.jobs c.before.before.rank-of.ensures.0 c.before.standing_fault.ensures _ c.if1.true
 
 wide-requires : tie.Need-wide-requires
 wide-requires c κs = tt
@@ -27,16 +27,16 @@ mul-read16 c = omega (arith, c.wide16.ensures.1)
 
 read16-requires : tie.Need-read16-requires
 read16-requires c κs =
-    let inside = tested-inside _ _ (open_in _ _) _ _ _ _ _ _ c.before.before.before.before.before.before.before.before.before.requires.0.jobs c.before.before.before.before.rank-of.ensures.0 c.before.before.before.standing_fault.ensures c.before.before.if1.false in
-    omega (arith, inside.0, c.wide16.ensures.0, c.before.before.before.before.before.before.before.before.before.requires.2)
+    let inside = tested-inside _ (open_by _) _ _ _ _ _ _ c.before.before.before.before.before.before.before.before.before.before.requires.0.jobs c.before.before.before.before.rank-of.ensures.0 c.before.before.before.standing_fault.ensures c.before.before.if1.false in
+    omega (arith, inside.0, c.wide16.ensures.0, c.before.before.before.before.before.before.before.before.before.before.requires.2)
 
 mul-amount-fault : tie.Need-overflow-mul-amount-fault
 mul-amount-fault c = omega (arith, c.before.before.wide.ensures.1)
 
 shared-slice-read-amount-fault : tie.Need-shared-slice-read-amount-fault
 shared-slice-read-amount-fault c =
-    let p = c.before.before.before.before.before.before.before.before.before.before.before.requires in
-    let inside = tested-inside _ _ (open_in _ _) _ _ _ _ _ _ p.0.jobs c.before.before.before.before.before.before.rank-of.ensures.0 c.before.before.before.before.before.standing_fault.ensures c.before.before.before.before.if1.false in
+    let p = c.before.before.before.before.before.before.before.before.before.before.before.before.requires in
+    let inside = tested-inside _ (open_by _) _ _ _ _ _ _ p.0.jobs c.before.before.before.before.before.before.rank-of.ensures.0 c.before.before.before.before.before.standing_fault.ensures c.before.before.before.before.if1.false in
     omega (arith, inside.1, c.before.before.before.wide.ensures.0, few-jobs p.0, p.0.jobs, p.1.caps-long)
 
 amount-fault-requires : tie.Need-amount-fault-requires
@@ -47,14 +47,14 @@ mul-t15 c = omega (arith, c.before.before.before.before.wide.ensures.1)
 
 shared-slice-read-t12 : tie.Need-shared-slice-read-t12
 shared-slice-read-t12 c =
-    let p = c.before.before.before.before.before.before.before.before.before.before.before.before.before.requires in
-    let inside = tested-inside _ _ (open_in _ _) _ _ _ _ _ _ p.0.jobs c.before.before.before.before.before.before.before.before.rank-of.ensures.0 c.before.before.before.before.before.before.before.standing_fault.ensures c.before.before.before.before.before.before.if1.false in
+    let p = c.before.before.before.before.before.before.before.before.before.before.before.before.before.before.requires in
+    let inside = tested-inside _ (open_by _) _ _ _ _ _ _ p.0.jobs c.before.before.before.before.before.before.before.before.rank-of.ensures.0 c.before.before.before.before.before.before.before.standing_fault.ensures c.before.before.before.before.before.before.if1.false in
     omega (arith, inside.1, c.before.before.before.before.before.wide.ensures.0, few-jobs p.0, p.0.jobs, p.1.sizes-long)
 
 returns-2 : tie.Need-returns-2
 returns-2 c =
-    let p = c.before.before.before.before.before.before.before.before.before.before.before.before.before.requires in
-    tested-amount _ _ (open_in _ _) _ _ _ _ _ _ p.0.jobs c.before.before.before.before.before.before.before.before.rank-of.ensures.0 c.before.before.before.before.before.before.before.standing_fault.ensures c.before.before.before.before.before.before.if1.false
+    let p = c.before.before.before.before.before.before.before.before.before.before.before.before.before.before.requires in
+    tested-amount _ (open_by _) _ _ _ _ _ _ p.0.jobs c.before.before.before.before.before.before.before.before.rank-of.ensures.0 c.before.before.before.before.before.before.before.standing_fault.ensures c.before.before.before.before.before.before.if1.false
     _ _ _ _ _ _ _ _ p.1 p.0.processors c.before.before.before.before.before.wide.ensures.0 c.before.before.before.before.wide16.ensures.0 c.before.before.before.read16.ensures c.before.amount_fault.ensures
 
 pub test-row-spec : {M : Type 1} → statement M

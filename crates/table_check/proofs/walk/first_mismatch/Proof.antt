@@ -5,7 +5,7 @@ use Rattle.rules.specs.declared.Verdict.TheVariants.{Pass}
 use Rattle.rules.specs.Answers.{first_fault}
 use Rattle.rules.specs.Reading.{book_of}
 use Rattle.table_check.specs.Walk.{total_fault_by}
-use Rattle.table_check.proofs.Finals.{none-walked, one-walked, few-jobs, total_right, total_wrong, closes-mismatch, closes_right}
+use Rattle.table_check.proofs.Finals.{none_walked, one_walked, few-jobs, total_right, total_wrong, closes-mismatch, closes_right}
 use borrow.Author.Rules.{rules}
 use native.Mathlib.Omega.{arith}
 use Rattle.table_check.proofs.walk.first_mismatch.Statement.{statement}
@@ -18,7 +18,7 @@ abbrev decreases-loop : tie.decreases-loop
 decreases-loop book sizes totals c job₀ job = c.jobs - job
 
 loop-holds : tie.Need-loop-init invariant-loop decreases-loop
-loop-holds c = (omega arith, few-jobs c.before.before.before.requires.0, none-walked _)
+loop-holds c = (omega arith, few-jobs c.before.before.before.requires.0, none_walked _)
 
 wide-requires : tie.Need-wide-requires invariant-loop decreases-loop
 wide-requires c κs = tt
@@ -54,7 +54,7 @@ loop-again c =
     let l = c.before.before.before.before.before.before.loop in (
       omega (arith, c.before.before.before.before.if1.true),
       l.invariant.1,
-      one-walked _ l.job l.invariant.2
+      one_walked _ l.job l.invariant.2
           (total_right _ _ _ _ l.job _ c.before.before.before.wide.ensures.0 (p.1 _ (omega (arith, c.before.before.before.wide.ensures.0, c.before.before.before.before.if1.true))) c.if2.false),
     )
 

@@ -4,9 +4,9 @@
 use Prim.Native.Nat.{◌-◌}
 use lib.ListN.{length}
 use Rattle.rules.specs.Reading.{book_of}
-use Rattle.table_check.specs.Tests.{open_in}
+use Rattle.calendar.specs.Area.{open_by}
 use Rattle.table_check.specs.Tally.{rows_to}
-use Rattle.table_check.proofs.Turns.{Going, Lent, going-first, going_as, lent-first, marked, test_stops, turn_of}
+use Rattle.table_check.proofs.Turns.{Going, Lent, going-first, lent-first, test_stops, turn_of}
 use Rattle.table_check.proofs.TableRows.{row_inside, more_rows}
 use Rattle.table_check.proofs.Counting.{job_in, slot_in, countable, unreleased_stops, is-released, lent-next, going_next}
 use Rattle.table_check.proofs.Asking.{Asking, asking-first, asks-few, asking-next, asking_stops, asking-ends}
@@ -17,18 +17,18 @@ use Rattle.table_check.proofs.walk.walk_rows.Statement.{statement}
 use Rattle.table_check.proofs.walk.walk_rows.Tie as tie
 
 abbrev invariant-loop : tie.invariant-loop
-invariant-loop book table sizes caps totals ready work c from limits bad₀ least finish at r t bits₀ k₀ bad bits k =
-    Asking limits book table sizes caps c from totals ready work bad least finish at r t bits k
+invariant-loop book shut table sizes caps totals ready work c from bad₀ least finish at r t bits₀ k₀ bad bits k =
+    Asking book (open_by shut) table sizes caps c from totals ready work bad least finish at r t bits k
 
 abbrev decreases-loop : tie.decreases-loop
-decreases-loop book table sizes caps totals ready work c from limits bad₀ least finish at r t bits₀ k₀ bad bits k = bits
+decreases-loop book shut table sizes caps totals ready work c from bad₀ least finish at r t bits₀ k₀ bad bits k = bits
 
 abbrev invariant-rows : tie.invariant-rows
-invariant-rows book table sizes caps totals₀ ready₀ work₀ c from limits bad₀ least₀ finish₀ at₀ totals ready work bad least finish at =
-    Going limits book (open_in limits.slots work₀) table sizes caps c from totals ready work bad least finish at (rows_to (book_of book) at) × Lent limits.slots totals₀ ready₀ work₀ totals ready work
+invariant-rows book shut table sizes caps totals₀ ready₀ work₀ c from bad₀ least₀ finish₀ at₀ totals ready work bad least finish at =
+    Going book (open_by shut) table sizes caps c from totals ready work bad least finish at (rows_to (book_of book) at) × Lent totals₀ ready₀ work₀ totals ready work
 
 abbrev decreases-rows : tie.decreases-rows
-decreases-rows book table sizes caps totals₀ ready₀ work₀ c from limits bad₀ least₀ finish₀ at₀ totals ready work bad least finish at = length table - at
+decreases-rows book shut table sizes caps totals₀ ready₀ work₀ c from bad₀ least₀ finish₀ at₀ totals ready work bad least finish at = length table - at
 
 -- where a row is read, where it is tested, and where its predecessors are asked
 abbrev read : tie.After-test-row invariant-loop decreases-loop invariant-rows decreases-rows → tie.After-read-row invariant-loop decreases-loop invariant-rows decreases-rows
@@ -45,9 +45,9 @@ asked c = c.before.before.before.before.before.before.before.before.before.befor
 
 rows-holds : tie.Need-rows-init invariant-loop decreases-loop invariant-rows decreases-rows
 rows-holds c =
-    let s = c.before.before.before.before.before.before.before in
+    let s = c.before.before.before.before.before.before.before.before in
     let p = s.requires in
-    (going-first p.0 p.1 (omega (arith, s.well-formed.1.0)) p.2 p.3, lent-first _ _ _ _)
+    (going-first p.0 p.1 (omega (arith, s.well-formed.1.0)) p.2 p.3, lent-first _ _ _)
 
 read-row-requires : tie.Need-read-row-requires invariant-loop decreases-loop invariant-rows decreases-rows
 read-row-requires c κs = let g = c.before.rows.invariant.0 in row_inside g.headed g.reached c.rows-test.true
@@ -127,7 +127,7 @@ rows-again c =
     let a = k.loop.inv in
     let none = asking-ends a c.before.before.before.before.before.before.before.before.before.before.before.before.loop-test.false in
     let counted = c.before.before.before.before.before.before.before.before.count-row.ensures in (
-      going_as (marked (row (tested k)).rows.inv.0) (going_next a.going a.turn a.released none counted a.going.no_fault c.rank-of.ensures.0),
+      going_next a.going a.turn a.released none counted a.going.no_fault c.rank-of.ensures.0,
       lent-next a.going a.turn a.released none counted (row (tested k)).rows.inv.1,
     )
 
@@ -204,9 +204,7 @@ returns-5 : tie.Need-returns-5 invariant-loop decreases-loop invariant-rows decr
 returns-5 c =
     let k = c.before.before.before.before.before in
     let a = k.loop.invariant in
-    let inv = (row (tested k)).rows.inv in
-    walk_stops inv.0 inv.1 a.turn.more c.refused3.ensures
-    (asking_stops a c.before.before.lacks.ensures (marked inv.0) c.before.before.before.before.loop-test.true c.before.if4.true)
+    walk_stops a.going (row (tested k)).rows.inv.1 a.turn.more c.refused3.ensures (asking_stops a c.before.before.lacks.ensures c.before.before.before.before.loop-test.true c.before.if4.true)
 
 pub walk-rows-spec : {M : Type 1} → statement M
 walk-rows-spec =
