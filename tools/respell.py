@@ -52,7 +52,7 @@ def snake(part):
 
 def walked(path):
     """A proof of a Rattle function: its local names are those of goals."""
-    return os.path.basename(path) in ("Proof.antt", "Answers.antt", "Invariants.antt")
+    return "/proofs/" in path and os.path.basename(path) in ("Proof.antt", "Answers.antt", "Invariants.antt")
 
 
 def collect():

@@ -1,4 +1,5 @@
 // The calendar of the cluster: its reader, its shut slots, the limit of a flow.
+#![tactic(auto)]
 ghost use Rattle.std.specs.Prelude.{◌≡◌, ℕ, ◌+◌, ◌-◌, ◌*◌, ◌<◌, ◌≤◌, min, not, ◌&&◌, List, length, replicate, ltb};
 ghost use Rattle.rules.specs.declared.Verdict.TheVariants.{Pass, Refused};
 ghost use Rattle.rules.specs.Walks.{if◌then◌else◌, any_to};
@@ -12,7 +13,7 @@ use book::bytes;
 use rules::Verdict;
 
 // The windows of a calendar that passes.
-#[derive(Drop)]
+#[derive(Clone, Copy)]
 pub struct Calendar {
     pub count: usize,
     pub shut: [u16; 32],

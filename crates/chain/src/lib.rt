@@ -1,4 +1,5 @@
 // The chain of pseudo-jobs of a flow, rules 1 to 3.
+#![tactic(auto)]
 ghost use Rattle.std.specs.Prelude.{◌≡◌, ◌++◌, ℕ, ◌+◌, ◌-◌, ◌<◌, ◌≤◌, length, get_or, drop, ltb};
 ghost use Rattle.rules.specs.Walks.{if◌then◌else◌, bit, max_to};
 ghost use Rattle.book.specs.Promise.{FlowJobs, flow_held, flow_from};
@@ -8,7 +9,7 @@ ghost use Rattle.chain.specs.Runs.{Ideal, IdealOf, LeastFrom, RunInput, SomeFlow
 use book::{FlowHead, bytes};
 
 // How many slots a job lasts, and what it takes in the last of them.
-#[derive(Drop)]
+#[derive(Clone, Copy)]
 pub struct Lasting {
     pub slots: u32,
     pub last: u32,
@@ -183,7 +184,7 @@ pub fn until_change(start: u32, end: u32, last: u32, cap: u32, t: u32, limit: u3
 }
 
 // A pseudo-job: its width, its rate, and how many jobs take something.
-#[derive(Drop)]
+#[derive(Clone, Copy)]
 pub struct Run {
     pub width: u32,
     pub rate: u32,

@@ -1,7 +1,8 @@
 // The dispatch list of a table: its rows in the order in which the dispatcher works, slot by slot.
+#![tactic(auto)]
 ghost use Rattle.std.specs.Prelude.{◌≡◌, ◌≤◌, ◌++◌, length, drop};
 ghost use Rattle.std.proofs.lemmas.List.Edits.{sets};
-ghost use Rattle.rules.specs.Answers.{listRefused};
+ghost use Rattle.rules.specs.Answers.{list_refused};
 ghost use Rattle.rules.specs.Reading.{book_of};
 ghost use Rattle.rules.specs.Dispatch.{list_bytes, list_outcome, dispatch_call};
 ghost use Rattle.dispatch.specs.Merge.{Accepted, accepted_rows, InUse};
@@ -15,7 +16,7 @@ pub mod run;
 
 // A refusal's answer.
 pub fn refusal(number: u8, flow: u8, job: u8) -> ListAnswer
-    ensures { result ≡ listRefused number flow job }
+    ensures { result ≡ list_refused number flow job }
 {
     ListAnswer {
         number,

@@ -12,7 +12,7 @@ use super::run;
 use book::bytes;
 
 // The rows among which a flow's first one is looked for.
-#[derive(Drop)]
+#[derive(Clone, Copy)]
 pub struct Span {
     pub low: usize,
     pub high: usize,

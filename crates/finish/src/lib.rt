@@ -1,7 +1,8 @@
 // The finish of one flow: flows are placed in service order up to the one named, and no rows are made.
+#![tactic(auto)]
 ghost use Rattle.std.specs.Prelude.{◌≡◌, ◌≤◌, ◌<◌, length};
 ghost use Rattle.rules.specs.declared.Verdict.TheVariants.{Pass};
-ghost use Rattle.rules.specs.Answers.{finishRefused};
+ghost use Rattle.rules.specs.Answers.{finish_refused};
 ghost use Rattle.rules.specs.Limits.{work_bytes};
 ghost use Rattle.rules.specs.Calendar.{CalendarInRange};
 ghost use Rattle.rules.specs.Book.{with_calendar, flow_count};
@@ -18,7 +19,7 @@ use place::Placed;
 use rules::{FinishAnswer, Verdict};
 
 // Where placing stands: how many flows are placed, which is the service position of the next one, and the finish of the last.
-#[derive(Drop)]
+#[derive(Clone, Copy)]
 pub struct Placement {
     pub position: usize,
     pub finish: u16,
@@ -126,7 +127,7 @@ pub fn place_up_to(
 
 // The answer that turns a call down by a number of the list, at a place.
 pub fn refusal(number: u8, flow: u8, job: u8) -> FinishAnswer
-    ensures { result ≡ finishRefused number flow job }
+    ensures { result ≡ finish_refused number flow job }
 {
     FinishAnswer {
         number,

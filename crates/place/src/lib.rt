@@ -1,4 +1,5 @@
 // The placing of one flow beside those before it: its pseudo-jobs slot by slot, with rows or without.
+#![tactic(auto)]
 ghost use Rattle.std.specs.Prelude.{◌≡◌, ℕ, ◌+◌, ◌*◌, ◌-◌, ◌<◌, ◌≤◌, min, max, length, get_or, List, [], ◌∷◌};
 ghost use Rattle.rules.specs.PseudoJobs.{work};
 ghost use Rattle.rules.specs.Limits.{slots, work_bytes};
@@ -13,7 +14,7 @@ ghost use Rattle.place.specs.Service.{InService, PartsHeld, Serving, current_flo
 use book::bytes;
 
 // The pseudo-job in service: its flow, and what a slot needs of it.
-#[derive(Drop)]
+#[derive(Clone, Copy)]
 pub struct Current {
     pub flow: usize,
     pub parts: usize,
@@ -194,14 +195,14 @@ pub fn give_of(rate: u32, left: u64, processors: u16, used: u16) -> u32
 }
 
 // What a slot gave, and the offset after its rows.
-#[derive(Drop)]
+#[derive(Clone, Copy)]
 pub struct Served {
     pub next: usize,
     pub give: u32,
 }
 
 // Where placing came to: a slot and the offset in the table, or the work that is left makes the book infeasible.
-#[derive(Drop)]
+#[derive(Clone, Copy)]
 pub enum Placed {
     To(usize, usize),
     Infeasible,

@@ -3,6 +3,7 @@
 // says what it reads or writes. A read that fails counts as the end of the input; a book states its length, so one that
 // is cut short by it is turned down by 1. A write that fails is told in a line on standard error. The exit status is 0
 // in either case: a Rattle program cannot set it.
+#![tactic(auto)]
 ghost use Rattle.std.specs.Prelude.{◌≡◌, ◌≤◌, length};
 ghost use Rattle.rules.specs.Limits.{work_bytes};
 ghost use Rattle.plan_text.specs.Put.{TextPut};

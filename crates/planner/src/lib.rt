@@ -1,7 +1,8 @@
 // The planner's core: flows placed in service order with their rows, the table, a call.
+#![tactic(auto)]
 ghost use Rattle.std.specs.Prelude.{◌≡◌, ◌≤◌, length, []};
 ghost use Rattle.rules.specs.declared.Verdict.TheVariants.{Pass};
-ghost use Rattle.rules.specs.Answers.{planRefused};
+ghost use Rattle.rules.specs.Answers.{plan_refused};
 ghost use Rattle.rules.specs.Limits.{work_bytes};
 ghost use Rattle.rules.specs.Calendar.{CalendarInRange};
 ghost use Rattle.rules.specs.Book.{with_calendar};
@@ -21,14 +22,14 @@ use rules::{PlanAnswer, Verdict};
 pub mod table;
 
 // How the placing of flows ends: with the offset after the last row, or with a flow that makes the book infeasible.
-#[derive(Drop)]
+#[derive(Clone, Copy)]
 pub enum Ended {
     Planned(usize),
     Infeasible(u8),
 }
 
 // The end of placing, and the finish of each flow, 0 where it is not placed.
-#[derive(Drop)]
+#[derive(Clone, Copy)]
 pub struct Whole {
     pub ended: Ended,
     pub finish: [u16; 64],
@@ -103,7 +104,7 @@ pub fn place_first(
 
 // The answer that turns a call down by a number of the list, at a place.
 pub fn refusal(number: u8, flow: u8, job: u8) -> PlanAnswer
-    ensures { result ≡ planRefused number flow job }
+    ensures { result ≡ plan_refused number flow job }
 {
     PlanAnswer {
         number,

@@ -1,7 +1,8 @@
 // The plain types that the specification and the code share. The rules themselves are in specs/.
+#![tactic(auto)]
 
 // What a test says: it passes, or it turns the input down by a number of the list, at a place (flow, job).
-#[derive(Drop)]
+#[derive(Clone, Copy)]
 pub enum Verdict {
     Pass,
     Refused { number: u8, flow: u8, job: u8 },
@@ -9,7 +10,7 @@ pub enum Verdict {
 
 // What the planner answers.
 #[repr(C)]
-#[derive(Drop)]
+#[derive(Clone, Copy)]
 pub struct PlanAnswer {
     pub number: u8,
     pub flow: u8,
@@ -20,7 +21,7 @@ pub struct PlanAnswer {
 
 // What the table check answers.
 #[repr(C)]
-#[derive(Drop)]
+#[derive(Clone, Copy)]
 pub struct CheckAnswer {
     pub number: u8,
     pub flow: u8,
@@ -30,7 +31,7 @@ pub struct CheckAnswer {
 
 // What the dispatch list's call answers.
 #[repr(C)]
-#[derive(Drop)]
+#[derive(Clone, Copy)]
 pub struct ListAnswer {
     pub number: u8,
     pub flow: u8,
@@ -40,7 +41,7 @@ pub struct ListAnswer {
 
 // What the call for the finish of one flow answers.
 #[repr(C)]
-#[derive(Drop)]
+#[derive(Clone, Copy)]
 pub struct FinishAnswer {
     pub number: u8,
     pub flow: u8,

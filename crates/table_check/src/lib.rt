@@ -1,8 +1,9 @@
 // The check of a table against a book and its calendar.
+#![tactic(auto)]
 ghost use Rattle.std.specs.Prelude.{◌≡◌, ◌+◌, ◌*◌, ◌≤◌, length};
 ghost use Rattle.rules.specs.declared.Verdict.TheVariants.{Pass, Refused};
 ghost use Rattle.rules.specs.Limits.{work_bytes};
-ghost use Rattle.rules.specs.Answers.{◌and_then◌, firstFault, checkRefused};
+ghost use Rattle.rules.specs.Answers.{◌and_then◌, first_fault, check_refused};
 ghost use Rattle.rules.specs.Calendar.{is_open, calendar_of, calendar_fault};
 ghost use Rattle.rules.specs.Reading.{book_of, book_fault};
 ghost use Rattle.rules.specs.Check.{check_call};
@@ -74,7 +75,7 @@ pub fn totals_verdict(mismatch: [u8; 64], flows: usize) -> Verdict
 // 21.
 pub fn finishes_verdict(table: &[u8], flows: usize, finish: [u16; 64]) -> Verdict
     requires { (flows ≤ 64) × (8 + 2 * flows ≤ length table.now) }
-    ensures { result ≡ firstFault (finish_fault_by table.now finish) flows }
+    ensures { result ≡ first_fault (finish_fault_by table.now finish) flows }
 {
     let mut f: usize = 0;
     while f < flows {
@@ -93,7 +94,7 @@ pub fn finishes_verdict(table: &[u8], flows: usize, finish: [u16; 64]) -> Verdic
 // 20, then 21, of what the walk handed back.
 pub fn ends_verdict(table: &[u8], mismatch: [u8; 64], finish: [u16; 64], flows: usize) -> Verdict
     requires { (flows ≤ 64) × (8 + 2 * flows ≤ length table.now) }
-    ensures { result ≡ (mismatches_fault mismatch flows and_then firstFault (finish_fault_by table.now finish) flows) }
+    ensures { result ≡ (mismatches_fault mismatch flows and_then first_fault (finish_fault_by table.now finish) flows) }
 {
     let totals = totals_verdict(mismatch, flows);
     let Verdict::Pass = totals else {
@@ -103,7 +104,7 @@ pub fn ends_verdict(table: &[u8], mismatch: [u8; 64], finish: [u16; 64], flows: 
 }
 
 // What a table comes to: the first fault of 14 to 21 and 25, and the late flows where there is none.
-#[derive(Drop)]
+#[derive(Clone, Copy)]
 pub struct Judged {
     pub verdict: Verdict,
     pub late: u8,
@@ -151,7 +152,7 @@ pub fn judge_with(book: &[u8], calendar: &[u8], table: &[u8], work: &mut [u8]) -
 
 // A refusal's answer.
 pub fn refusal(number: u8, flow: u8, job: u8) -> CheckAnswer
-    ensures { result ≡ checkRefused number flow job }
+    ensures { result ≡ check_refused number flow job }
 {
     CheckAnswer {
         number,

@@ -13,7 +13,7 @@ use book::bytes;
 use rules::Verdict;
 
 // A row of a table.
-#[derive(Drop)]
+#[derive(Clone, Copy)]
 pub struct Row {
     pub slot: u16,
     pub flow: u8,
@@ -22,7 +22,7 @@ pub struct Row {
 }
 
 // The flow whose rows are walked: its number, where its job records start, its count of jobs, its release, and P.
-#[derive(Drop)]
+#[derive(Clone, Copy)]
 pub struct Current {
     pub flow: usize,
     pub records: usize,
@@ -32,7 +32,7 @@ pub struct Current {
 }
 
 // What the tests find: a refusal number, or 0 and what counting the row needs: the use of its slot, and the size of its job.
-#[derive(Drop)]
+#[derive(Clone, Copy)]
 pub struct Tested {
     pub number: u8,
     pub used: u16,
@@ -153,7 +153,7 @@ pub fn test_row(
 }
 
 // What 19 asks at a row: whether it stands before the release, and which predecessors are to be complete, a bit each.
-#[derive(Drop)]
+#[derive(Clone, Copy)]
 pub struct Asks {
     pub unreleased: bool,
     pub bits: u64,

@@ -1,7 +1,7 @@
 // The walk over a table's rows. Rows of a flow stand together, in service order, so that what is kept of single jobs is the current flow's alone;
 // of a flow that the walk has left the first job whose total differs from its size is kept, and its finish.
 ghost use Rattle.std.specs.Prelude.{◌≡◌, ℕ, ◌+◌, ◌*◌, ◌<◌, length, get_or, replicate};
-ghost use Rattle.rules.specs.Answers.{firstFault};
+ghost use Rattle.rules.specs.Answers.{first_fault};
 ghost use Rattle.rules.specs.Book.{job_count, flow_of, job_of};
 ghost use Rattle.rules.specs.Reading.{book_of};
 ghost use Rattle.calendar.specs.Area.{open_by};
@@ -15,7 +15,7 @@ use book::{Index, bytes};
 use rules::Verdict;
 
 // Where the walk over a flow's rows stopped: the first fault; where there is none, the offset after its last row, and its finish.
-#[derive(Drop)]
+#[derive(Clone, Copy)]
 pub struct Stop {
     pub verdict: Verdict,
     pub next: usize,
@@ -23,7 +23,7 @@ pub struct Stop {
 }
 
 // The same, with the flow closed: the first job whose total differs from its size, 64 where there is none.
-#[derive(Drop)]
+#[derive(Clone, Copy)]
 pub struct FlowStop {
     pub verdict: Verdict,
     pub next: usize,
@@ -32,7 +32,7 @@ pub struct FlowStop {
 }
 
 // What the whole walk hands back: the first fault, and where there is none of each flow the first job whose total differs from its size, and the finish.
-#[derive(Drop)]
+#[derive(Clone, Copy)]
 pub struct Walked {
     pub verdict: Verdict,
     pub mismatch: [u8; 64],
@@ -99,7 +99,7 @@ pub fn walk_rows(
 // A flow is closed: the first job whose total differs from its size, 64 where there is none.
 pub fn first_mismatch(book: &[u8], sizes: &[u32], totals: &[u32], c: Current) -> u8
     requires { CurrentFlow book.now c × ((i : ℕ) → i < c.jobs → get_or sizes.now i 0 ≡ (job_of (flow_of (book_of book.now) c.flow) i).size) × (length sizes.now ≡ 64) × (length totals.now ≡ 64) }
-    ensures { mismatch_fault c.flow result ≡ firstFault (total_fault_by (book_of book.now) c.flow totals.now) (job_count (flow_of (book_of book.now) c.flow)) }
+    ensures { mismatch_fault c.flow result ≡ first_fault (total_fault_by (book_of book.now) c.flow totals.now) (job_count (flow_of (book_of book.now) c.flow)) }
 {
     let mut job: u8 = 0;
     while job < c.jobs {
