@@ -1,0 +1,14 @@
+-- `bytes::write16` meets its contract. The two stores are the bytes of the number, one by one. Assumes nothing.
+use native.Mathlib.Numerals.{towards_suc}
+use lib.ListN.{length-set}
+use native.Mathlib.Omega.{arith}
+use native.Mathlib.Nat.{div-one}
+use Rattle.rules.specs.Fields.{bytes_of}
+use Rattle.book.proofs.bytes.write16.Goals as goal
+
+pub bounds-s-at-2 : goal.bounds-s-at-2
+bounds-s-at-2 c = simp length-set (omega arith)
+
+pub returns : goal.returns
+unfolding bytes_of
+returns c = simp (towards_suc, div-one)
