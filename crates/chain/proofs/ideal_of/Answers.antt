@@ -1,0 +1,44 @@
+-- `chain::ideal_of` meets its contract: the durations and the last takes, the ends, the starts, the least starts and the path are what the calls
+-- give. Assumes nothing.
+use borrow.Author.Rules.{rules}
+use mathlib.Core.Path.{◌≡◌, ◌∙◌}
+use Prim.Native.Nat.{ℕ, ◌<◌}
+use native.Mathlib.Omega.{arith}
+use lib.ListN.{length}
+use Rattle.rules.specs.Book.{job_count}
+use Rattle.book.specs.Promise.{flow_held, flow_from}
+use Rattle.chain.proofs.Starts.{count_of, duration_most, slots_by-values, last_by-values, end-held, path-held, start_by_end}
+use Rattle.chain.proofs.ideal_of.Goals as goal
+
+pub lasts_of-requires : goal.lasts_of-requires
+lasts_of-requires c =
+    let p = c.requires in
+    (p.1, p.2, p.0.count_most, p.6, λ i h. (p.0.size_least i h, p.0.size_most i h, p.0.cap_least i h))
+
+pub ends-requires : goal.ends-requires
+ends-requires c =
+    let l = c in
+    let p = l.requires in
+    let slots-whole : length (l.lasts_of.new.1.1.1.0) ≡ 64 = search rules in
+    (p.0.count_most, p.3, omega (arith, p.0.count_most), p.5, λ i h. omega (arith, (slots_by-values ((let a = l.args in flow_held a.head a.sizes.now a.caps.now a.predecessors.now)) i h _ (l.lasts_of.ensures i h _)), duration_most ((let a = l.args in flow_held a.head a.sizes.now a.caps.now a.predecessors.now)) p.0 i h))
+
+pub starts_of-requires : goal.starts_of-requires
+starts_of-requires c =
+    let e = c in
+    let o = e in
+    let slots-whole : length ((e.lasts_of.new.1.1.1.0)) ≡ 64 = search rules in
+    let ends-kept : length (e.ends.new.1.1.1.0) ≡ length o.args.all.now = search rules in
+    (omega (arith, o.requires.5), omega (arith, o.requires.0.count_most), o.requires.4, λ i h. omega (arith, (start_by_end ((let a = e.args in flow_held a.head a.sizes.now a.caps.now a.predecessors.now)) ((e.lasts_of.new.1.1.1.0)) _ (slots-held e) _ e.ends.ensures i h)))
+
+pub returns : goal.returns
+returns c =
+    let e = c in
+    let l = e in
+    let below : (i : ℕ) → i < job_count (flow_from ((let a = l.args in flow_held a.head a.sizes.now a.caps.now a.predecessors.now))) → i < ((let a = l.args in flow_held a.head a.sizes.now a.caps.now a.predecessors.now)).count = λ i h. omega (arith, h, count_of ((let a = l.args in flow_held a.head a.sizes.now a.caps.now a.predecessors.now))) in
+    record {
+      starts = λ i h. omega (arith, c.starts_of.ensures i (below i h), (start_by_end ((let a = e.args in flow_held a.head a.sizes.now a.caps.now a.predecessors.now)) ((e.lasts_of.new.1.1.1.0)) _ (slots-held e) _ e.ends.ensures i (below i h)));
+      ends = λ i h. end-held ((let a = l.args in flow_held a.head a.sizes.now a.caps.now a.predecessors.now)) (l.lasts_of.new.1.1.1.0) _ (slots-held l) _ e.ends.ensures i (below i h);
+      lasts = λ i h. last_by-values ((let a = l.args in flow_held a.head a.sizes.now a.caps.now a.predecessors.now)) i (below i h) _ (l.lasts-of.ensures i (below i h) _);
+      firsts = λ i h. rw (count_of ((let a = l.args in flow_held a.head a.sizes.now a.caps.now a.predecessors.now))) (c.least_from.ensures i (below i h));
+      path = c.largest.ensures ∙ path-held ((let a = l.args in flow_held a.head a.sizes.now a.caps.now a.predecessors.now)) (l.lasts_of.new.1.1.1.0) _ (slots-held l) _ e.ends.ensures;
+    }
