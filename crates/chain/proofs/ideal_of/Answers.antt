@@ -17,28 +17,23 @@ lasts_of-requires c =
 
 pub ends-requires : goal.ends-requires
 ends-requires c =
-    let l = c in
-    let p = l.requires in
-    let slots-whole : length (l.lasts_of.new.1.1.1.0) ≡ 64 = search rules in
-    (p.0.count_most, p.3, omega (arith, p.0.count_most), p.5, λ i h. omega (arith, (slots_by-values ((let a = l.args in flow_held a.head a.sizes.now a.caps.now a.predecessors.now)) i h _ (l.lasts_of.ensures i h _)), duration_most ((let a = l.args in flow_held a.head a.sizes.now a.caps.now a.predecessors.now)) p.0 i h))
+    let p = c.requires in
+    let slots-whole : length (c.lasts_of.new.slots) ≡ 64 = search rules in
+    (p.0.count_most, p.3, omega (arith, p.0.count_most), p.5, λ i h. omega (arith, (slots_by-values ((let a = c.args in flow_held a.head a.sizes.now a.caps.now a.predecessors.now)) i h _ (c.lasts_of.ensures i h _)), duration_most ((let a = c.args in flow_held a.head a.sizes.now a.caps.now a.predecessors.now)) p.0 i h))
 
 pub starts_of-requires : goal.starts_of-requires
 starts_of-requires c =
-    let e = c in
-    let o = e in
-    let slots-whole : length ((e.lasts_of.new.1.1.1.0)) ≡ 64 = search rules in
-    let ends-kept : length (e.ends.new.1.1.1.0) ≡ length o.args.all.now = search rules in
-    (omega (arith, o.requires.5), omega (arith, o.requires.0.count_most), o.requires.4, λ i h. omega (arith, (start_by_end ((let a = e.args in flow_held a.head a.sizes.now a.caps.now a.predecessors.now)) ((e.lasts_of.new.1.1.1.0)) _ (slots-held e) _ e.ends.ensures i h)))
+    let slots-whole : length ((c.lasts_of.new.slots)) ≡ 64 = search rules in
+    let ends-kept : length (c.ends.new.all) ≡ length c.args.all.now = search rules in
+    (omega (arith, c.requires.5), omega (arith, c.requires.0.count_most), c.requires.4, λ i h. omega (arith, (start_by_end ((let a = c.args in flow_held a.head a.sizes.now a.caps.now a.predecessors.now)) ((c.lasts_of.new.slots)) _ ((λ i h. slots_by-values ((let a = c.args in flow_held a.head a.sizes.now a.caps.now a.predecessors.now)) i h _ (c.lasts_of.ensures i h _))) _ c.ends.ensures i h)))
 
 pub returns : goal.returns
 returns c =
-    let e = c in
-    let l = e in
-    let below : (i : ℕ) → i < job_count (flow_from ((let a = l.args in flow_held a.head a.sizes.now a.caps.now a.predecessors.now))) → i < ((let a = l.args in flow_held a.head a.sizes.now a.caps.now a.predecessors.now)).count = λ i h. omega (arith, h, count_of ((let a = l.args in flow_held a.head a.sizes.now a.caps.now a.predecessors.now))) in
+    let below : (i : ℕ) → i < job_count (flow_from ((let a = c.args in flow_held a.head a.sizes.now a.caps.now a.predecessors.now))) → i < ((let a = c.args in flow_held a.head a.sizes.now a.caps.now a.predecessors.now)).count = λ i h. omega (arith, h, count_of ((let a = c.args in flow_held a.head a.sizes.now a.caps.now a.predecessors.now))) in
     record {
-      starts = λ i h. omega (arith, c.starts_of.ensures i (below i h), (start_by_end ((let a = e.args in flow_held a.head a.sizes.now a.caps.now a.predecessors.now)) ((e.lasts_of.new.1.1.1.0)) _ (slots-held e) _ e.ends.ensures i (below i h)));
-      ends = λ i h. end-held ((let a = l.args in flow_held a.head a.sizes.now a.caps.now a.predecessors.now)) (l.lasts_of.new.1.1.1.0) _ (slots-held l) _ e.ends.ensures i (below i h);
-      lasts = λ i h. last_by-values ((let a = l.args in flow_held a.head a.sizes.now a.caps.now a.predecessors.now)) i (below i h) _ (l.lasts-of.ensures i (below i h) _);
-      firsts = λ i h. rw (count_of ((let a = l.args in flow_held a.head a.sizes.now a.caps.now a.predecessors.now))) (c.least_from.ensures i (below i h));
-      path = c.largest.ensures ∙ path-held ((let a = l.args in flow_held a.head a.sizes.now a.caps.now a.predecessors.now)) (l.lasts_of.new.1.1.1.0) _ (slots-held l) _ e.ends.ensures;
+      starts = λ i h. omega (arith, c.starts_of.ensures i (below i h), (start_by_end ((let a = c.args in flow_held a.head a.sizes.now a.caps.now a.predecessors.now)) ((c.lasts_of.new.slots)) _ ((λ i h. slots_by-values ((let a = c.args in flow_held a.head a.sizes.now a.caps.now a.predecessors.now)) i h _ (c.lasts_of.ensures i h _))) _ c.ends.ensures i (below i h)));
+      ends = λ i h. end-held ((let a = c.args in flow_held a.head a.sizes.now a.caps.now a.predecessors.now)) (c.lasts_of.new.slots) _ ((λ i h. slots_by-values ((let a = c.args in flow_held a.head a.sizes.now a.caps.now a.predecessors.now)) i h _ (c.lasts_of.ensures i h _))) _ c.ends.ensures i (below i h);
+      lasts = λ i h. last_by-values ((let a = c.args in flow_held a.head a.sizes.now a.caps.now a.predecessors.now)) i (below i h) _ (c.lasts_of.ensures i (below i h) _);
+      firsts = λ i h. rw (count_of ((let a = c.args in flow_held a.head a.sizes.now a.caps.now a.predecessors.now))) (c.least_from.ensures i (below i h));
+      path = c.largest.ensures ∙ path-held ((let a = c.args in flow_held a.head a.sizes.now a.caps.now a.predecessors.now)) (c.lasts_of.new.slots) _ ((λ i h. slots_by-values ((let a = c.args in flow_held a.head a.sizes.now a.caps.now a.predecessors.now)) i h _ (c.lasts_of.ensures i h _))) _ c.ends.ensures;
     }

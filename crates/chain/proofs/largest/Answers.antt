@@ -12,7 +12,7 @@ loop-k-init c = (omega arith, sym (max_none c.args.numbers.now))
 pub loop-k-preserved : goal.loop-k-preserved
 loop-k-preserved c =
     let l = c.loop-k in
-    (omega arith, max-next c.args.numbers.now l.k l.most-so-far _ l.invariant.1 c.most-most_so_far.ensures)
+    (omega arith, max-next c.args.numbers.now l.k l.most_so_far _ l.invariant.1 c.most-most_so_far.ensures)
 
 pub returns : goal.returns
 returns c =

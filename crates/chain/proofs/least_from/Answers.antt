@@ -12,7 +12,7 @@ pub loop-k-preserved : goal.loop-k-preserved
 loop-k-preserved c =
     let a = c.args in
     let l = c.loop-k in
-    leasts_lower a.numbers.now a.n l.k (l.k - 1) l.least-so-far _ a.leasts.now l.leasts (omega arith) l.invariant
+    leasts_lower a.numbers.now a.n l.k (l.k - 1) l.least_so_far _ a.leasts.now l.leasts (omega arith) l.invariant
     (omega (arith, c.shared_slice_known-in-loop-k-1.given (l.k - 1)))
     c.least-least_so_far.ensures
     (omega arith)

@@ -1,9 +1,9 @@
 -- `chain::run_at` meets its contract. The loop's invariant: for each flow that the lists are of, the run is that of the first
 -- i jobs. The measure is what is left of the count. Assumes nothing.
 use mathlib.Core.Path.{refl, ◌∙◌}
-use Prim.Native.Nat.{◌-◌}
+use Prim.Native.Nat.{◌<◌}
 use native.Mathlib.Omega.{arith}
-use lib.ListN.{length-set}
+use lib.ListN.{length, length-set}
 use Rattle.chain.proofs.Starts.{path_most}
 use Rattle.chain.proofs.Cuts.{parts-so_far, ended-so_far_of, none-begun_of, all-jobs_of, change-asked_of, rate-fits_of, job-counted_in_of}
 use Rattle.chain.proofs.run_at.Goals as goal
@@ -19,58 +19,52 @@ returns-then-t-first c x y of =
     (c.loop-i.invariant.3 x y of)
 
 pub bounds-names-parts : goal.bounds-names-parts
-bounds-names-parts c = omega (arith, (let u = c in
-    let l = u.loop in
-    let p = u.requires in
-    omega (arith, parts-so_far _ _ _ _ _ _ _ _ ((let some = u.requires.11 in u.loop-i.invariant.3 some.jobs some.ideal some.held)), c.loop-test.true, p.0, p.6, p.7, l.inv.1, l.inv.2)))
+bounds-names-parts c = 
+    let some = c.requires.11 in
+    let far = parts-so_far _ _ _ _ _ _ _ _ (c.loop-i.invariant.3 some.jobs some.ideal some.held) in
+    omega (arith, far)
 
 pub offset_bounds-takes-parts : goal.offset_bounds-takes-parts
-offset_bounds-takes-parts c = omega (arith, (let u = c in
-    let l = u.loop in
-    let p = u.requires in
-    omega (arith, parts-so_far _ _ _ _ _ _ _ _ ((let some = u.requires.11 in u.loop-i.invariant.3 some.jobs some.ideal some.held)), c.loop-test.true, p.0, p.6, p.7, l.inv.1, l.inv.2)))
+offset_bounds-takes-parts c = 
+    let some = c.requires.11 in
+    let far = parts-so_far _ _ _ _ _ _ _ _ (c.loop-i.invariant.3 some.jobs some.ideal some.held) in
+    omega (arith, far)
 
 pub bounds-takes-parts : goal.bounds-takes-parts
-bounds-takes-parts c = omega (arith, (let u = c in
-    let l = u.loop in
-    let p = u.requires in
-    omega (arith, parts-so_far _ _ _ _ _ _ _ _ ((let some = u.requires.11 in u.loop-i.invariant.3 some.jobs some.ideal some.held)), c.loop-test.true, p.0, p.6, p.7, l.inv.1, l.inv.2)))
+bounds-takes-parts c = 
+    let some = c.requires.11 in
+    let far = parts-so_far _ _ _ _ _ _ _ _ (c.loop-i.invariant.3 some.jobs some.ideal some.held) in
+    omega (arith, far)
 
 pub one_more-parts-requires : goal.one_more-parts-requires
-one_more-parts-requires c = omega (arith, (let u = c in
-    let l = u.loop in
-    let p = u.requires in
-    omega (arith, parts-so_far _ _ _ _ _ _ _ _ ((let some = u.requires.11 in u.loop-i.invariant.3 some.jobs some.ideal some.held)), c.loop-test.true, p.0, p.6, p.7, l.inv.1, l.inv.2)))
+one_more-parts-requires c = 
+    let some = c.requires.11 in
+    let far = parts-so_far _ _ _ _ _ _ _ _ (c.loop-i.invariant.3 some.jobs some.ideal some.held) in
+    omega (arith, far)
 
 pub overflow_add-rate : goal.overflow_add-rate
 overflow_add-rate c =
-    let u = c in
-    omega (arith, rate-fits_of _ _ _ _ _ _ _ _ _ u.requires.11.held _ _ u.loop-test.taken _ _ _ _ _ _ ((let some = u.requires.11 in u.loop-i.invariant.3 some.jobs some.ideal some.held)) c.take_at-take.ensures)
+    omega (arith, rate-fits_of _ _ _ _ _ _ _ _ _ c.requires.11.held _ _ c.loop-i-test.true _ _ _ _ _ _ (let some = c.requires.11 in c.loop-i.invariant.3 some.jobs some.ideal some.held) c.take_at-take.ensures)
 
 pub until_change-width-requires : goal.until_change-width-requires
 until_change-width-requires c =
-    let u = c in
-    let s = u in
-    let held = s.requires.11.held in
-    let asked = change-asked_of _ _ _ _ _ _ _ _ _ held s.args.t _ u.loop-test.taken in
-    (asked.0, asked.1, asked.2, ((let some = u.requires.11 in u.loop-i.invariant.3 some.jobs some.ideal some.held)).some, omega (arith, ((let some = u.requires.11 in u.loop-i.invariant.3 some.jobs some.ideal some.held)).within, path_most _ held.input))
+    let held = c.requires.11.held in
+    let asked = change-asked_of _ _ _ _ _ _ _ _ _ held c.args.t _ c.loop-i-test.true in
+    (asked.0, asked.1, asked.2, (let some = c.requires.11 in c.loop-i.invariant.3 some.jobs some.ideal some.held).some, omega (arith, (let some = c.requires.11 in c.loop-i.invariant.3 some.jobs some.ideal some.held).within, path_most _ held.input))
 
 pub loop-i-preserved : goal.loop-i-preserved
 loop-i-preserved c =
-    let k = c in
-    let l = k.loop in (
+    let l = c.loop-i in
+    let some = c.requires.11 in
+    let far = parts-so_far _ _ _ _ _ _ _ _ (l.invariant.3 some.jobs some.ideal some.held) in
+    let in-names : l.parts < length l.names = omega (arith, far) in
+    let in-takes : l.parts < length l.takes = omega (arith, far) in (
       omega arith,
-      length-set l.names l.parts _ ∙ l.inv.1,
-      length-set l.takes l.parts _ ∙ l.inv.2,
+      length-set l.names l.parts _ ∙ l.invariant.1,
+      length-set l.takes l.parts _ ∙ l.invariant.2,
       λ x y of.
           rw c.one_more-parts.ensures
-          (job-counted_in_of _ _ _ _ _ _ _ _ _ of _ _ k.loop-test.true _ _ _ _ _ _ (l.inv.3 x y of) k.take_at-take.ensures _ ((let u = k in
-    let l = u.loop in
-    let p = u.requires in
-    omega (arith, parts-so_far _ _ _ _ _ _ _ _ ((let some = u.requires.11 in u.loop-i.invariant.3 some.jobs some.ideal some.held)), k.loop-test.true, p.0, p.6, p.7, l.inv.1, l.inv.2))).1 ((let u = k in
-    let l = u.loop in
-    let p = u.requires in
-    omega (arith, parts-so_far _ _ _ _ _ _ _ _ ((let some = u.requires.11 in u.loop-i.invariant.3 some.jobs some.ideal some.held)), k.loop-test.true, p.0, p.6, p.7, l.inv.1, l.inv.2))).2 c.until_change-width.ensures),
+          (job-counted_in_of _ _ _ _ _ _ _ _ _ of _ _ c.loop-i-test.true _ _ _ _ _ _ (l.invariant.3 x y of) c.take_at-take.ensures _ in-names in-takes c.until_change-width.ensures),
     )
 
 pub returns : goal.returns
