@@ -4,14 +4,20 @@
 // is cut short by it is turned down by 1. A write that fails is told in a line on standard error. The exit status is 0
 // in either case: a Rattle program cannot set it.
 #![tactic(auto)]
+
 ghost use Rattle.std.specs.Prelude.{◌≡◌, ◌≤◌, length};
 ghost use Rattle.rules.specs.Limits.{work_bytes};
 ghost use Rattle.plan_text.specs.Put.{TextPut};
 ghost use Rattle.plan_text.specs.Printed.{lent_bytes, text_bytes, printed, Prints};
 
-use libc::{STDERR_FILENO, STDOUT_FILENO};
 use plan_text::lines;
 use rules::PlanAnswer;
+
+// The descriptor of standard output.
+const STDOUT_FILENO: i32 = 1;
+
+// The descriptor of standard error.
+const STDERR_FILENO: i32 = 2;
 
 // The planner's answer to an input, with a calendar that has no windows; one that is longer than the bytes lent for a book is turned down by 1.
 fn plan_input(input: &[u8], output: &mut [u8], work: &mut [u8]) -> PlanAnswer

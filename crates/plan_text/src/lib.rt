@@ -1,5 +1,6 @@
 // The lines of a printed plan, put into a lent buffer. Each line equals its definition; the program only writes the buffer out.
 #![tactic(auto)]
+
 pub mod lines;
 
 ghost use Rattle.std.specs.Prelude.{◌+◌, ◌≤◌, ◌<◌, length, [], ◌∷◌, ◌++◌};
