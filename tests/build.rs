@@ -11,7 +11,7 @@ fn main() {
     println!("cargo:rerun-if-changed={}", library.display());
     if !library.is_file() {
         panic!(
-            "{} is missing: run `rt staticlib flowplan` in the repository root first",
+            "{} is missing: run `make library` in the repository root first",
             library.display()
         );
     }

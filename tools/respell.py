@@ -157,6 +157,10 @@ def main():
         proof = walked(path)
         names = {a: b for a, b in new.items() if not (proof and a in made and "-" in a and not re.search(r"\{[^}]*(?<![\w-])" + re.escape(a) + r"(?![\w-])", old))}
         names.update(LOCAL.get(path, {}))
+        if path.endswith(".rt"):
+            for line in old.split("\n"):
+                if line.startswith("ghost use "):
+                    names.update({a: snake(a) for a in re.findall(r" as ([a-z][A-Za-z0-9]*[A-Z][A-Za-z0-9]*)", line)})
         text = by_line(operators(old), names, path.endswith(".antt"), "--" if path.endswith(".antt") else "//")
         if text != old:
             had = set(CORE.findall(old))

@@ -57,7 +57,7 @@ fn printed(input: &[u8]) -> String {
         .stdout(Stdio::piped())
         .spawn()
         .unwrap_or_else(|error| {
-            panic!("{}: {error}; run `rt check plan` first", program.display())
+            panic!("{}: {error}; run `make program` first", program.display())
         });
     // An input that is longer than the program reads closes the pipe early.
     let _ = child.stdin.take().unwrap().write_all(input);

@@ -1,5 +1,6 @@
 // The calendar of the cluster: its reader, its shut slots, the limit of a flow.
 #![tactic(auto)]
+
 ghost use Rattle.std.specs.Prelude.{◌≡◌, ℕ, ◌+◌, ◌-◌, ◌*◌, ◌<◌, ◌≤◌, min, not, ◌&&◌, List, length, replicate, ltb};
 ghost use Rattle.rules.specs.declared.Verdict.TheVariants.{Pass, Refused};
 ghost use Rattle.rules.specs.Walks.{if◌then◌else◌, any_to};

@@ -1,5 +1,6 @@
 // The chain of pseudo-jobs of a flow, rules 1 to 3.
 #![tactic(auto)]
+
 ghost use Rattle.std.specs.Prelude.{◌≡◌, ◌++◌, ℕ, ◌+◌, ◌-◌, ◌<◌, ◌≤◌, length, get_or, drop, ltb};
 ghost use Rattle.rules.specs.Walks.{if◌then◌else◌, bit, max_to};
 ghost use Rattle.book.specs.Promise.{FlowJobs, flow_held, flow_from};

@@ -1,5 +1,6 @@
 // The dispatch list of a table: its rows in the order in which the dispatcher works, slot by slot.
 #![tactic(auto)]
+
 ghost use Rattle.std.specs.Prelude.{◌≡◌, ◌≤◌, ◌++◌, length, drop};
 ghost use Rattle.std.proofs.lemmas.List.Edits.{sets};
 ghost use Rattle.rules.specs.Answers.{list_refused};

@@ -1,5 +1,6 @@
 // The finish of one flow: flows are placed in service order up to the one named, and no rows are made.
 #![tactic(auto)]
+
 ghost use Rattle.std.specs.Prelude.{◌≡◌, ◌≤◌, ◌<◌, length};
 ghost use Rattle.rules.specs.declared.Verdict.TheVariants.{Pass};
 ghost use Rattle.rules.specs.Answers.{finish_refused};

@@ -2,7 +2,7 @@
 -- dispatch lists of A, D and F (02, Req 03), and finishes of single flows of A, G and I (02, Req 05), with late flows as Req 06 has them and all of them
 -- without windows, J for service windows (02, Req 07), K for quotes and L for a flow appended (02, Req 08): whole outcomes, with output and work area; and
 -- three chains of rule 3. Assumes nothing.
-use Rattle.std.specs.Prelude.{◌≡◌, ℕ, List, [], ◌∷◌, ◌++◌}
+use Rattle.std.specs.Prelude.{◌≡◌, ℕ, [], ◌∷◌, ◌++◌}
 use Rattle.rules.specs.Walks.{list_from}
 use Rattle.rules.specs.Answers.{plan_accepted, plan_refused, check_accepted, check_refused, list_accepted, list_refused, finish_accepted, finish_refused}
 use Rattle.rules.specs.Calendar.{open_before, calendar_of, no_windows}

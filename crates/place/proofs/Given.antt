@@ -9,7 +9,7 @@ use Rattle.rules.specs.Limits.{slots}
 use Rattle.rules.specs.Fields.{field, bytes_of}
 use Rattle.rules.specs.Book.{job_count}
 use Rattle.rules.specs.Reading.{book_of}
-use Rattle.rules.specs.PseudoJobs.{PseudoJob, rate, work}
+use Rattle.rules.specs.PseudoJobs.{PseudoJob, work}
 use Rattle.rules.specs.Rows.{used_in}
 use Rattle.rules.specs.Placing.{share, given, free_processors}
 use Rattle.rules.proofs.Reading.Passing.{calendar_of_book}

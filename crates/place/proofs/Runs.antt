@@ -10,7 +10,7 @@ use mathlib.Core.List.{List, [], ◌∷◌}
 use lib.ListN.{length}
 use Rattle.rules.specs.Limits.{slots}
 use Rattle.rules.specs.Reading.{book_of}
-use Rattle.rules.specs.PseudoJobs.{PseudoJob, rate, work}
+use Rattle.rules.specs.PseudoJobs.{PseudoJob, work}
 use Rattle.rules.specs.Placing.{Progress, given, free_processors}
 use Rattle.place.specs.declared.Current.{Current}
 use Rattle.place.specs.declared.Placed.{Placed}

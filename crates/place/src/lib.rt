@@ -1,5 +1,6 @@
 // The placing of one flow beside those before it: its pseudo-jobs slot by slot, with rows or without.
 #![tactic(auto)]
+
 ghost use Rattle.std.specs.Prelude.{◌≡◌, ℕ, ◌+◌, ◌*◌, ◌-◌, ◌<◌, ◌≤◌, min, max, length, get_or, List, [], ◌∷◌};
 ghost use Rattle.rules.specs.PseudoJobs.{work};
 ghost use Rattle.rules.specs.Limits.{slots, work_bytes};

@@ -1,5 +1,6 @@
 // The planner's core: flows placed in service order with their rows, the table, a call.
 #![tactic(auto)]
+
 ghost use Rattle.std.specs.Prelude.{◌≡◌, ◌≤◌, length, []};
 ghost use Rattle.rules.specs.declared.Verdict.TheVariants.{Pass};
 ghost use Rattle.rules.specs.Answers.{plan_refused};

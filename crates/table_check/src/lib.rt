@@ -1,5 +1,6 @@
 // The check of a table against a book and its calendar.
 #![tactic(auto)]
+
 ghost use Rattle.std.specs.Prelude.{◌≡◌, ◌+◌, ◌*◌, ◌≤◌, length};
 ghost use Rattle.rules.specs.declared.Verdict.TheVariants.{Pass, Refused};
 ghost use Rattle.rules.specs.Limits.{work_bytes};

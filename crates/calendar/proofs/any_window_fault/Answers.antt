@@ -1,8 +1,6 @@
 -- `any_window_fault` meets its contract. The loop's invariant: no window before `k` breaks its rules. The measure is the windows left. Assumes nothing.
 use native.Mathlib.Omega.{arith}
 use mathlib.Core.Path.{◌≡◌, sym, ap, ◌∙◌}
-use mathlib.Core.Bool.{false}
-use Prim.Native.Nat.{◌-◌}
 use Rattle.rules.specs.Walks.{any_to}
 use Rattle.rules.specs.Calendar.{window_fault}
 use Rattle.rules.proofs.Laws.Walks.{any_true}

@@ -2,7 +2,6 @@
 -- Assumes nothing.
 use native.Mathlib.Omega.{arith}
 use mathlib.Core.Path.{◌≡◌, ◌∙◌}
-use Prim.Native.Nat.{◌-◌}
 use Rattle.rules.proofs.Reading.Passing.{calendar_passes}
 use Rattle.book.proofs.Filled.{filled_none, filled_next}
 use Rattle.calendar.proofs.Read.{shut-read, reopening-read, windows_filled}

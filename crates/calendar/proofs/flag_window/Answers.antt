@@ -3,7 +3,7 @@
 use borrow.Author.Rules.{rules}
 use native.Mathlib.Omega.{arith}
 use mathlib.Core.Path.{◌≡◌, subst}
-use Prim.Native.Nat.{ℕ, ◌-◌}
+use Prim.Native.Nat.{ℕ}
 use Rattle.calendar.proofs.Flags.{FlaggedTo, flagged-none, flagged-next}
 use Rattle.calendar.proofs.flag_window.Goals as goal
 

@@ -3,7 +3,7 @@
 use native.Mathlib.Omega.{arith}
 use mathlib.Core.Path.{subst, ap}
 use mathlib.Core.List.{List}
-use Prim.Native.Nat.{ℕ, ◌+◌, ◌*◌, ◌-◌}
+use Prim.Native.Nat.{ℕ, ◌+◌, ◌*◌}
 use Rattle.rules.specs.Calendar.{Window, open_before}
 use Rattle.rules.proofs.Placing.OpenSlots.{open_most}
 use Rattle.calendar.specs.Held.{held_windows}

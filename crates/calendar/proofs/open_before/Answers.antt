@@ -3,7 +3,6 @@
 use native.Mathlib.Omega.{arith}
 use mathlib.Core.Path.{sym, ap, ◌∙◌}
 use mathlib.Core.List.{List}
-use Prim.Native.Nat.{◌-◌}
 use Rattle.rules.specs.Calendar.{Window, open_before}
 use Rattle.calendar.proofs.Windows.{first-all, count_most, shut-first}
 use Rattle.calendar.proofs.Limit.{all_open, count_next}

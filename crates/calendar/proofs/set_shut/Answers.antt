@@ -4,7 +4,6 @@ use borrow.Author.Rules.{rules}
 use native.Mathlib.Omega.{arith}
 use mathlib.Core.Path.{refl, ap, ◌∙◌}
 use mathlib.Core.List.{List}
-use Prim.Native.Nat.{◌-◌}
 use Rattle.rules.specs.Walks.{if◌then◌else◌}
 use Rattle.rules.specs.Limits.{slots}
 use Rattle.rules.specs.Calendar.{Window, is_open}

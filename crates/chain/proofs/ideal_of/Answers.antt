@@ -17,23 +17,26 @@ lasts_of-requires c =
 
 pub ends-requires : goal.ends-requires
 ends-requires c =
+    let flow = flow_held c.args.head c.args.sizes.now c.args.caps.now c.args.predecessors.now in
     let p = c.requires in
     let slots-whole : length (c.lasts_of.new.slots) ≡ 64 = search rules in
-    (p.0.count_most, p.3, omega (arith, p.0.count_most), p.5, λ i h. omega (arith, (slots_by-values ((let a = c.args in flow_held a.head a.sizes.now a.caps.now a.predecessors.now)) i h _ (c.lasts_of.ensures i h _)), duration_most ((let a = c.args in flow_held a.head a.sizes.now a.caps.now a.predecessors.now)) p.0 i h))
+    (p.0.count_most, p.3, omega (arith, p.0.count_most), p.5, λ i h. omega (arith, (slots_by-values flow i h _ (c.lasts_of.ensures i h _)), duration_most flow p.0 i h))
 
 pub starts_of-requires : goal.starts_of-requires
 starts_of-requires c =
+    let flow = flow_held c.args.head c.args.sizes.now c.args.caps.now c.args.predecessors.now in
     let slots-whole : length ((c.lasts_of.new.slots)) ≡ 64 = search rules in
     let ends-kept : length (c.ends.new.all) ≡ length c.args.all.now = search rules in
-    (omega (arith, c.requires.5), omega (arith, c.requires.0.count_most), c.requires.4, λ i h. omega (arith, (start_by_end ((let a = c.args in flow_held a.head a.sizes.now a.caps.now a.predecessors.now)) ((c.lasts_of.new.slots)) _ ((λ i h. slots_by-values ((let a = c.args in flow_held a.head a.sizes.now a.caps.now a.predecessors.now)) i h _ (c.lasts_of.ensures i h _))) _ c.ends.ensures i h)))
+    (omega (arith, c.requires.5), omega (arith, c.requires.0.count_most), c.requires.4, λ i h. omega (arith, (start_by_end flow ((c.lasts_of.new.slots)) _ ((λ i h. slots_by-values flow i h _ (c.lasts_of.ensures i h _))) _ c.ends.ensures i h)))
 
 pub returns : goal.returns
 returns c =
-    let below : (i : ℕ) → i < job_count (flow_from ((let a = c.args in flow_held a.head a.sizes.now a.caps.now a.predecessors.now))) → i < ((let a = c.args in flow_held a.head a.sizes.now a.caps.now a.predecessors.now)).count = λ i h. omega (arith, h, count_of ((let a = c.args in flow_held a.head a.sizes.now a.caps.now a.predecessors.now))) in
+    let flow = flow_held c.args.head c.args.sizes.now c.args.caps.now c.args.predecessors.now in
+    let below : (i : ℕ) → i < job_count (flow_from flow) → i < flow.count = λ i h. omega (arith, h, count_of flow) in
     record {
-      starts = λ i h. omega (arith, c.starts_of.ensures i (below i h), (start_by_end ((let a = c.args in flow_held a.head a.sizes.now a.caps.now a.predecessors.now)) ((c.lasts_of.new.slots)) _ ((λ i h. slots_by-values ((let a = c.args in flow_held a.head a.sizes.now a.caps.now a.predecessors.now)) i h _ (c.lasts_of.ensures i h _))) _ c.ends.ensures i (below i h)));
-      ends = λ i h. end-held ((let a = c.args in flow_held a.head a.sizes.now a.caps.now a.predecessors.now)) (c.lasts_of.new.slots) _ ((λ i h. slots_by-values ((let a = c.args in flow_held a.head a.sizes.now a.caps.now a.predecessors.now)) i h _ (c.lasts_of.ensures i h _))) _ c.ends.ensures i (below i h);
-      lasts = λ i h. last_by-values ((let a = c.args in flow_held a.head a.sizes.now a.caps.now a.predecessors.now)) i (below i h) _ (c.lasts_of.ensures i (below i h) _);
-      firsts = λ i h. rw (count_of ((let a = c.args in flow_held a.head a.sizes.now a.caps.now a.predecessors.now))) (c.least_from.ensures i (below i h));
-      path = c.largest.ensures ∙ path-held ((let a = c.args in flow_held a.head a.sizes.now a.caps.now a.predecessors.now)) (c.lasts_of.new.slots) _ ((λ i h. slots_by-values ((let a = c.args in flow_held a.head a.sizes.now a.caps.now a.predecessors.now)) i h _ (c.lasts_of.ensures i h _))) _ c.ends.ensures;
+      starts = λ i h. omega (arith, c.starts_of.ensures i (below i h), (start_by_end flow ((c.lasts_of.new.slots)) _ ((λ i h. slots_by-values flow i h _ (c.lasts_of.ensures i h _))) _ c.ends.ensures i (below i h)));
+      ends = λ i h. end-held flow (c.lasts_of.new.slots) _ ((λ i h. slots_by-values flow i h _ (c.lasts_of.ensures i h _))) _ c.ends.ensures i (below i h);
+      lasts = λ i h. last_by-values flow i (below i h) _ (c.lasts_of.ensures i (below i h) _);
+      firsts = λ i h. rw (count_of flow) (c.least_from.ensures i (below i h));
+      path = c.largest.ensures ∙ path-held flow (c.lasts_of.new.slots) _ ((λ i h. slots_by-values flow i h _ (c.lasts_of.ensures i h _))) _ c.ends.ensures;
     }

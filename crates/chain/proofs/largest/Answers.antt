@@ -1,7 +1,6 @@
 -- `chain::largest` meets its contract. The loop's invariant: `most_so_far` is the largest of the first k numbers. The measure
 -- is what is left of n. Assumes nothing.
 use mathlib.Core.Path.{◌≡◌, sym}
-use Prim.Native.Nat.{◌-◌}
 use native.Mathlib.Omega.{arith}
 use Rattle.chain.proofs.Starts.{max_none, max-next}
 use Rattle.chain.proofs.largest.Goals as goal

@@ -1,6 +1,5 @@
 -- `chain::lasts_of` meets its contract. The loop's invariant: both lists are filled up to i, with durations and last takes. The measure is
 -- what is left of n. Assumes nothing.
-use Prim.Native.Nat.{◌-◌}
 use native.Mathlib.Omega.{arith}
 use Rattle.book.proofs.Filled.{filled_none, filled_next}
 use Rattle.chain.proofs.lasts_of.Goals as goal

@@ -1,6 +1,5 @@
 -- `chain::least_from` meets its contract. The loop's invariant: the indices from k on have their leasts, and `least_so_far` is
 -- that at index k, where there is one. The measure is k. Assumes nothing.
-use Prim.Native.Nat.{◌-◌}
 use Rattle.chain.proofs.Leasts.{LeastsFrom}
 use Rattle.chain.proofs.least_from.Given as goal
 

@@ -19,25 +19,25 @@ returns-then-t-first c x y of =
     (c.loop-i.invariant.3 x y of)
 
 pub bounds-names-parts : goal.bounds-names-parts
-bounds-names-parts c = 
+bounds-names-parts c =
     let some = c.requires.11 in
     let far = parts-so_far _ _ _ _ _ _ _ _ (c.loop-i.invariant.3 some.jobs some.ideal some.held) in
     omega (arith, far)
 
 pub offset_bounds-takes-parts : goal.offset_bounds-takes-parts
-offset_bounds-takes-parts c = 
+offset_bounds-takes-parts c =
     let some = c.requires.11 in
     let far = parts-so_far _ _ _ _ _ _ _ _ (c.loop-i.invariant.3 some.jobs some.ideal some.held) in
     omega (arith, far)
 
 pub bounds-takes-parts : goal.bounds-takes-parts
-bounds-takes-parts c = 
+bounds-takes-parts c =
     let some = c.requires.11 in
     let far = parts-so_far _ _ _ _ _ _ _ _ (c.loop-i.invariant.3 some.jobs some.ideal some.held) in
     omega (arith, far)
 
 pub one_more-parts-requires : goal.one_more-parts-requires
-one_more-parts-requires c = 
+one_more-parts-requires c =
     let some = c.requires.11 in
     let far = parts-so_far _ _ _ _ _ _ _ _ (c.loop-i.invariant.3 some.jobs some.ideal some.held) in
     omega (arith, far)

@@ -1,5 +1,4 @@
 -- `chain::skip_ended` meets its contract. The invariant: the jobs from `from` to i have ended. The measure is what is left of the count. Assumes nothing.
-use Prim.Native.Nat.{◌-◌}
 use native.Mathlib.Numerals.{add-one}
 use native.Mathlib.Omega.{arith}
 use Rattle.rules.proofs.Laws.Walks.{last_or}

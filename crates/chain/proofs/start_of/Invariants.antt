@@ -1,7 +1,7 @@
 -- `chain::start_of` meets its contract. The loop's invariant: the largest end of all is `start` or one of the bits that are left.
 -- The measure is `bits`: to take a bit off makes it less. Assumes nothing.
 use mathlib.Core.Path.{◌≡◌}
-use Prim.Native.Nat.{◌≤◌, ◌-◌, max}
+use Prim.Native.Nat.{◌≤◌, max}
 use Rattle.chain.specs.Jobs.{start_among}
 use Rattle.chain.proofs.start_of.Given as goal
 

@@ -1,7 +1,6 @@
 -- `chain::starts_of` meets its contract. The loop's invariant: the starts are filled up to i, each by its end and its slots. The measure is
 -- what is left of n. Assumes nothing.
 use mathlib.Core.Path.{refl}
-use Prim.Native.Nat.{◌-◌}
 use native.Mathlib.Omega.{arith}
 use Rattle.book.proofs.Filled.{filled_none, filled_next}
 use Rattle.chain.proofs.starts_of.Goals as goal

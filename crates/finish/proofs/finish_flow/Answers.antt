@@ -19,12 +19,12 @@ returns-in-Refused c =
 pub bounds-book-7 : goal.bounds-book-7
 bounds-book-7 c =
     let passes : book_fault c.args.book.now ≡ Pass = sym c.verdict_of-v.ensures ∙ c.in_default.is in
-    omega (arith, (book_passes ((c)).args.book.now passes).head_whole)
+    omega (arith, (book_passes c.args.book.now passes).head_whole)
 
 pub returns-then-flows-f : goal.returns-then-flows-f
 returns-then-flows-f c =
     let passes : book_fault c.args.book.now ≡ Pass = sym c.verdict_of-v.ensures ∙ c.in_default.is in
-    let a = ((c)).args in
+    let a = c.args in
     leaves _ _ _ (call_unknown a.book.now a.calendar.now a.work.now a.flow passes
     (omega (arith, c.if-flows-f.true, flow-count a.book.now, c.wide-flows.ensures.0))) c.refusal-then-flows-f.result c.refusal-then-flows-f.ensures
 
@@ -32,7 +32,7 @@ pub returns-in-Refused-w : goal.returns-in-Refused-w
 returns-in-Refused-w c =
     let passes : book_fault c.args.book.now ≡ Pass = sym c.verdict_of-v.ensures ∙ c.in_default.is in
     let named : c.args.flow < flow_count (book_of c.args.book.now) = omega (arith, c.if-flows-f.false, flow-count c.args.book.now, c.wide-flows.ensures.0) in
-    let a = (((((c))))).args in
+    let a = c.args in
     leaves _ _ _ (call-refused-calendar a.book.now a.calendar.now a.work.now a.flow passes named _ _ _
     (sym c.verdict_of-w.ensures ∙ c.in-Refused-w.is)) c.refusal-in-Refused-w.result c.refusal-in-Refused-w.ensures
 
@@ -41,7 +41,7 @@ returns-then-work-lt16384 c =
     let passes : book_fault c.args.book.now ≡ Pass = sym c.verdict_of-v.ensures ∙ c.in_default.is in
     let named : c.args.flow < flow_count (book_of c.args.book.now) = omega (arith, c.if-flows-f.false, flow-count c.args.book.now, c.wide-flows.ensures.0) in
     let calendar-passes : calendar_fault c.args.calendar.now ≡ Pass = sym c.verdict_of-w.ensures ∙ c.in_default-w.is in
-    let a = (((((c))))).args in
+    let a = c.args in
     leaves _ _ _ (call-short a.book.now a.calendar.now a.work.now a.flow passes named calendar-passes (omega arith))
     c.refusal-then-work-lt16384.result c.refusal-then-work-lt16384.ensures
 
@@ -62,6 +62,6 @@ returns c =
     let passes : book_fault c.args.book.now ≡ Pass = sym c.verdict_of-v.ensures ∙ c.in_default.is in
     let named : c.args.flow < flow_count (book_of c.args.book.now) = omega (arith, c.if-flows-f.false, flow-count c.args.book.now, c.wide-flows.ensures.0) in
     let calendar-passes : calendar_fault c.args.calendar.now ≡ Pass = sym c.verdict_of-w.ensures ∙ c.in_default-w.is in
-    let a = (((((c))))).args in
+    let a = c.args in
     leaves-placed _ _ (call-placed a.book.now a.calendar.now a.work.now a.flow passes named calendar-passes _
     c.calendar_of.ensures.windows (omega arith)) _ _ c.finish_passing.ensures

@@ -59,19 +59,20 @@ set_shut-requires-2 c =
 pub bounds-order-k : goal.bounds-order-k
 bounds-order-k c =
     let counted : c.position-count.result < flow_count (book_of c.args.book.now) = omega (arith, c.position-count.ensures, position_below (book_of c.args.book.now) c.args.flow c.requires.2) in
-    let p = (((((c))))) in
+    let p = c in
     let a = p in
     omega (arith, counted, (pass_in-range a.args.book.now a.requires.0).flows_most, c.if-k-count.true)
 
 pub returns-then-k-count : goal.returns-then-k-count
 returns-then-k-count c =
+    let whole = with_calendar (held_windows c.args.calendar) (book_of c.args.book.now) in
     let counted : c.position-count.result < flow_count (book_of c.args.book.now) = omega (arith, c.position-count.ensures, position_below (book_of c.args.book.now) c.args.flow c.requires.2) in
-    let named : c.position-count.result + 1 ≡ up_to_named ((with_calendar (held_windows c.args.calendar) (book_of c.args.book.now))) c.args.flow = omega (arith, c.position-count.ensures, position-same ((with_calendar (held_windows c.args.calendar) (book_of c.args.book.now))) (book_of c.args.book.now) (with-same _ (book_of c.args.book.now)) c.args.flow) in
+    let named : c.position-count.result + 1 ≡ up_to_named whole c.args.flow = omega (arith, c.position-count.ensures, position-same whole (book_of c.args.book.now) (with-same _ (book_of c.args.book.now)) c.args.flow) in
     let asked : Asked c.args.book.now (held_windows c.args.calendar) c.index_of-x.result c.service_order-order.result
     (c.position-count.result + 1) [] c.clear.new.work = asked-up_to c.args.book.now _ _ _ c.args.work.now _ _ c.index_of-x.ensures c.requires.1 c.service_order-order.ensures
     (omega (arith, counted)) (omega (arith, c.requires.3)) c.clear.ensures in
-    let held : c.set_shut.new.work ≡ work_used slots (shut_rows ((with_calendar (held_windows c.args.calendar) (book_of c.args.book.now)))) c.args.work.now = maintenance-over _ _ _ _ c.clear.ensures (maintenance-held asked c.set_shut.ensures) in
-    leaves-infeasible ((with_calendar (held_windows c.args.calendar) (book_of c.args.book.now))) c.args.flow _ c.args.work.now _ _ _ c.place_up_to-placement.result c.requires.1 c.requires.2 named held
+    let held : c.set_shut.new.work ≡ work_used slots (shut_rows whole) c.args.work.now = maintenance-over _ _ _ _ c.clear.ensures (maintenance-held asked c.set_shut.ensures) in
+    leaves-infeasible whole c.args.flow _ c.args.work.now _ _ _ c.place_up_to-placement.result c.requires.1 c.requires.2 named held
     c.place_up_to-placement.ensures
     c.set_shut-2.ensures c.if-k-count.true _ _ _ c.refusal.ensures
     (in_array c.args.book.now _ c.service_order-order.ensures _ c.place_up_to-placement.result.position (omega (arith, counted, c.if-k-count.true)))
@@ -79,12 +80,13 @@ returns-then-k-count c =
 
 pub returns : goal.returns
 returns c =
+    let whole = with_calendar (held_windows c.args.calendar) (book_of c.args.book.now) in
     let counted : c.position-count.result < flow_count (book_of c.args.book.now) = omega (arith, c.position-count.ensures, position_below (book_of c.args.book.now) c.args.flow c.requires.2) in
-    let named : c.position-count.result + 1 ≡ up_to_named ((with_calendar (held_windows c.args.calendar) (book_of c.args.book.now))) c.args.flow = omega (arith, c.position-count.ensures, position-same ((with_calendar (held_windows c.args.calendar) (book_of c.args.book.now))) (book_of c.args.book.now) (with-same _ (book_of c.args.book.now)) c.args.flow) in
+    let named : c.position-count.result + 1 ≡ up_to_named whole c.args.flow = omega (arith, c.position-count.ensures, position-same whole (book_of c.args.book.now) (with-same _ (book_of c.args.book.now)) c.args.flow) in
     let asked : Asked c.args.book.now (held_windows c.args.calendar) c.index_of-x.result c.service_order-order.result
     (c.position-count.result + 1) [] c.clear.new.work = asked-up_to c.args.book.now _ _ _ c.args.work.now _ _ c.index_of-x.ensures c.requires.1 c.service_order-order.ensures
     (omega (arith, counted)) (omega (arith, c.requires.3)) c.clear.ensures in
-    let held : c.set_shut.new.work ≡ work_used slots (shut_rows ((with_calendar (held_windows c.args.calendar) (book_of c.args.book.now)))) c.args.work.now = maintenance-over _ _ _ _ c.clear.ensures (maintenance-held asked c.set_shut.ensures) in
-    leaves-finish ((with_calendar (held_windows c.args.calendar) (book_of c.args.book.now))) c.args.flow _ c.args.work.now _ _ _ c.place_up_to-placement.result c.requires.1 c.requires.2 named held
+    let held : c.set_shut.new.work ≡ work_used slots (shut_rows whole) c.args.work.now = maintenance-over _ _ _ _ c.clear.ensures (maintenance-held asked c.set_shut.ensures) in
+    leaves-finish whole c.args.flow _ c.args.work.now _ _ _ c.place_up_to-placement.result c.requires.1 c.requires.2 named held
     c.place_up_to-placement.ensures
     c.set_shut-2.ensures c.if-k-count.false

@@ -1,6 +1,5 @@
 -- The parts' rows, packed one after the other. The loop's invariant: those of the parts below q are. Assumes nothing.
 use mathlib.Core.Path.{refl}
-use Prim.Native.Nat.{◌-◌}
 use lib.ListN.{length-set}
 use lib.Seq.{get_or-set_same, get_or-set_other}
 use Rattle.rules.proofs.Laws.Walks.{last_or}

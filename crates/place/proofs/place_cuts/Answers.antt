@@ -1,22 +1,20 @@
 -- One flow, from cut to cut. The invariant is `FlowKept`, that the jobs below `from` have ended, and that the lists are as long as they were; the
 -- measure is what is left of the path. Assumes nothing.
 use mathlib.Core.Path.{refl}
-use Prim.Native.Nat.{◌-◌}
 use Rattle.chain.proofs.Ended.{ended-none, ended-more, ended-later}
 use Rattle.place.proofs.FlowLoop.{flow-kept-first, flow-kept-next, flow-kept_stops, flow-kept-done, count-few, some-flow, run-here, parts_within, held_at, cut-within, path-held, path-fits}
 use native.Mathlib.Omega.{arith}
 use Rattle.place.proofs.place_cuts.Goals as goal
 
 pub loop-t-init : goal.loop-t-init
-loop-t-init c =
-    (
-      flow-kept-first c.requires.0 c.args.listed c.args.at c.args.out.now c.args.area.now (omega (arith, c.requires.5, c.requires.6))
-          c.requires.5,
-      ended-none _ _ _,
-      refl,
-      refl,
-      refl,
-    )
+loop-t-init c = (
+  flow-kept-first c.requires.0 c.args.listed c.args.at c.args.out.now c.args.area.now (omega (arith, c.requires.5, c.requires.6))
+      c.requires.5,
+  ended-none _ _ _,
+  refl,
+  refl,
+  refl,
+)
 
 pub skip_ended-from-requires : goal.skip_ended-from-requires
 skip_ended-from-requires c = (c.loop-t.invariant.1.within, c.requires.0.ends_whole)
@@ -44,7 +42,7 @@ pub run_as-requires : goal.run_as-requires
 run_as-requires c =
     let l = c.loop-t in
     let k = l.invariant.0 in
-    let v = ((c)).requires in
+    let v = c.requires in
     let few = parts_within v.0 c.run_at-run.ensures in (
       held_at v.0 c.run_at-run.ensures v.4 (omega (arith, v.1, l.invariant.2)) (omega (arith, v.2, l.invariant.3)),
       omega (arith, v.3, l.invariant.4),

@@ -10,7 +10,7 @@ use Rattle.place.proofs.place_flow.Goals as goal
 
 pub ideal_of-path-requires : goal.ideal_of-path-requires
 ideal_of-path-requires c =
-    let jobs : FlowJobs = (let l = c.load_flow-head.new in flow_held c.load_flow-head.result l.sizes l.caps l.predecessors) in
+    let jobs : FlowJobs = (flow_held c.load_flow-head.result c.load_flow-head.new.sizes c.load_flow-head.new.caps c.load_flow-head.new.predecessors) in
     let sizes-long : length jobs.size ≡ 64 = search rules in
     let caps-long : length jobs.cap ≡ 64 = search rules in
     let predecessors-long : length jobs.predecessors ≡ 64 = search rules in
@@ -29,7 +29,7 @@ ideal_of-path-requires c =
 -- no slot from the release on is below the limit
 pub returns-then-stop-release : goal.returns-then-stop-release
 returns-then-stop-release c rows bytes used within =
-    let jobs : FlowJobs = (let l = c.load_flow-head.new in flow_held c.load_flow-head.result l.sizes l.caps l.predecessors) in
+    let jobs : FlowJobs = (flow_held c.load_flow-head.result c.load_flow-head.new.sizes c.load_flow-head.new.caps c.load_flow-head.new.predecessors) in
     let release = release-held c.args.book.now c.args.f c.args.records jobs c.requires.0 c.load_flow-head.ensures _
     c.wide16-release.ensures.0 in
     flow-not-begun c.args.book.now c.args.f c.args.limit c.requires.0.passes c.requires.0.flow_in_is
@@ -37,7 +37,7 @@ returns-then-stop-release c rows bytes used within =
 
 pub place_cuts-requires : goal.place_cuts-requires
 place_cuts-requires c =
-    let jobs : FlowJobs = (let l = c.load_flow-head.new in flow_held c.load_flow-head.result l.sizes l.caps l.predecessors) in
+    let jobs : FlowJobs = (flow_held c.load_flow-head.result c.load_flow-head.new.sizes c.load_flow-head.new.caps c.load_flow-head.new.predecessors) in
     let ideal : Ideal = (let l = c.ideal_of-path.new in record { starts = l.starts; ends = l.all; lasts = l.last; firsts = l.firsts; path = c.ideal_of-path.result }) in
     let caps-long : length jobs.cap ≡ 64 = search rules in
     let starts-long : length ideal.starts ≡ 64 = search rules in

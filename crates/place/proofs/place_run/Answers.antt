@@ -1,6 +1,5 @@
 -- One pseudo-job, slot after slot. The invariant is `RunKept` at the work done, which is `total` without what is left, and
 -- that no more than `total` is left; the measure is what is left of the slots before the limit. Assumes nothing.
-use Prim.Native.Nat.{◌-◌}
 use native.Mathlib.Omega.{arith}
 use Rattle.place.proofs.Given.{work-held}
 use Rattle.place.proofs.Runs.{run-kept-first, run-kept-next, run-kept_stops, run-kept-done}

@@ -1,6 +1,5 @@
 -- The packed rows: none where none fits, else one after the other; those of the parts below q so far. Assumes nothing.
 use mathlib.Core.Path.{◌≡◌}
-use Prim.Native.Nat.{◌-◌}
 use Rattle.place.proofs.Output.{put-none}
 use Rattle.place.proofs.Packed.{packed-rows-none, packed-rows-length, packed-rows-put, packed-rows_too_far}
 use native.Mathlib.Omega.{arith}

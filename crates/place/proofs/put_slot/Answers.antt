@@ -1,6 +1,5 @@
 -- The rows of one slot: the packed ones where it is a full slot, else one part after the other. The invariant is `SlotKept`; the measure is
 -- what is left of the parts. Assumes nothing.
-use Prim.Native.Nat.{◌-◌}
 use native.Mathlib.Nat.{mod-lt}
 use native.Mathlib.Omega.{arith}
 use Rattle.place.proofs.Serving.{flow-within, parts_within, rate-within}

@@ -1,6 +1,5 @@
 -- One pseudo-job without rows, slot after slot. The invariant is `UsedKept` at the work done, which is all without what is left; the measure is
 -- what is left of the slots before the limit. Assumes nothing.
-use Prim.Native.Nat.{◌-◌}
 use native.Mathlib.Omega.{arith}
 use Rattle.place.proofs.Given.{work-held}
 use Rattle.place.proofs.Runs.{run-kept-first, used-kept-next, used-kept_stops, used-kept-done}
@@ -25,7 +24,7 @@ pub overflow_sub-left : goal.overflow_sub-left
 overflow_sub-left c = omega (arith, (c.use_slot-give.ensures 0).1.give_within, c.loop-left.invariant.1)
 
 pub overflow_add-t : goal.overflow_add-t
-overflow_add-t c = omega (arith, c.if-limit-t.false, ((c)).requires.3)
+overflow_add-t c = omega (arith, c.if-limit-t.false, c.requires.3)
 
 pub loop-left-smaller : goal.loop-left-smaller
 loop-left-smaller c = omega (arith, c.if-limit-t.false)

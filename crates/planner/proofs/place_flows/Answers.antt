@@ -32,7 +32,7 @@ loop-k-init c =
       search rules,
       refl,
       refl,
-      ([], put-none_yet ((with_calendar (held_windows a.calendar) (book_of a.book.now))) a.out.now a.work.now _ 64 p.calendar_in_range p.holds (omega (arith, p.indexed.flows)) refl),
+      ([], put-none_yet (with_calendar (held_windows a.calendar) (book_of a.book.now)) a.out.now a.work.now _ 64 p.calendar_in_range p.holds (omega (arith, p.indexed.flows)) refl),
     )
 
 pub bounds-order-k : goal.bounds-order-k
@@ -61,7 +61,7 @@ bounds-x-f-in-loop-k c =
 pub limit_of-limit-requires : goal.limit_of-limit-requires
 limit_of-limit-requires c =
     let next : NextFlow c.args.book.now (held_windows c.args.calendar) c.args.x c.loop-k.k c.wide-f.result = next-flow _ _ _ _ _ _ _ c.requires _ _ c.loop-k-test.true c.wide-f.ensures.0 in
-    (((c)).requires.calendar_in_range, next.deadline_most)
+    (c.requires.calendar_in_range, next.deadline_most)
 
 pub overflow_cast-limit : goal.overflow_cast-limit
 overflow_cast-limit c = omega (arith, c.limit_of-limit.ensures.1)
@@ -72,7 +72,7 @@ place_flow-requires c =
     let n = next in
     let most = offset_most (omega arith) n.few_flows c.loop-k.invariant.3.1.rows_put in (
       n.stands,
-      (c).requires.indexed.processors,
+      c.requires.indexed.processors,
       c.limit_of-limit.ensures.1,
       omega arith,
       record { offsets = λ _. omega (arith, most); nothing_lent = λ t. absurd (false≢true (sym t)) },
@@ -80,19 +80,20 @@ place_flow-requires c =
 
 pub returns-in_default : goal.returns-in_default
 returns-in_default c =
+    let whole = with_calendar (held_windows c.args.calendar) (book_of c.args.book.now) in
     let next : NextFlow c.args.book.now (held_windows c.args.calendar) c.args.x c.loop-k.k c.wide-f.result = next-flow _ _ _ _ _ _ _ c.requires _ _ c.loop-k-test.true c.wide-f.ensures.0 in
-    let limit-of-flow : c.limit_of-limit.result ≡ slots_for (((with_calendar (held_windows c.args.calendar) (book_of c.args.book.now)))) (flow_of (((with_calendar (held_windows c.args.calendar) (book_of c.args.book.now)))) c.wide-f.result) = let a = c.args in
+    let limit-of-flow : c.limit_of-limit.result ≡ slots_for whole (flow_of whole c.wide-f.result) = let a = c.args in
     limit_is (held_windows a.calendar) (book_of a.book.now) c.requires.calendar_in_range (calendar_of_book a.book.now)
     c.wide-f.result
     _ _ next.deadline c.limit_of-limit.ensures.0 in
     let placed : (w : Placed) → c.place_flow.result ≡ w → (let u = c in
     FlowPlaced true (book_of u.args.book.now) c.wide-f.result c.limit_of-limit.result
-    (shut_rows (((with_calendar (held_windows u.args.calendar) (book_of u.args.book.now)))) ++ u.loop-k.invariant.3.0) u.args.work.now u.loop-k.out u.loop-k.next
+    (shut_rows (with_calendar (held_windows u.args.calendar) (book_of u.args.book.now)) ++ u.loop-k.invariant.3.0) u.args.work.now u.loop-k.out u.loop-k.next
     c.place_flow.new.out c.place_flow.new.area w) = λ w e. let st = c.loop-k.invariant.3.1 in
     subst ((λ w. FlowPlaced true (book_of c.args.book.now) c.wide-f.result c.limit_of-limit.result
-    (shut_rows (((with_calendar (held_windows c.args.calendar) (book_of c.args.book.now)))) ++ c.loop-k.invariant.3.0) c.args.work.now c.loop-k.out c.loop-k.next
+    (shut_rows whole ++ c.loop-k.invariant.3.0) c.args.work.now c.loop-k.out c.loop-k.next
     c.place_flow.new.out c.place_flow.new.area w)) e
-    (c.place_flow.ensures (shut_rows (((with_calendar (held_windows c.args.calendar) (book_of c.args.book.now)))) ++ c.loop-k.invariant.3.0) c.args.work.now st.stands.area_used
+    (c.place_flow.ensures (shut_rows whole ++ c.loop-k.invariant.3.0) c.args.work.now st.stands.area_used
     (λ t. omega (arith, st.stands.within t, c.requires.indexed.processors))) in
     let a = c.args in
     let l = c.loop-k in
@@ -101,20 +102,21 @@ returns-in_default c =
     let d = placed _ c.in_default.is in
     let e : suc l.k + (a.count - suc l.k) ≡ a.count = omega arith in
     let refused = flow-refused _ _ c.requires.calendar_in_range (calendar_of_book a.book.now) f l.invariant.3.0 _ limit-of-flow d in
-    let p = infeasible-stays (((with_calendar (held_windows c.args.calendar) (book_of c.args.book.now)))) (suc l.k) (a.count - suc l.k) f
+    let p = infeasible-stays whole (suc l.k) (a.count - suc l.k) f
     (infeasible-next l.invariant.3.1.stands n.below n.served refused) in
     ends-infeasible _ _ _ _ _ _ _ f d.others (rw e at p) d.area_used (ap Infeasible (sym c.wide-f.ensures.0))
 
 pub overflow_cast-finish : goal.overflow_cast-finish
 overflow_cast-finish c =
+    let whole = with_calendar (held_windows c.args.calendar) (book_of c.args.book.now) in
     let placed : (w : Placed) → c.place_flow.result ≡ w → (let u = c in
     FlowPlaced true (book_of u.args.book.now) c.wide-f.result c.limit_of-limit.result
-    (shut_rows (((with_calendar (held_windows u.args.calendar) (book_of u.args.book.now)))) ++ u.loop-k.invariant.3.0) u.args.work.now u.loop-k.out u.loop-k.next
+    (shut_rows (with_calendar (held_windows u.args.calendar) (book_of u.args.book.now)) ++ u.loop-k.invariant.3.0) u.args.work.now u.loop-k.out u.loop-k.next
     c.place_flow.new.out c.place_flow.new.area w) = λ w e. let st = c.loop-k.invariant.3.1 in
     subst ((λ w. FlowPlaced true (book_of c.args.book.now) c.wide-f.result c.limit_of-limit.result
-    (shut_rows (((with_calendar (held_windows c.args.calendar) (book_of c.args.book.now)))) ++ c.loop-k.invariant.3.0) c.args.work.now c.loop-k.out c.loop-k.next
+    (shut_rows whole ++ c.loop-k.invariant.3.0) c.args.work.now c.loop-k.out c.loop-k.next
     c.place_flow.new.out c.place_flow.new.area w)) e
-    (c.place_flow.ensures (shut_rows (((with_calendar (held_windows c.args.calendar) (book_of c.args.book.now)))) ++ c.loop-k.invariant.3.0) c.args.work.now st.stands.area_used
+    (c.place_flow.ensures (shut_rows whole ++ c.loop-k.invariant.3.0) c.args.work.now st.stands.area_used
     (λ t. omega (arith, st.stands.within t, c.requires.indexed.processors))) in
     let d = (placed _ c.in-To.is).2 in
     omega (arith, d.finish_within, c.limit_of-limit.ensures.1)
@@ -131,19 +133,20 @@ bounds-finish-f c =
 
 pub loop-k-preserved : goal.loop-k-preserved
 loop-k-preserved c =
+    let whole = with_calendar (held_windows c.args.calendar) (book_of c.args.book.now) in
     let next : NextFlow c.args.book.now (held_windows c.args.calendar) c.args.x c.loop-k.k c.wide-f.result = next-flow _ _ _ _ _ _ _ c.requires _ _ c.loop-k-test.true c.wide-f.ensures.0 in
-    let limit-of-flow : c.limit_of-limit.result ≡ slots_for (((with_calendar (held_windows c.args.calendar) (book_of c.args.book.now)))) (flow_of (((with_calendar (held_windows c.args.calendar) (book_of c.args.book.now)))) c.wide-f.result) = let a = c.args in
+    let limit-of-flow : c.limit_of-limit.result ≡ slots_for whole (flow_of whole c.wide-f.result) = let a = c.args in
     limit_is (held_windows a.calendar) (book_of a.book.now) c.requires.calendar_in_range (calendar_of_book a.book.now)
     c.wide-f.result
     _ _ next.deadline c.limit_of-limit.ensures.0 in
     let placed : (w : Placed) → c.place_flow.result ≡ w → (let u = c in
     FlowPlaced true (book_of u.args.book.now) c.wide-f.result c.limit_of-limit.result
-    (shut_rows (((with_calendar (held_windows u.args.calendar) (book_of u.args.book.now)))) ++ u.loop-k.invariant.3.0) u.args.work.now u.loop-k.out u.loop-k.next
+    (shut_rows (with_calendar (held_windows u.args.calendar) (book_of u.args.book.now)) ++ u.loop-k.invariant.3.0) u.args.work.now u.loop-k.out u.loop-k.next
     c.place_flow.new.out c.place_flow.new.area w) = λ w e. let st = c.loop-k.invariant.3.1 in
     subst ((λ w. FlowPlaced true (book_of c.args.book.now) c.wide-f.result c.limit_of-limit.result
-    (shut_rows (((with_calendar (held_windows c.args.calendar) (book_of c.args.book.now)))) ++ c.loop-k.invariant.3.0) c.args.work.now c.loop-k.out c.loop-k.next
+    (shut_rows whole ++ c.loop-k.invariant.3.0) c.args.work.now c.loop-k.out c.loop-k.next
     c.place_flow.new.out c.place_flow.new.area w)) e
-    (c.place_flow.ensures (shut_rows (((with_calendar (held_windows c.args.calendar) (book_of c.args.book.now)))) ++ c.loop-k.invariant.3.0) c.args.work.now st.stands.area_used
+    (c.place_flow.ensures (shut_rows whole ++ c.loop-k.invariant.3.0) c.args.work.now st.stands.area_used
     (λ t. omega (arith, st.stands.within t, c.requires.indexed.processors))) in
     let n = next in
     let l = c.loop-k in
@@ -153,7 +156,7 @@ loop-k-preserved c =
       omega arith,
       search rules,
       search rules,
-      (rows ++ added_rows (((with_calendar (held_windows c.args.calendar) (book_of c.args.book.now)))) c.wide-f.result rows, goes_on l.invariant.3.1 n.below n.served n.few_flows d),
+      (rows ++ added_rows whole c.wide-f.result rows, goes_on l.invariant.3.1 n.below n.served n.few_flows d),
     )
 
 pub returns : goal.returns

@@ -17,7 +17,7 @@ returns-in-Refused c =
 pub returns-in-Refused-w : goal.returns-in-Refused-w
 returns-in-Refused-w c =
     let book-passes : book_fault c.args.book.now ≡ Pass = sym c.verdict_of-v.ensures ∙ c.in_default.is in
-    let a = ((c)).args in
+    let a = c.args in
     leaves _ _ _ _ (call-refused-calendar a.book.now a.calendar.now a.output.now a.work.now _ _ _ book-passes
     (sym c.verdict_of-w.ensures ∙ c.in-Refused-w.is)) c.refusal-in-Refused-w.result _ _ c.refusal-in-Refused-w.ensures refl refl
 
@@ -25,7 +25,7 @@ pub returns-then-work-lt16384 : goal.returns-then-work-lt16384
 returns-then-work-lt16384 c =
     let book-passes : book_fault c.args.book.now ≡ Pass = sym c.verdict_of-v.ensures ∙ c.in_default.is in
     let calendar-passes : calendar_fault c.args.calendar.now ≡ Pass = sym c.verdict_of-w.ensures ∙ c.in_default-w.is in
-    let a = (((((c))))).args in
+    let a = c.args in
     leaves _ _ _ _ (call-short a.book.now a.calendar.now a.output.now a.work.now book-passes calendar-passes
     (omega arith)) c.refusal-then-work-lt16384.result _ _ c.refusal-then-work-lt16384.ensures refl refl
 
@@ -44,6 +44,6 @@ pub returns : goal.returns
 returns c =
     let book-passes : book_fault c.args.book.now ≡ Pass = sym c.verdict_of-v.ensures ∙ c.in_default.is in
     let calendar-passes : calendar_fault c.args.calendar.now ≡ Pass = sym c.verdict_of-w.ensures ∙ c.in_default-w.is in
-    let a = (((((c))))).args in
+    let a = c.args in
     leaves_passing a.book.now a.calendar.now a.output.now a.work.now _ book-passes calendar-passes
     c.calendar_of.ensures.windows (omega arith) _ _ _ c.plan_passing.ensures

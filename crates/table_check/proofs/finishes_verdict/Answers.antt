@@ -1,6 +1,5 @@
 -- `table_check::finishes_verdict` meets its contract. The invariant: the flows so far pass. The measure is the flows left. Assumes nothing.
 use mathlib.Core.Path.{sym}
-use Prim.Native.Nat.{◌-◌}
 use Rattle.table_check.specs.Walk.{finish_fault_by}
 use Rattle.table_check.proofs.Finals.{none_walked, one_walked, all_walked, stopped, finish_right, finish_wrong}
 use native.Mathlib.Omega.{arith}

@@ -1,6 +1,5 @@
 -- `table_check::totals_verdict` meets its contract. The invariant: the flows so far pass. The measure is the flows left. Assumes nothing.
 use mathlib.Core.Path.{sym}
-use Prim.Native.Nat.{◌-◌}
 use Rattle.table_check.specs.Walk.{mismatches_fault}
 use Rattle.table_check.proofs.Finals.{none_walked, one_walked, all_walked, stopped, mismatch-found, mismatch-none}
 use native.Mathlib.Omega.{arith}

@@ -6,7 +6,6 @@ use borrow.Author.Fill.{fill_more}
 use lib.ListN.{replicate, drop}
 use mathlib.Core.List.{List, ◌++◌}
 use mathlib.Core.Path.{◌≡◌, ap, subst, ◌∙◌}
-use Prim.Native.Nat.{◌-◌}
 use native.Mathlib.Omega.{arith}
 use borrow.Author.Rules.{rules}
 use Rattle.rules.specs.Rows.{work_zero}

@@ -1,6 +1,6 @@
 -- The count of the flows passed, one more each turn. Assumes nothing.
 use mathlib.Core.Path.{◌≡◌, sym, ap, ◌∙◌}
-use Prim.Native.Nat.{◌+◌, ◌-◌}
+use Prim.Native.Nat.{◌+◌}
 use lib.ListN.{get_or}
 use Rattle.rules.specs.Walks.{bit}
 use Rattle.rules.proofs.Laws.Sums.{bit_most}

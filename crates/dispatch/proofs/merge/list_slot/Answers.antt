@@ -1,6 +1,6 @@
 -- The flows passed have listed their rows of the slot, and their cursors are behind it. Assumes nothing.
 use mathlib.Core.Path.{◌≡◌, refl, sym}
-use Prim.Native.Nat.{suc, ◌+◌, ◌-◌}
+use Prim.Native.Nat.{suc, ◌+◌}
 use Rattle.rules.specs.Walks.{join_from}
 use Rattle.rules.specs.Book.{flow_count}
 use Rattle.rules.specs.Reading.{book_of}

@@ -1,6 +1,6 @@
 -- The slots passed are listed. While the list is longer a slot is left; when it is not, what is listed is the list. Assumes nothing.
 use mathlib.Core.Path.{◌≡◌, refl, sym, ap, ◌∙◌}
-use Prim.Native.Nat.{suc, ◌+◌, ◌-◌, ◌<◌}
+use Prim.Native.Nat.{suc, ◌+◌, ◌<◌}
 use mathlib.Core.List.{List}
 use lib.Seq.{sets}
 use Rattle.rules.specs.Walks.{join_from}

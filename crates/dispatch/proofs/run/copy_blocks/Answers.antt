@@ -1,6 +1,6 @@
 -- The rows passed are a run, sixteen more each time, and they are copied. Assumes nothing.
 use mathlib.Core.Path.{◌≡◌, sym, ◌∙◌}
-use Prim.Native.Nat.{◌+◌, ◌*◌, ◌-◌, ◌≤◌, ◌<◌}
+use Prim.Native.Nat.{◌+◌, ◌*◌, ◌≤◌, ◌<◌}
 use lib.ListN.{length}
 use Rattle.dispatch.specs.Runs.{RunTo}
 use Rattle.dispatch.proofs.Runs.{going-none, going-copied, going_more, going-inside, going-whole, going-fits, going_block}

@@ -1,6 +1,6 @@
 -- The rows passed are a run, and they are copied. Assumes nothing.
 use mathlib.Core.Path.{◌≡◌, sym, ◌∙◌}
-use Prim.Native.Nat.{◌+◌, ◌*◌, ◌-◌, ◌≤◌, ◌<◌}
+use Prim.Native.Nat.{◌+◌, ◌*◌, ◌≤◌, ◌<◌}
 use lib.ListN.{length}
 use Rattle.dispatch.specs.Runs.{RunTo}
 use Rattle.dispatch.proofs.Runs.{going-none, going-copied, going_more, going-inside, going-whole, going-fits, going-row}
@@ -55,7 +55,7 @@ pub loop-done-preserved : goal.loop-done-preserved
 loop-done-preserved c =
     let row : (let a = c.args in RunTo a.table.now a.flow a.slot a.from (a.from + c.loop-done.done + 6)) = going-row _ _ _ _ _ _ c.requires.0 c.loop-done.invariant.1 (sym c.due_at.ensures ∙ c.if-due_at-slot.false) in
     let i = c.loop-done.invariant.1 in
-    (omega (arith, ((c)).requires.1, row.at_is, i.reaches.at_is), going_more _ _ _ _ _ _ 6 row c.copy_row.ensures i)
+    (omega (arith, c.requires.1, row.at_is, i.reaches.at_is), going_more _ _ _ _ _ _ 6 row c.copy_row.ensures i)
 
 pub overflow_add-result-2 : goal.overflow_add-result-2
 overflow_add-result-2 c =

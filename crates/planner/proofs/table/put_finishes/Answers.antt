@@ -1,6 +1,6 @@
 -- The finishes of the flows passed stand where they belong. Assumes nothing.
 use mathlib.Core.Path.{◌≡◌, ap, ◌∙◌}
-use Prim.Native.Nat.{ℕ, ◌+◌, ◌*◌, ◌-◌}
+use Prim.Native.Nat.{ℕ, ◌+◌, ◌*◌}
 use mathlib.Core.List.{List}
 use lib.ListN.{get_or}
 use lib.Seq.{sets}

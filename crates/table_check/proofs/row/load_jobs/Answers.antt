@@ -1,5 +1,4 @@
 -- `table_check::row::load_jobs` meets its contract. The invariant: the jobs so far are held. The measure is the jobs left. Assumes nothing.
-use Prim.Native.Nat.{◌-◌}
 use Rattle.table_check.proofs.Finals.{few-jobs}
 use Rattle.table_check.proofs.Jobs.{held_none, held_next, held_all}
 use native.Mathlib.Omega.{arith}

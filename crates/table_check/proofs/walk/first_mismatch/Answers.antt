@@ -1,5 +1,4 @@
 -- `table_check::walk::first_mismatch` meets its contract. The invariant: the jobs so far pass. The measure is the jobs left. Assumes nothing.
-use Prim.Native.Nat.{◌-◌}
 use Rattle.table_check.proofs.Finals.{none_walked, one_walked, few-jobs, total_right, total_wrong, closes-mismatch, closes_right}
 use native.Mathlib.Omega.{arith}
 use Rattle.table_check.proofs.walk.first_mismatch.Goals as goal

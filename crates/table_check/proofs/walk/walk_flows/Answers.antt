@@ -1,7 +1,7 @@
 -- `table_check::walk::walk_flows` meets its contract. The invariant: the rows so far pass, every flow is closed, and the next row is another flow's
 -- than the last one (`Between`). The measure is the bytes of the table that are left. Assumes nothing.
 use mathlib.Core.Path.{refl}
-use Prim.Native.Nat.{◌-◌, ◌<◌}
+use Prim.Native.Nat.{◌<◌}
 use native.Mathlib.Omega.{arith}
 use Rattle.rules.specs.Book.{flow_count}
 use Rattle.rules.specs.Reading.{book_of}

@@ -1,7 +1,6 @@
 -- `table_check::walk::walk_rows` meets its contract. The invariant of the loop over rows: the rows so far pass, those since `from` are the flow's, and
 -- totals, completeness and work area are theirs (`Going`); of the loop over predecessors: the row is released, and none so far is lacking (`Asking`).
 -- The measures are the bytes of the table that are left, and the bits that are left. Assumes nothing.
-use Prim.Native.Nat.{◌-◌}
 use Rattle.table_check.proofs.Turns.{going-first, lent-first, test_stops, turn_of}
 use Rattle.table_check.proofs.TableRows.{row_inside, more_rows}
 use Rattle.table_check.proofs.Counting.{job_in, slot_in, countable, unreleased_stops, is-released, lent-next, going_next}
@@ -24,7 +23,7 @@ test_row-t-requires c = let g = c.rows.invariant.0 in (g.current, g.held, g.room
 
 pub predecessors_due-asks-requires : goal.predecessors_due-asks-requires
 predecessors_due-asks-requires c =
-    let g = ((c)).rows.invariant.0 in
+    let g = c.rows.invariant.0 in
     let here = c.rows-test.true in
     let turn = turn_of g here c.read_row-r.result c.read_row-r.ensures (sym c.wide.ensures.0 ∙ c.if-wide-c.false) c.test_row-t.ensures
     c.if-t-ne0.false in
@@ -32,7 +31,7 @@ predecessors_due-asks-requires c =
 
 pub loop-bits-init : goal.loop-bits-init
 loop-bits-init c =
-    let g = ((c)).rows.invariant.0 in
+    let g = c.rows.invariant.0 in
     let here = c.rows-test.true in
     let turn = turn_of g here c.read_row-r.result c.read_row-r.ensures (sym c.wide.ensures.0 ∙ c.if-wide-c.false) c.test_row-t.ensures
     c.if-t-ne0.false in
@@ -74,7 +73,7 @@ rows-preserved c =
     let none = asking-ends a c.loop-bits-test.false in
     let counted = c.count_row.ensures in (
       going_next a.going a.turn a.released none counted a.going.no_fault c.rank_of-least.ensures.0,
-      lent-next a.going a.turn a.released none counted ((c)).rows.invariant.1,
+      lent-next a.going a.turn a.released none counted c.rows.invariant.1,
     )
 
 pub returns-after-rows : goal.returns-after-rows
@@ -85,7 +84,7 @@ returns-then-wide-c c = walk_turns c.rows.invariant.0 c.rows.invariant.1 c.rows-
 
 pub returns-then-t-ne0 : goal.returns-then-t-ne0
 returns-then-t-ne0 c =
-    let inv = ((c)).rows.invariant in
+    let inv = c.rows.invariant in
     let here = c.rows-test.true in
     walk_stops inv.0 inv.1 (more_rows inv.0.headed inv.0.reached here) c.refused-bad.ensures
     (test_stops inv.0 here c.read_row-r.result c.read_row-r.ensures (sym c.wide.ensures.0 ∙ c.if-wide-c.false) c.test_row-t.ensures
@@ -93,13 +92,13 @@ returns-then-t-ne0 c =
 
 pub returns-then-asks : goal.returns-then-asks
 returns-then-asks c =
-    let g = (c).rows.invariant.0 in
+    let g = c.rows.invariant.0 in
     let here = c.rows-test.true in
     let turn = turn_of g here c.read_row-r.result c.read_row-r.ensures (sym c.wide.ensures.0 ∙ c.if-wide-c.false) c.test_row-t.ensures
     c.if-t-ne0.false in
-    walk_stops g ((c)).rows.invariant.1 turn.more c.refused-bad-then-asks.ensures (unreleased_stops g turn c.predecessors_due-asks.ensures.unreleased c.if-asks.true)
+    walk_stops g c.rows.invariant.1 turn.more c.refused-bad-then-asks.ensures (unreleased_stops g turn c.predecessors_due-asks.ensures.unreleased c.if-asks.true)
 
 pub returns-then-lacks : goal.returns-then-lacks
 returns-then-lacks c =
     let a = c.loop-bits.invariant in
-    walk_stops a.going ((c)).rows.invariant.1 a.turn.more c.refused-bad-then-lacks.ensures (asking_stops a c.lacks.ensures c.loop-bits-test.true c.if-lacks.true)
+    walk_stops a.going c.rows.invariant.1 a.turn.more c.refused-bad-then-lacks.ensures (asking_stops a c.lacks.ensures c.loop-bits-test.true c.if-lacks.true)
