@@ -1,8 +1,7 @@
 -- What reading one record of a book finds, and the faults of a job's record by itself. Assumes nothing.
-use Rattle.std.specs.Prelude.{ℕ, ◌+◌, ◌^◌, List, length, ltb, leb}
+use Rattle.std.specs.Prelude.{ℕ, ◌+◌, ◌^◌, List, length, ltb, leb, if◌then◌else◌}
 use Rattle.rules.specs.declared.Verdict.{Verdict}
 use Rattle.rules.specs.declared.Verdict.TheVariants.{Pass, Refused}
-use Rattle.rules.specs.Walks.{if◌then◌else◌}
 use Rattle.rules.specs.Fields.{field}
 use Rattle.rules.specs.Limits.{outside, most_deadline, most_jobs, most_size, most_cap}
 use Rattle.rules.specs.Reading.{version_of, flow_head, job_record, release_at, jobs_at}

@@ -11,7 +11,8 @@ use native.Mathlib.Omega.{arith}
 use lib.ListN.{get_or}
 use lib.Dec.{ltb, leb}
 use borrow.Author.Tests.{lt-ltb, le-ltb, le-leb, lt-leb}
-use Rattle.rules.specs.Walks.{if◌then◌else◌, bit}
+use Rattle.std.specs.Prelude.{if◌then◌else◌}
+use Rattle.rules.specs.Walks.{bit}
 use Rattle.rules.specs.Limits.{most_deadline, slots}
 use Rattle.rules.specs.Calendar.{Window, is_open, open_before, slot_after, CalendarInRange}
 use Rattle.rules.proofs.Laws.Division.{lt-or_ge}

@@ -1,9 +1,9 @@
 // The calendar of the cluster: its reader, its shut slots, the limit of a flow.
 #![tactic(auto)]
 
-ghost use Rattle.std.specs.Prelude.{◌≡◌, ℕ, ◌+◌, ◌-◌, ◌*◌, ◌<◌, ◌≤◌, min, not, ◌&&◌, List, length, replicate, ltb};
+ghost use Rattle.std.specs.Prelude.{◌≡◌, ℕ, ◌+◌, ◌-◌, ◌*◌, ◌<◌, ◌≤◌, min, not, ◌&&◌, List, length, replicate, ltb, if◌then◌else◌};
 ghost use Rattle.rules.specs.declared.Verdict.TheVariants.{Pass, Refused};
-ghost use Rattle.rules.specs.Walks.{if◌then◌else◌, any_to};
+ghost use Rattle.rules.specs.Walks.{any_to};
 ghost use Rattle.rules.specs.Answers.{none};
 ghost use Rattle.rules.specs.Limits.{most_deadline, most_reopening, slots, work_bytes};
 ghost use Rattle.rules.specs.Calendar.{in_window, is_open, open_before, slot_after, window_fault, calendar_fault, CalendarInRange};

@@ -11,7 +11,8 @@ use native.Mathlib.Omega.{arith}
 use lib.ListN.{length, get_or, set}
 use lib.Dec.{ltb}
 use borrow.Author.Tests.{lt-ltb, le-ltb}
-use Rattle.rules.specs.Walks.{if◌then◌else◌, bit, sum_to}
+use Rattle.std.specs.Prelude.{if◌then◌else◌}
+use Rattle.rules.specs.Walks.{bit, sum_to}
 use Rattle.rules.specs.Book.{Flow, job_count, job_of}
 use Rattle.rules.specs.Ideal.{last_take, start_of, end_of, path, take_of}
 use Rattle.rules.specs.PseudoJobs.{unchanged, runs, chain, rate}

@@ -9,7 +9,8 @@ use native.Mathlib.Numerals.{add-one}
 use native.Mathlib.Omega.{arith}
 use lib.ListN.{length, get_or, set, drop, length-append, get_or-append}
 use lib.Seq.{drop-cons, get_or_at, set_at, append_snoc}
-use Rattle.rules.specs.Walks.{if◌then◌else◌, sum_to, max_to}
+use Rattle.std.specs.Prelude.{if◌then◌else◌}
+use Rattle.rules.specs.Walks.{sum_to, max_to}
 use Rattle.rules.specs.Book.{Job, Flow, JobInRange, FlowInRange, job_count, job_of, no_job, has_bit, precedes}
 use Rattle.rules.specs.Ideal.{duration, last_take, start_after, start_of, end_of, ends_below, path, take_of}
 use Rattle.rules.proofs.Laws.Sums.{sum-le}

@@ -1,7 +1,7 @@
 -- What the routines on one flow ask of its values, and what they answer, in the specification's words: a job's
 -- slots and its last take, and the start that the ends of lower jobs give. Assumes nothing.
-use Rattle.std.specs.Prelude.{◌≡◌, List, [], ◌∷◌, ◌++◌, ℕ, zero, suc, ◌+◌, ◌≤◌, ◌<◌, get_or}
-use Rattle.rules.specs.Walks.{if◌then◌else◌, max_to}
+use Rattle.std.specs.Prelude.{◌≡◌, List, [], ◌∷◌, ◌++◌, ℕ, zero, suc, ◌+◌, ◌≤◌, ◌<◌, get_or, if◌then◌else◌}
+use Rattle.rules.specs.Walks.{max_to}
 use Rattle.rules.specs.Book.{Job, has_bit}
 use Rattle.rules.specs.Ideal.{duration, last_take}
 use Rattle.book.specs.Promise.{FlowJobs}

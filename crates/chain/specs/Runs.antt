@@ -1,7 +1,7 @@
 -- What is held of a flow on endless processors, what a job takes by its start and end, how long its take stays, and the
 -- run that begins at an ideal slot: the first of the specification's runs from there on. Assumes nothing.
-use Rattle.std.specs.Prelude.{◌≡◌, ◌||◌, List, [], ◌∷◌, ℕ, zero, suc, ◌+◌, ◌-◌, ◌≤◌, ◌<◌, get_or, ltb, leb, eqb}
-use Rattle.rules.specs.Walks.{if◌then◌else◌, count_to}
+use Rattle.std.specs.Prelude.{◌≡◌, ◌||◌, List, [], ◌∷◌, ℕ, zero, suc, ◌+◌, ◌-◌, ◌≤◌, ◌<◌, get_or, ltb, leb, eqb, if◌then◌else◌}
+use Rattle.rules.specs.Walks.{count_to}
 use Rattle.rules.specs.Book.{Flow, job_count, job_of}
 use Rattle.rules.specs.Ideal.{last_take, start_of, end_of, path, take_of}
 use Rattle.rules.specs.PseudoJobs.{PseudoJob, runs, rate}

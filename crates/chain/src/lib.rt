@@ -1,8 +1,8 @@
 // The chain of pseudo-jobs of a flow, rules 1 to 3.
 #![tactic(auto)]
 
-ghost use Rattle.std.specs.Prelude.{◌≡◌, ◌++◌, ℕ, ◌+◌, ◌-◌, ◌<◌, ◌≤◌, length, get_or, drop, ltb};
-ghost use Rattle.rules.specs.Walks.{if◌then◌else◌, bit, max_to};
+ghost use Rattle.std.specs.Prelude.{◌≡◌, ◌++◌, ℕ, ◌+◌, ◌-◌, ◌<◌, ◌≤◌, length, get_or, drop, ltb, if◌then◌else◌};
+ghost use Rattle.rules.specs.Walks.{bit, max_to};
 ghost use Rattle.book.specs.Promise.{FlowJobs, flow_held, flow_from};
 ghost use Rattle.chain.specs.Jobs.{ChainInput, job_with, LastsAs, LastTo, start_among, ends_by};
 ghost use Rattle.chain.specs.Runs.{Ideal, IdealOf, LeastFrom, RunInput, SomeFlow, take_between, NextChange, RunAt};

@@ -11,7 +11,8 @@ use lib.Seq.{sets, sets-eq}
 use lib.Dec.{ltb}
 use borrow.Author.Tests.{eq-eqb}
 use Rattle.rules.specs.declared.Verdict.TheVariants.{Pass}
-use Rattle.rules.specs.Walks.{if◌then◌else◌, join_from}
+use Rattle.std.specs.Prelude.{if◌then◌else◌}
+use Rattle.rules.specs.Walks.{join_from}
 use Rattle.rules.specs.Fields.{bytes_of}
 use Rattle.rules.specs.Answers.{none, list_accepted, list_refused}
 use Rattle.rules.specs.Limits.{slots, work_bytes}

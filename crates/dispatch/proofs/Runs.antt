@@ -12,7 +12,8 @@ use lib.ListN.{length, set}
 use lib.Seq.{sets, length-sets}
 use lib.Dec.{leb, eqb}
 use borrow.Author.Tests.{leb-false, le-leb, lt-leb, eqb-true, eq-eqb, ne_eqb}
-use Rattle.rules.specs.Walks.{if◌then◌else◌, list_from}
+use Rattle.std.specs.Prelude.{if◌then◌else◌}
+use Rattle.rules.specs.Walks.{list_from}
 use Rattle.rules.specs.Fields.{byte, field}
 use Rattle.rules.proofs.Laws.Walks.{last_or, length-in_list_order}
 use Rattle.rules.proofs.Laws.Division.{lt-or_ge}

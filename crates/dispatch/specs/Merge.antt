@@ -1,8 +1,8 @@
 -- The merge of an accepted table's rows: where the cursors stand, and what is listed slot by slot, flow by flow. Assumes nothing.
-use Rattle.std.specs.Prelude.{◌≡◌, ℕ, suc, ◌+◌, ◌*◌, ◌≤◌, ◌<◌, Bool, true, false, ◌&&◌, List, [], ◌∷◌, length, get_or, eqb}
+use Rattle.std.specs.Prelude.{◌≡◌, ℕ, suc, ◌+◌, ◌*◌, ◌≤◌, ◌<◌, Bool, true, false, ◌&&◌, List, [], ◌∷◌, length, get_or, eqb, if◌then◌else◌}
 use Rattle.std.proofs.lemmas.List.Edits.{sets}
 use Rattle.rules.specs.declared.Verdict.TheVariants.{Pass}
-use Rattle.rules.specs.Walks.{if◌then◌else◌, join_from}
+use Rattle.rules.specs.Walks.{join_from}
 use Rattle.rules.specs.Limits.{slots, work_bytes}
 use Rattle.rules.specs.Book.{Book, flow_count}
 use Rattle.rules.specs.Reading.{book_of, book_fault}

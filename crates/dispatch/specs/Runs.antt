@@ -1,7 +1,7 @@
 -- Runs of rows in the bytes of a table: the rows of one flow in one slot, from an offset on, and what copying them leaves. Assumes nothing.
-use Rattle.std.specs.Prelude.{◌≡◌, ℕ, suc, ◌+◌, ◌*◌, ◌-◌, ◌≤◌, ◌<◌, List, length, leb, eqb}
+use Rattle.std.specs.Prelude.{◌≡◌, ℕ, suc, ◌+◌, ◌*◌, ◌-◌, ◌≤◌, ◌<◌, List, length, leb, eqb, if◌then◌else◌}
 use Rattle.std.proofs.lemmas.List.Edits.{sets}
-use Rattle.rules.specs.Walks.{if◌then◌else◌, list_from}
+use Rattle.rules.specs.Walks.{list_from}
 use Rattle.rules.specs.Fields.{byte, field}
 
 -- n bytes of s, from `from` on

@@ -9,7 +9,8 @@ use mathlib.Core.List.{List, [], ◌∷◌, ◌++◌, append_assoc}
 use mathlib.Core.Logic.{◌⊎◌, inl, inr}
 use lib.Dec.{eqb}
 use borrow.Author.Tests.{eq-eqb, ne_eqb}
-use Rattle.rules.specs.Walks.{if◌then◌else◌, join_from}
+use Rattle.std.specs.Prelude.{if◌then◌else◌}
+use Rattle.rules.specs.Walks.{join_from}
 use Rattle.rules.specs.Limits.{most_flows, slots}
 use Rattle.rules.specs.Fields.{bytes_of}
 use Rattle.rules.specs.Calendar.{Calendar, is_open, open_before, slot_after, CalendarInRange}

@@ -9,7 +9,7 @@ use lib.ListN.{length, length-append, length-drop, take, drop}
 use lib.Seq.{sets, sets-eq, length-sets, length-take-le, drop-drop}
 use lib.Dec.{leb}
 use borrow.Author.Tests.{le-leb, lt-leb}
-use Rattle.rules.specs.Walks.{if◌then◌else◌}
+use Rattle.std.specs.Prelude.{if◌then◌else◌}
 use Rattle.rules.specs.Rows.{Row, row_for}
 use Rattle.rules.specs.Table.{row_bytes}
 use Rattle.rules.proofs.Tables.TableBytes.{row-bytes-length}

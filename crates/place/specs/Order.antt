@@ -1,7 +1,7 @@
 -- Flows placed one after the other in service order, with the cluster's maintenance as rows beside theirs: what the placing of the first k flows asks, and
 -- where it stands after them. The planner and the finish of one flow both go by it. Assumes nothing.
-use Rattle.std.specs.Prelude.{◌≡◌, ℕ, ◌-◌, ◌<◌, ◌≤◌, List, ◌++◌, length, replicate}
-use Rattle.rules.specs.Walks.{if◌then◌else◌, join_from}
+use Rattle.std.specs.Prelude.{◌≡◌, ℕ, ◌-◌, ◌<◌, ◌≤◌, List, ◌++◌, length, replicate, if◌then◌else◌}
+use Rattle.rules.specs.Walks.{join_from}
 use Rattle.rules.specs.Limits.{most_flows, slots, work_bytes}
 use Rattle.rules.specs.Calendar.{Calendar, is_open, CalendarInRange}
 use Rattle.rules.specs.Book.{Book, flow_count}

@@ -1,7 +1,6 @@
 -- Rows put into an output where they fit. Assumes nothing.
-use Rattle.std.specs.Prelude.{◌≡◌, ℕ, ◌+◌, ◌*◌, List, [], ◌∷◌, length, leb}
+use Rattle.std.specs.Prelude.{◌≡◌, ℕ, ◌+◌, ◌*◌, List, [], ◌∷◌, length, leb, if◌then◌else◌}
 use Rattle.std.proofs.lemmas.List.Edits.{sets}
-use Rattle.rules.specs.Walks.{if◌then◌else◌}
 use Rattle.rules.specs.Rows.{Row}
 use Rattle.rules.specs.Table.{row_length, row_bytes}
 

@@ -9,7 +9,8 @@ use lib.ListN.{length}
 use lib.Dec.{eqb, leb}
 use borrow.Author.Tests.{eq-eqb, ne_eqb, le-leb, lt-leb}
 use Rattle.rules.specs.declared.PlanAnswer.{PlanAnswer}
-use Rattle.rules.specs.Walks.{if◌then◌else◌, join_from}
+use Rattle.std.specs.Prelude.{if◌then◌else◌}
+use Rattle.rules.specs.Walks.{join_from}
 use Rattle.rules.proofs.Laws.Walks.{join_last}
 use Rattle.rules.specs.Fields.{byte, field}
 use Rattle.rules.specs.Table.{row_at}

@@ -10,7 +10,7 @@ use lib.ListN.{length, set, get_or, take, length-append}
 use lib.Seq.{sets, length-sets, take-suc, length-take-le}
 use lib.Dec.{ltb}
 use borrow.Author.Tests.{lt-ltb, le-ltb}
-use Rattle.rules.specs.Walks.{if◌then◌else◌}
+use Rattle.std.specs.Prelude.{if◌then◌else◌}
 use Rattle.rules.specs.Fields.{bytes_of}
 use Rattle.rules.specs.Text.{
   digit,

@@ -1,8 +1,8 @@
 -- The lines of an answer of the planner, numbered from 0: the one line of a refusal, or those of the table that stands in the output.
 -- Assumes nothing.
-use Rattle.std.specs.Prelude.{◌≡◌, ℕ, ◌+◌, ◌*◌, ◌-◌, ◌/◌, ◌≤◌, List, length, eqb, leb}
+use Rattle.std.specs.Prelude.{◌≡◌, ℕ, ◌+◌, ◌*◌, ◌-◌, ◌/◌, ◌≤◌, List, length, eqb, leb, if◌then◌else◌}
 use Rattle.rules.specs.declared.PlanAnswer.{PlanAnswer}
-use Rattle.rules.specs.Walks.{if◌then◌else◌, join_from}
+use Rattle.rules.specs.Walks.{join_from}
 use Rattle.rules.specs.Fields.{byte, field}
 use Rattle.rules.specs.Table.{row_length, row_at}
 use Rattle.rules.specs.Text.{table_line, finish_line, row_line, refusal_line}

@@ -1,7 +1,7 @@
 -- What the program prints for an input, by the rules alone: `printed` names no buffer, table or work area. Assumes nothing.
-use Rattle.std.specs.Prelude.{◌≡◌, ℕ, ◌*◌, ◌≤◌, List, [], ◌∷◌, ◌++◌, length, take, ltb}
+use Rattle.std.specs.Prelude.{◌≡◌, ℕ, ◌*◌, ◌≤◌, List, [], ◌∷◌, ◌++◌, length, take, ltb, if◌then◌else◌}
 use Rattle.rules.specs.declared.PlanAnswer.{PlanAnswer}
-use Rattle.rules.specs.Walks.{if◌then◌else◌, join_from}
+use Rattle.rules.specs.Walks.{join_from}
 use Rattle.rules.specs.Answers.{none}
 use Rattle.rules.specs.Calendar.{no_windows}
 use Rattle.rules.specs.Book.{Book, flow_count}

@@ -1,11 +1,11 @@
 -- The table check: refusals 14 to 21 and 25 in the order of documents 01 and 02, and a call's answer and work area for every book, calendar, table and
 -- work area.
 -- Assumes nothing.
-use Rattle.std.specs.Prelude.{ℕ, zero, suc, ◌+◌, ◌*◌, ◌-◌, ◌/◌, ◌%◌, Bool, true, not, ◌&&◌, ◌||◌, List, length, take, get_or, ltb, leb, eqb}
+use Rattle.std.specs.Prelude.{ℕ, zero, suc, ◌+◌, ◌*◌, ◌-◌, ◌/◌, ◌%◌, Bool, true, not, ◌&&◌, ◌||◌, List, length, take, get_or, ltb, leb, eqb, if◌then◌else◌}
 use Rattle.rules.specs.declared.Verdict.{Verdict}
 use Rattle.rules.specs.declared.Verdict.TheVariants.{Pass, Refused}
 use Rattle.rules.specs.declared.CheckAnswer.{CheckAnswer}
-use Rattle.rules.specs.Walks.{if◌then◌else◌, any_to, list_from}
+use Rattle.rules.specs.Walks.{any_to, list_from}
 use Rattle.rules.specs.Fields.{byte, field}
 use Rattle.rules.specs.Answers.{none, ◌and_then◌, first_fault, check_accepted, check_refused}
 use Rattle.rules.specs.Limits.{slots, work_bytes}

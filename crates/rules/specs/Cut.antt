@@ -1,6 +1,6 @@
 -- A book that is cut in service order ("Words of demand 3"). Assumes nothing.
-use Rattle.std.specs.Prelude.{ℕ, ◌+◌, Bool, List, [], ◌∷◌, eqb}
-use Rattle.rules.specs.Walks.{if◌then◌else◌, count_to, any_to}
+use Rattle.std.specs.Prelude.{ℕ, ◌+◌, Bool, List, [], ◌∷◌, eqb, if◌then◌else◌}
+use Rattle.rules.specs.Walks.{count_to, any_to}
 use Rattle.rules.specs.Book.{Flow, Book}
 use Rattle.rules.specs.Service.{served_at}
 

@@ -1,8 +1,8 @@
 -- The dispatch list (document 02, Req 03; "dispatch list" is its word): a table's rows in the order in which the dispatcher works, and a call's
 -- answer, output and work area for every book, calendar, table, output and work area. Assumes nothing.
-use Rattle.std.specs.Prelude.{ℕ, ◌+◌, ◌*◌, ◌-◌, ◌/◌, Bool, ◌&&◌, ◌||◌, List, [], ◌∷◌, ◌++◌, length, drop, ltb, eqb}
+use Rattle.std.specs.Prelude.{ℕ, ◌+◌, ◌*◌, ◌-◌, ◌/◌, Bool, ◌&&◌, ◌||◌, List, [], ◌∷◌, ◌++◌, length, drop, ltb, eqb, if◌then◌else◌}
 use Rattle.rules.specs.declared.ListAnswer.{ListAnswer}
-use Rattle.rules.specs.Walks.{if◌then◌else◌, list_from}
+use Rattle.rules.specs.Walks.{list_from}
 use Rattle.rules.specs.Fields.{bytes_of}
 use Rattle.rules.specs.Answers.{none, list_accepted, list_refused}
 use Rattle.rules.specs.Limits.{slots}

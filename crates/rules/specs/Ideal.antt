@@ -1,6 +1,6 @@
 -- Rules 1 and 2: a flow on endless processors, in ideal slots. Assumes nothing.
-use Rattle.std.specs.Prelude.{ℕ, zero, suc, ◌+◌, ◌*◌, ◌-◌, ◌/◌, ◌||◌, List, [], ◌∷◌, ◌++◌, get_or, ltb, leb, eqb}
-use Rattle.rules.specs.Walks.{if◌then◌else◌, max_to}
+use Rattle.std.specs.Prelude.{ℕ, zero, suc, ◌+◌, ◌*◌, ◌-◌, ◌/◌, ◌||◌, List, [], ◌∷◌, ◌++◌, get_or, ltb, leb, eqb, if◌then◌else◌}
+use Rattle.rules.specs.Walks.{max_to}
 use Rattle.rules.specs.Book.{Job, Flow, job_count, job_of, precedes}
 
 -- n divided by d, rounded up

@@ -1,6 +1,6 @@
 -- Rules 4 to 6: placing slot by slot, rows by units, infeasible books. Assumes nothing.
-use Rattle.std.specs.Prelude.{ℕ, zero, suc, ◌+◌, ◌-◌, min, List, [], ◌∷◌, ◌++◌, take, drop, replicate, eqb}
-use Rattle.rules.specs.Walks.{if◌then◌else◌, bit, join_from}
+use Rattle.std.specs.Prelude.{ℕ, zero, suc, ◌+◌, ◌-◌, min, List, [], ◌∷◌, ◌++◌, take, drop, replicate, eqb, if◌then◌else◌}
+use Rattle.rules.specs.Walks.{bit, join_from}
 use Rattle.rules.specs.Calendar.{slot_after}
 use Rattle.rules.specs.Book.{Flow, Book, flow_count, job_count, flow_of, usable, twice_deadline}
 use Rattle.rules.specs.Ideal.{take_of}

@@ -1,7 +1,6 @@
 -- A call of the planner: its answer, and the output and the work area that it leaves, for every book, calendar, output and work area. Assumes nothing.
-use Rattle.std.specs.Prelude.{ℕ, List, ◌++◌, length, drop, ltb}
+use Rattle.std.specs.Prelude.{ℕ, List, ◌++◌, length, drop, ltb, if◌then◌else◌}
 use Rattle.rules.specs.declared.PlanAnswer.{PlanAnswer}
-use Rattle.rules.specs.Walks.{if◌then◌else◌}
 use Rattle.rules.specs.Answers.{none, plan_accepted, plan_refused}
 use Rattle.rules.specs.Limits.{slots, work_bytes}
 use Rattle.rules.specs.Book.{Book}

@@ -1,6 +1,6 @@
 -- Rule 3: the chain of pseudo-jobs of a flow ("pseudo-job" is document 01's word). Assumes nothing.
-use Rattle.std.specs.Prelude.{ℕ, zero, suc, ◌+◌, ◌*◌, Bool, List, [], ◌∷◌, eqb}
-use Rattle.rules.specs.Walks.{if◌then◌else◌, sum_to, all_to}
+use Rattle.std.specs.Prelude.{ℕ, zero, suc, ◌+◌, ◌*◌, Bool, List, [], ◌∷◌, eqb, if◌then◌else◌}
+use Rattle.rules.specs.Walks.{sum_to, all_to}
 use Rattle.rules.specs.Book.{Flow, job_count}
 use Rattle.rules.specs.Ideal.{take_of, path}
 

@@ -1,10 +1,10 @@
 -- The bytes of a book: its reading, the refusals 1 to 10 and 22 in the order of documents 01 and 02, its encoding in either version, and its reading
 -- together with a calendar.
 -- Assumes nothing.
-use Rattle.std.specs.Prelude.{ℕ, zero, suc, ◌+◌, ◌*◌, ◌^◌, not, ◌||◌, List, [], ◌++◌, length, ltb, leb, eqb}
+use Rattle.std.specs.Prelude.{ℕ, zero, suc, ◌+◌, ◌*◌, ◌^◌, not, ◌||◌, List, [], ◌++◌, length, ltb, leb, eqb, if◌then◌else◌}
 use Rattle.rules.specs.declared.Verdict.{Verdict}
 use Rattle.rules.specs.declared.Verdict.TheVariants.{Pass, Refused}
-use Rattle.rules.specs.Walks.{if◌then◌else◌, list_from, join_from}
+use Rattle.rules.specs.Walks.{list_from, join_from}
 use Rattle.rules.specs.Fields.{byte, field, bytes_of}
 use Rattle.rules.specs.Answers.{none, ◌and_then◌, first_fault}
 use Rattle.rules.specs.Limits.{outside, most_processors, most_flows, most_deadline, most_jobs, most_size, most_cap}

@@ -1,6 +1,6 @@
 -- Rows, and what planner and check both read off them: use, totals, finishes, late flows, work area. Assumes nothing.
-use Rattle.std.specs.Prelude.{ℕ, zero, suc, ◌+◌, ◌*◌, max, Bool, ◌&&◌, List, [], ◌∷◌, ◌++◌, drop, replicate, ltb, eqb}
-use Rattle.rules.specs.Walks.{if◌then◌else◌, count_to, join_from}
+use Rattle.std.specs.Prelude.{ℕ, zero, suc, ◌+◌, ◌*◌, max, Bool, ◌&&◌, List, [], ◌∷◌, ◌++◌, drop, replicate, ltb, eqb, if◌then◌else◌}
+use Rattle.rules.specs.Walks.{count_to, join_from}
 use Rattle.rules.specs.Fields.{bytes_of}
 use Rattle.rules.specs.Book.{Flow, Book, flow_count, flow_of}
 

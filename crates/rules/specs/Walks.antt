@@ -1,11 +1,6 @@
 -- What a walk over 0 .. n - 1 makes of a function of the number: a sum, a maximum, a count, a test, a list.
--- The definitions below are written with these, and with the choice `if◌then◌else◌`. Assumes nothing.
+-- The definitions below are written with these, and with the library's choice `if◌then◌else◌`. Assumes nothing.
 use Rattle.std.specs.Prelude.{ℕ, zero, suc, ◌+◌, max, Bool, true, false, ◌||◌, ◌&&◌, List, [], ◌∷◌, ◌++◌}
-
-infixr 5 if◌then◌else◌
-abbrev pub if◌then◌else◌ {ℓ} : {A : Type ℓ} → Bool → A → A → A
-if true then a else b = a
-if false then a else b = b
 
 -- g 0 + .. + g (n - 1)
 unfoldable pub sum_to : (ℕ → ℕ) → ℕ → ℕ

@@ -12,7 +12,7 @@ use lib.Dec.{leb, eqb}
 use borrow.Author.Tests.{le-leb, lt-leb, leb-true, ne_eqb}
 use Rattle.rules.specs.declared.Verdict.{Verdict}
 use Rattle.rules.specs.declared.Verdict.TheVariants.{Pass, Refused}
-use Rattle.rules.specs.Walks.{if◌then◌else◌}
+use Rattle.std.specs.Prelude.{if◌then◌else◌}
 use Rattle.rules.specs.Limits.{slots, work_bytes}
 use Rattle.rules.specs.Answers.{first_fault}
 use Rattle.rules.specs.Book.{Book, flow_count, job_count, flow_of, job_of, InRange}

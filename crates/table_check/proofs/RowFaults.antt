@@ -10,7 +10,8 @@ use lib.Dec.{ltb, leb, eqb}
 use borrow.Author.Tests.{le-leb, lt-leb, ltb-true, ltb-false, leb-true}
 use Rattle.rules.specs.declared.Verdict.{Verdict}
 use Rattle.rules.specs.declared.Verdict.TheVariants.{Pass, Refused}
-use Rattle.rules.specs.Walks.{if◌then◌else◌, any_to}
+use Rattle.std.specs.Prelude.{if◌then◌else◌}
+use Rattle.rules.specs.Walks.{any_to}
 use Rattle.rules.specs.Limits.{slots}
 use Rattle.rules.specs.Answers.{first_fault}
 use Rattle.rules.specs.Book.{Book, flow_count, job_count, flow_of, job_of, has_bit, InRange}

@@ -10,7 +10,7 @@ use lib.Seq.{take-suc}
 use lib.Dec.{ltb, eqb}
 use borrow.Author.Tests.{lt-ltb, eq-eqb, ne_eqb, ltb-true, eqb-true, eqb-false, leb-true}
 use Rattle.rules.specs.declared.Verdict.TheVariants.{Pass}
-use Rattle.rules.specs.Walks.{if◌then◌else◌}
+use Rattle.std.specs.Prelude.{if◌then◌else◌}
 use Rattle.rules.specs.Answers.{first_fault}
 use Rattle.rules.specs.Book.{Book, InRange}
 use Rattle.rules.specs.Rows.{Row, sum_where, used_in, is_of, total_of, done_before, finish_of}

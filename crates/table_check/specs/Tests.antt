@@ -1,11 +1,10 @@
 -- What the code tests of a row, in the numbers that it holds: where the row stands in the order, the tests 15 to 18 and 25 by their number, and 19 by
 -- the release and by the slot from which a predecessor is complete. Assumes nothing.
-use Rattle.std.specs.Prelude.{ℕ, zero, suc, ◌+◌, ◌*◌, ◌-◌, ◌%◌, Bool, false, not, ◌&&◌, ◌||◌, List, length, get_or, ltb, leb, eqb}
+use Rattle.std.specs.Prelude.{ℕ, zero, suc, ◌+◌, ◌*◌, ◌-◌, ◌%◌, Bool, false, not, ◌&&◌, ◌||◌, List, length, get_or, ltb, leb, eqb, if◌then◌else◌}
 use Rattle.rules.specs.declared.Verdict.{Verdict}
 use Rattle.rules.specs.declared.Verdict.TheVariants.{Pass, Refused}
 use Rattle.rules.specs.Fields.{byte, field}
 use Rattle.rules.specs.Answers.{none}
-use Rattle.rules.specs.Walks.{if◌then◌else◌}
 use Rattle.rules.specs.Limits.{slots}
 use Rattle.rules.specs.Book.{Book, job_count, flow_of, job_of, has_bit}
 use Rattle.rules.specs.Rows as rules

@@ -1,7 +1,6 @@
 -- What the walk over a table's rows asks and hands back, flow by flow: the first fault of the rows, and where there is none of each flow the
 -- first job whose total differs from its size and the finish, and the work area. A test `opened` tells which slots are open. Assumes nothing.
-use Rattle.std.specs.Prelude.{◌≡◌, ℕ, ◌+◌, ◌*◌, ◌≤◌, ◌<◌, Bool, List, length, get_or, take, eqb}
-use Rattle.rules.specs.Walks.{if◌then◌else◌}
+use Rattle.std.specs.Prelude.{◌≡◌, ℕ, ◌+◌, ◌*◌, ◌≤◌, ◌<◌, Bool, List, length, get_or, take, eqb, if◌then◌else◌}
 use Rattle.rules.specs.declared.Verdict.{Verdict}
 use Rattle.rules.specs.declared.Verdict.TheVariants.{Pass, Refused}
 use Rattle.rules.specs.Answers.{none, ◌and_then◌, first_fault}

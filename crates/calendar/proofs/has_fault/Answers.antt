@@ -4,7 +4,8 @@ use mathlib.Core.Bool.{Bool}
 use Prim.Native.Nat.{ℕ, ◌+◌, ◌*◌}
 use native.Mathlib.Omega.{arith}
 use Rattle.rules.specs.declared.Verdict.TheVariants.{Pass, Refused}
-use Rattle.rules.specs.Walks.{if◌then◌else◌, any_to}
+use Rattle.std.specs.Prelude.{if◌then◌else◌}
+use Rattle.rules.specs.Walks.{any_to}
 use Rattle.rules.specs.Answers.{none}
 use Rattle.rules.specs.Calendar.{calendar_head, window_length, window_fault}
 use Rattle.calendar.proofs.Verdicts.{short-calendar, other_length, other-version, many-windows, other-bytes, windows-left}

@@ -11,7 +11,8 @@ use lib.ListN.{get_or, length, length-append, get_or-append}
 use lib.Seq.{get_or_at}
 use lib.Dec.{ltb, leb, eqb}
 use borrow.Author.Tests.{lt-ltb, le-ltb, le-leb, lt-leb, eq-eqb, ne_eqb}
-use Rattle.rules.specs.Walks.{if◌then◌else◌, sum_to, max_to}
+use Rattle.std.specs.Prelude.{if◌then◌else◌}
+use Rattle.rules.specs.Walks.{sum_to, max_to}
 use Rattle.rules.specs.Book.{Job, Flow, job_count, job_of, precedes, FlowInRange}
 use Rattle.rules.specs.Ideal.{quotient_up, duration, last_take, start_after, ends_below, start_of, end_of, path, take_of}
 use Rattle.rules.proofs.Laws.Division.{lt-or_ge, quotient_up-le, le-quotient_up, quotient_up_pos, quotient_up-eq}

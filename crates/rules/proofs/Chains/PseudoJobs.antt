@@ -10,7 +10,8 @@ use native.Mathlib.Omega.{arith}
 use lib.ListN.{length}
 use lib.Dec.{eqb}
 use borrow.Author.Tests.{eqb-true, eqb-false, eq-eqb, ne_eqb}
-use Rattle.rules.specs.Walks.{if◌then◌else◌, sum_to, bit, count_to}
+use Rattle.std.specs.Prelude.{if◌then◌else◌}
+use Rattle.rules.specs.Walks.{sum_to, bit, count_to}
 use Rattle.rules.specs.Book.{Flow, job_count, job_of}
 use Rattle.rules.specs.Ideal.{start_of, end_of, path, take_of}
 use Rattle.rules.specs.PseudoJobs.{PseudoJob, unchanged, prepend, runs, chain, rate, work, sum_over}

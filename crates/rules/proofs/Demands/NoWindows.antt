@@ -10,7 +10,8 @@ use lib.Dec.{ltb, leb}
 use borrow.Author.Tests.{leb-false}
 use Rattle.rules.specs.declared.Verdict.{Verdict}
 use Rattle.rules.specs.declared.Verdict.TheVariants.{Pass, Refused}
-use Rattle.rules.specs.Walks.{if◌then◌else◌, any_to, list_from}
+use Rattle.std.specs.Prelude.{if◌then◌else◌}
+use Rattle.rules.specs.Walks.{any_to, list_from}
 use Rattle.rules.specs.Fields.{field}
 use Rattle.rules.specs.Answers.{none, ◌and_then◌, first_fault, plan_refused, check_refused, finish_refused}
 use Rattle.rules.specs.Limits.{work_bytes}

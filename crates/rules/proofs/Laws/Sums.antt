@@ -8,7 +8,8 @@ use native.Mathlib.Nat.{add-zero, zero-add, add-suc, add-sub_of_le, sub-add_canc
 use native.Mathlib.Omega.{arith}
 use lib.Dec.{ltb, eqb}
 use borrow.Author.Tests.{lt-ltb, le-ltb, eq-eqb, ne_eqb}
-use Rattle.rules.specs.Walks.{if◌then◌else◌, sum_to, bit, count_to}
+use Rattle.std.specs.Prelude.{if◌then◌else◌}
+use Rattle.rules.specs.Walks.{sum_to, bit, count_to}
 use Rattle.rules.proofs.Laws.Division.{lt-or_ge}
 
 -- congruence, pointwise below n

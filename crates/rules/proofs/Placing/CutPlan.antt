@@ -8,7 +8,8 @@ use native.Mathlib.Omega.{arith}
 use lib.ListN.{drop}
 use lib.Dec.{eqb}
 use borrow.Author.Tests.{eqb-true, eq-eqb}
-use Rattle.rules.specs.Walks.{if◌then◌else◌, join_from}
+use Rattle.std.specs.Prelude.{if◌then◌else◌}
+use Rattle.rules.specs.Walks.{join_from}
 use Rattle.rules.specs.Fields.{bytes_of}
 use Rattle.rules.specs.Book.{Flow, Book, flow_count, job_count, flow_of, usable, InRange}
 use Rattle.rules.specs.PseudoJobs.{PseudoJob}

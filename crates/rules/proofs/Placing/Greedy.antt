@@ -11,7 +11,8 @@ use native.Mathlib.Nat.{mul-pos, mul-le-mul_left, lt-div-mul-add, lt-suc_self}
 use native.Mathlib.Omega.{arith}
 use lib.Dec.{ltb, eqb}
 use borrow.Author.Tests.{eqb-true, eqb-false, ne_eqb, ltb-true, ltb-false}
-use Rattle.rules.specs.Walks.{if◌then◌else◌, sum_to, bit, count_to}
+use Rattle.std.specs.Prelude.{if◌then◌else◌}
+use Rattle.rules.specs.Walks.{sum_to, bit, count_to}
 use Rattle.rules.specs.Book.{Flow}
 use Rattle.rules.specs.Ideal.{quotient_up}
 use Rattle.rules.specs.PseudoJobs.{PseudoJob, chain, rate, work, sum_over}

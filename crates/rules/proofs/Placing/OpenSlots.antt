@@ -9,7 +9,8 @@ use native.Mathlib.Omega.{arith}
 use lib.ListN.{length}
 use lib.Dec.{ltb, leb}
 use borrow.Author.Tests.{le-leb, lt-ltb, le-ltb}
-use Rattle.rules.specs.Walks.{if◌then◌else◌, sum_to, bit}
+use Rattle.std.specs.Prelude.{if◌then◌else◌}
+use Rattle.rules.specs.Walks.{sum_to, bit}
 use Rattle.rules.specs.Limits.{most_reopening, most_deadline, slots}
 use Rattle.rules.specs.Calendar.{Calendar, in_window, is_open, open_before, pass_open, slot_after, window_of, CalendarInRange}
 use Rattle.rules.specs.Book.{Flow, Book, twice_deadline}

@@ -7,7 +7,8 @@ use mathlib.Core.Logic.{◌⊎◌, inl, inr}
 use native.Mathlib.Omega.{arith}
 use lib.Dec.{leb}
 use borrow.Author.Tests.{leb-true, le-leb, lt-leb}
-use Rattle.rules.specs.Walks.{if◌then◌else◌, sum_to, bit, count_to}
+use Rattle.std.specs.Prelude.{if◌then◌else◌}
+use Rattle.rules.specs.Walks.{sum_to, bit, count_to}
 use Rattle.rules.specs.Calendar.{is_open, open_before}
 use Rattle.rules.specs.Book.{Flow, Book, flow_of, usable}
 use Rattle.rules.specs.Rows.{Row, used_in}

@@ -12,7 +12,8 @@ use native.Mathlib.Omega.{arith}
 use lib.ListN.{length, get_or}
 use lib.Dec.{eqb}
 use borrow.Author.Tests.{eqb-true, eq-eqb, ne_eqb}
-use Rattle.rules.specs.Walks.{if◌then◌else◌, sum_to, bit, count_to, any_to}
+use Rattle.std.specs.Prelude.{if◌then◌else◌}
+use Rattle.rules.specs.Walks.{sum_to, bit, count_to, any_to}
 use Rattle.rules.specs.Book.{Flow, Book, flow_count, no_flow, flow_in, lower_caps, flow_of, InRange}
 use Rattle.rules.specs.Service.{served_before, served_at}
 use Rattle.rules.specs.Cut.{among_first, keep_flows, cut, number_in_cut}

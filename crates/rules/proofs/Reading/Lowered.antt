@@ -8,7 +8,7 @@ use lib.ListN.{length, length-map, get_or-map}
 use lib.Dec.{ltb, leb, eqb}
 use borrow.Author.Tests.{le-ltb, ne_eqb}
 use Rattle.rules.specs.declared.Verdict.TheVariants.{Pass, Refused}
-use Rattle.rules.specs.Walks.{if◌then◌else◌}
+use Rattle.std.specs.Prelude.{if◌then◌else◌}
 use Rattle.rules.specs.Fields.{field, AllBytes}
 use Rattle.rules.specs.Limits.{outside, most_processors, most_size, most_cap}
 use Rattle.rules.specs.Book.{Book, flow_count, no_flow, flow_in, lower_cap, lower_caps, flow_of, lowered, job_of, InRange}

@@ -11,7 +11,8 @@ use lib.ListN.{length, length-append}
 use lib.Dec.{eqb}
 use borrow.Author.Tests.{le-ltb, lt-leb, eq-eqb}
 use Rattle.rules.specs.declared.Verdict.TheVariants.{Pass}
-use Rattle.rules.specs.Walks.{if◌then◌else◌, sum_to, list_from, join_from}
+use Rattle.std.specs.Prelude.{if◌then◌else◌}
+use Rattle.rules.specs.Walks.{sum_to, list_from, join_from}
 use Rattle.rules.specs.Fields.{byte, field, bytes_of, AllBytes}
 use Rattle.rules.specs.Limits.{most_jobs, most_cap, most_windows, most_reopening}
 use Rattle.rules.specs.Calendar.{Calendar, calendar_of, calendar_fault, CalendarInRange, window_of, calendar_bytes, calendar_head, window_length, window_at, begins_early, window_fault, no_window, Window, window_bytes}

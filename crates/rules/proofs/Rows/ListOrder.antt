@@ -13,7 +13,8 @@ use mathlib.Core.List.{List, [], ◌∷◌}
 use lib.ListN.{length, get_or}
 use lib.Dec.{ltb, eqb}
 use borrow.Author.Tests.{ltb-true, eqb-true, lt-ltb, eq-eqb}
-use Rattle.rules.specs.Walks.{if◌then◌else◌, bit}
+use Rattle.std.specs.Prelude.{if◌then◌else◌}
+use Rattle.rules.specs.Walks.{bit}
 use Rattle.rules.specs.Book.{Book}
 use Rattle.rules.specs.Rows.{Row, sum_where}
 use Rattle.rules.specs.Check.{no_row}

@@ -11,7 +11,8 @@ use native.Mathlib.Omega.{arith}
 use mathlib.Core.List.Memᴰ
 use mathlib.Core.List.{List, [], ◌∷◌, ◌++◌, Memᴰ}
 use lib.ListN.{length, get_or}
-use Rattle.rules.specs.Walks.{if◌then◌else◌, join_from}
+use Rattle.std.specs.Prelude.{if◌then◌else◌}
+use Rattle.rules.specs.Walks.{join_from}
 use Rattle.rules.proofs.Laws.Walks.{last_or, join_last}
 
 -- x is an element of a list

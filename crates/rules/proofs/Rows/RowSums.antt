@@ -13,7 +13,8 @@ use lib.ListN.{length, take, get_or}
 use lib.Seq.{take-suc}
 use lib.Dec.{ltb, eqb}
 use borrow.Author.Tests.{eqb-true, lt-ltb, le-ltb, eq-eqb, ne_eqb}
-use Rattle.rules.specs.Walks.{if◌then◌else◌, sum_to}
+use Rattle.std.specs.Prelude.{if◌then◌else◌}
+use Rattle.rules.specs.Walks.{sum_to}
 use Rattle.rules.specs.Book.{Book, flow_count, job_count, flow_of}
 use Rattle.rules.specs.Rows.{Row, sum_where, used_in, is_of, total_of, done_before, finish_of}
 use Rattle.rules.specs.Schedule.{in_use, EndsBy, schedule_of}

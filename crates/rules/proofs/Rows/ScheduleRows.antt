@@ -11,7 +11,8 @@ use native.Mathlib.Omega.{arith}
 use mathlib.Core.List.Memᴰ
 use mathlib.Core.List.{List, [], ◌∷◌}
 use lib.ListN.{length}
-use Rattle.rules.specs.Walks.{if◌then◌else◌, join_from}
+use Rattle.std.specs.Prelude.{if◌then◌else◌}
+use Rattle.rules.specs.Walks.{join_from}
 use Rattle.rules.specs.Limits.{slots, most_jobs, most_flows}
 use Rattle.rules.specs.Book.{Book, flow_count, job_count, flow_of, InRange}
 use Rattle.rules.specs.Service.{served_at}

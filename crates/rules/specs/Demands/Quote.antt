@@ -1,6 +1,6 @@
 -- What may be quoted of a finish, and that appended flows change nothing before them (02, Req 08). Assumes nothing.
-use Rattle.std.specs.Prelude.{◌≡◌, ℕ, ◌≤◌, ◌<◌, true, List, length, take}
-use Rattle.rules.specs.Walks.{sum_to, if◌then◌else◌}
+use Rattle.std.specs.Prelude.{◌≡◌, ℕ, ◌≤◌, ◌<◌, true, List, length, take, if◌then◌else◌}
+use Rattle.rules.specs.Walks.{sum_to}
 use Rattle.rules.specs.Limits.{work_bytes}
 use Rattle.rules.specs.Calendar.{open_before}
 use Rattle.rules.specs.Book.{Flow, Book, flow_count, job_count, flow_of, job_of, twice_deadline}
