@@ -135,7 +135,7 @@ pub fn ideal_of(
     firsts: &mut [u32],
 ) -> u32
     requires { ChainInput (flow_held head sizes.now caps.now predecessors.now) × (head.jobs ≤ length sizes.now) × (head.jobs ≤ length caps.now) × (head.jobs ≤ length predecessors.now) × (head.jobs ≤ length starts.old) × (head.jobs ≤ length all.old) × (head.jobs ≤ length last.old) × (head.jobs ≤ length firsts.old) }
-    ensures { IdealOf (flow_from (flow_held head sizes.now caps.now predecessors.now)) (record { starts = starts.exit.now; ends = all.new; lasts = last.new; firsts = firsts.new; path = result }) }
+    ensures { IdealOf (flow_from (flow_held head sizes.now caps.now predecessors.now)) (record { starts = starts.new; ends = all.new; lasts = last.new; firsts = firsts.new; path = result }) }
 {
     let count = head.jobs as usize;
     let mut slots = [0u32; 64];
