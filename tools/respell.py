@@ -24,6 +24,7 @@ APART = {
     "times-in": "times_in_lem", "so-far": "so_far_lem", "no-job": "no_job_is", "no-windows": "no_windows_is", "offset-after": "offset_after_is", "open-before": "open_before_is",
     "slot-after": "slot_after_is", "table-length": "table_length_is", "up-to-named": "up_to_named_is", "work-up-to": "work_up_to_is", "tooLong": "list_too_long",
 }
+APART["inARow"] = "jobs_in_a_row"
 ALWAYS = {"capMost": "cap_limit"}
 APART.update(ALWAYS)
 # Local names of a file that would hide a definition there.
@@ -157,6 +158,9 @@ def main():
         proof = walked(path)
         names = {a: b for a, b in new.items() if not (proof and a in made and "-" in a and not re.search(r"\{[^}]*(?<![\w-])" + re.escape(a) + r"(?![\w-])", old))}
         names.update(LOCAL.get(path, {}))
+        # the other lemma of that name: the length of a list that a walk makes
+        if path.endswith("/Laws/Walks.antt") or re.search(r"Laws\.Walks\.\{[^}]*(?<![\w-])list_length(?![\w-])", old):
+            names["list_length"] = "length-list_from"
         if path.endswith(".rt"):
             for line in old.split("\n"):
                 if line.startswith("ghost use "):

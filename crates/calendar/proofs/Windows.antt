@@ -14,7 +14,7 @@ use Rattle.rules.specs.Walks.{list_from}
 use Rattle.rules.specs.Limits.{most_windows, most_reopening}
 use Rattle.rules.specs.Calendar.{Window, in_window, is_open, no_window, window_of, CalendarInRange}
 use Rattle.rules.proofs.Laws.Division.{lt-or_ge}
-use Rattle.rules.proofs.Laws.Walks.{length-in_list_order, list-at-zero}
+use Rattle.rules.proofs.Laws.Walks.{length-list_from, list-at-zero}
 use Rattle.calendar.specs.declared.Calendar.{Calendar}
 use Rattle.calendar.specs.Held.{held_window, held_windows}
 
@@ -50,7 +50,7 @@ module _ (x : Calendar) where
 
   held-count : length (held_windows x) ≡ x.count
   unfolding held_windows
-  held-count = length-in_list_order (held_window x) x.count 0
+  held-count = length-list_from (held_window x) x.count 0
 
   held_at : (k : ℕ) → k < x.count → window_of (held_windows x) k ≡ held_window x k
   unfolding held_windows window_of

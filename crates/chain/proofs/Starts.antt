@@ -14,7 +14,7 @@ use Rattle.rules.specs.Walks.{sum_to, max_to}
 use Rattle.rules.specs.Book.{Job, Flow, JobInRange, FlowInRange, job_count, job_of, no_job, has_bit, precedes}
 use Rattle.rules.specs.Ideal.{duration, last_take, start_after, start_of, end_of, ends_below, path, take_of}
 use Rattle.rules.proofs.Laws.Sums.{sum-le}
-use Rattle.rules.proofs.Laws.Walks.{last_or, max_ext, max_least, length-in_list_order, list_at}
+use Rattle.rules.proofs.Laws.Walks.{last_or, max_ext, max_least, length-list_from, list_at}
 use Rattle.rules.proofs.Chains.Ideal.{ends-length, ends_at, end_is_start_plus-duration, start_is_largest_end, duration_is-least, duration-positive, size-left, take-within-cap, Sized}
 use Rattle.book.specs.Promise.{FlowJobs, flow_from}
 use Rattle.chain.specs.declared.Lasting.{Lasting}
@@ -26,7 +26,7 @@ module _ (x : FlowJobs) where
   -- as many jobs
   pub count_of : job_count (flow_from x) ≡ x.count
   unfolding flow_from
-  count_of = length-in_list_order _ x.count 0
+  count_of = length-list_from _ x.count 0
 
   -- .. and the same ones
   pub job-at : (i : ℕ) → i < x.count → job_of (flow_from x) i ≡ job_of_values x i

@@ -15,7 +15,7 @@ use borrow.Author.Tests.{leb-false, le-leb, lt-leb, eqb-true, eq-eqb, ne_eqb}
 use Rattle.std.specs.Prelude.{if◌then◌else◌}
 use Rattle.rules.specs.Walks.{list_from}
 use Rattle.rules.specs.Fields.{byte, field}
-use Rattle.rules.proofs.Laws.Walks.{last_or, length-in_list_order}
+use Rattle.rules.proofs.Laws.Walks.{last_or, length-list_from}
 use Rattle.rules.proofs.Laws.Division.{lt-or_ge}
 use Rattle.rules.proofs.Laws.Fields.{sets-append}
 use Rattle.dispatch.specs.Runs.{part, due_at, WholeRows, RunOf, RunTo, RunAsked, Copied, RunCopied}
@@ -34,7 +34,7 @@ pub copies-append : (out s : List ℕ) (to from m n : ℕ) →
     sets (sets out to (part s from m)) (to + m) (part s (from + m) n) ≡ sets out to (part s from (m + n))
 unfolding part
 copies-append out s to from m n =
-    let l : to + m ≡ to + length (list_from (byte s) m from) = ap (to +◌) (sym (length-in_list_order (byte s) m from)) in
+    let l : to + m ≡ to + length (list_from (byte s) m from) = ap (to +◌) (sym (length-list_from (byte s) m from)) in
     rw (l, sets-append, list-split) refl
 
 -- and of one more byte

@@ -14,7 +14,7 @@ use Rattle.rules.specs.Reading.{book_of}
 use Rattle.rules.specs.Rows.{Row, used_in}
 use Rattle.rules.specs.Table.{table_head, row_length, rows_bytes, row_at}
 use Rattle.rules.specs.Check.{no_row}
-use Rattle.rules.proofs.Laws.Walks.{length-in_list_order, list_at}
+use Rattle.rules.proofs.Laws.Walks.{length-list_from, list_at}
 use Rattle.rules.proofs.Laws.Fields.{StandsAt, field_lt}
 use Rattle.rules.proofs.Reading.Passing.{pass_in-range}
 use Rattle.rules.proofs.Rows.Rising.{Rising}
@@ -108,7 +108,7 @@ module _ (book table : List ℕ) (accepted : Accepted book table) where
   unfolding part StandsAt
   rows-part bytes c n l =
       ext_get_or 0 (list_from (byte table) (row_length * n) (table_head b + row_length * c)) (rows_bytes (take n (drop c rows)))
-      (length-in_list_order (byte table) (row_length * n) (table_head b + row_length * c) ∙ sym long) each
+      (length-list_from (byte table) (row_length * n) (table_head b + row_length * c) ∙ sym long) each
     where
       these : List Row
       these = list_from (λ j. row_at table (table_head b + row_length * j)) n c
@@ -116,7 +116,7 @@ module _ (book table : List ℕ) (accepted : Accepted book table) where
       same : take n (drop c rows) ≡ these
       same =
           ext_get_or no_row (take n (drop c rows)) these
-          (length-take-le n (drop c rows) (rw (length-drop c rows) (omega arith)) ∙ sym (length-in_list_order (λ j. row_at table (table_head b + row_length * j)) n c))
+          (length-take-le n (drop c rows) (rw (length-drop c rows) (omega arith)) ∙ sym (length-list_from (λ j. row_at table (table_head b + row_length * j)) n c))
           at
         where
           at : (i : ℕ) → i < length (take n (drop c rows)) → get_or (take n (drop c rows)) i no_row ≡ get_or these i no_row
@@ -133,7 +133,7 @@ module _ (book table : List ℕ) (accepted : Accepted book table) where
       each : (i : ℕ) → i < length (list_from (byte table) (row_length * n) (table_head b + row_length * c)) →
           byte (list_from (byte table) (row_length * n) (table_head b + row_length * c)) i ≡ byte (rows_bytes (take n (drop c rows))) i
       each i h =
-          let m : i < row_length * n = omega (arith, length-in_list_order (byte table) (row_length * n) (table_head b + row_length * c)) in
+          let m : i < row_length * n = omega (arith, length-list_from (byte table) (row_length * n) (table_head b + row_length * c)) in
           list_at (byte table) (row_length * n) (table_head b + row_length * c) i 0 m
           ∙ rows-read table (table_head b) n c bytes i (rw same at (rw (sym long) at m))
           ∙ ap (λ (r : List Row). byte (rows_bytes r) i) (sym same)

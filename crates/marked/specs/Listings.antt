@@ -155,8 +155,8 @@ flow_l = record { deadline = 8; release = 0; jobs = record { size = 9; cap = 4; 
 
 -- flows whose chains are marked: n jobs of one size and cap, each after the one before; and three jobs, of which the last begins where the first has ended
 -- and the second takes one less, so that the takes change and the rate does not
-abbrev pub in_aRow : ℕ → ℕ → ℕ → Flow
-in_aRow n size cap = record { deadline = 4096; release = 0; jobs = list_from (λ i. record { size = size; cap = cap; predecessors = 2 ^ i / 2 }) n 0 }
+abbrev pub jobs_in_a_row : ℕ → ℕ → ℕ → Flow
+jobs_in_a_row n size cap = record { deadline = 4096; release = 0; jobs = list_from (λ i. record { size = size; cap = cap; predecessors = 2 ^ i / 2 }) n 0 }
 
 abbrev pub equal_rates : Flow
 equal_rates = record {

@@ -44,7 +44,7 @@ use Rattle.marked.specs.Listings.{
   rows_k,
   book_l,
   flow_l,
-  in_aRow,
+  jobs_in_a_row,
   equal_rates,
   out,
   area,
@@ -57,14 +57,14 @@ run first width = record { first = first; width = width }
 
 pub record MarkedChains : Type 0 where
   -- "A flow of n jobs has at most 2 × n of them": five jobs of size 3 and cap 2 have ten, with rates 2 and 1 in turn
-  pub in_a_row : chain (in_aRow 5 3 2) ≡ list_from (λ u. run u 1) 10 0
-  pub in_a_row_rates : list_from (λ u. rate (in_aRow 5 3 2) (run u 1)) 10 0 ≡ 2 ∷ 1 ∷ 2 ∷ 1 ∷ 2 ∷ 1 ∷ 2 ∷ 1 ∷ 2 ∷ 1 ∷ []
+  pub in_a_row : chain (jobs_in_a_row 5 3 2) ≡ list_from (λ u. run u 1) 10 0
+  pub in_a_row_rates : list_from (λ u. rate (jobs_in_a_row 5 3 2) (run u 1)) 10 0 ≡ 2 ∷ 1 ∷ 2 ∷ 1 ∷ 2 ∷ 1 ∷ 2 ∷ 1 ∷ 2 ∷ 1 ∷ []
   -- "every job's take is unchanged": from slot 0 to slot 1 the rate stays 4, and a new pseudo-job begins
   pub equal_rates_is : chain equal_rates ≡ run 0 1 ∷ run 1 1 ∷ run 2 1 ∷ []
   pub equal_rates_rates : list_from (λ u. rate equal_rates (run u 1)) 3 0 ≡ 4 ∷ 4 ∷ 2 ∷ []
   pub equal_rates_takes : list_from (λ u. list_from (λ i. take_of equal_rates i u) 3 0) 3 0 ≡ (1 ∷ 3 ∷ 0 ∷ []) ∷ (0 ∷ 2 ∷ 2 ∷ []) ∷ (0 ∷ 0 ∷ 2 ∷ []) ∷ []
   -- the longest path
-  pub longest_path : path (in_aRow 64 1000000 1) ≡ 64000000
+  pub longest_path : path (jobs_in_a_row 64 1000000 1) ≡ 64000000
 
 -- the dispatch lists (02, Req 03)
 pub record MarkedLists : Type 0 where

@@ -2,7 +2,7 @@
 // its input. `main`, which reads, calls it and writes, has no contract: it is proved to be safe and to end, and nothing
 // says what it reads or writes. A read that fails counts as the end of the input; a book states its length, so one that
 // is cut short by it is turned down by 1. A write that fails is told in a line on standard error. The exit status is 0
-// in either case: a Rattle program cannot set it.
+// in either case.
 #![tactic(auto)]
 
 ghost use Rattle.std.specs.Prelude.{◌≡◌, ◌≤◌, length};

@@ -10,13 +10,13 @@ use Rattle.rules.specs.Book.{Book}
 use Rattle.rules.specs.Rows.{Row}
 use Rattle.rules.specs.Table.{table_head, row_length, row_at}
 use Rattle.rules.specs.Check.{no_row, table_rows, table_head_fault}
-use Rattle.rules.proofs.Laws.Walks.{length-in_list_order, list_at}
+use Rattle.rules.proofs.Laws.Walks.{length-list_from, list_at}
 use Rattle.rules.proofs.Tables.TableBytes.{head_passes}
 use Rattle.table_check.specs.Tally.{rows_to, Reached}
 
 pub rows-length : (b : Book) (s : List ℕ) → length (table_rows b s) ≡ (length s - table_head b) / row_length
 unfolding table_rows
-rows-length b s = length-in_list_order (λ k. row_at s (table_head b + row_length * k)) ((length s - table_head b) / row_length) 0
+rows-length b s = length-list_from (λ k. row_at s (table_head b + row_length * k)) ((length s - table_head b) / row_length) 0
 
 pub row-at : (b : Book) (s : List ℕ) (k : ℕ) → k < length (table_rows b s) → get_or (table_rows b s) k no_row ≡ row_at s (table_head b + row_length * k)
 unfolding table_rows

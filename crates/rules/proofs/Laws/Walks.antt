@@ -119,10 +119,10 @@ any_met q (suc n) e = go (q n) refl (any_met q n)
         other false z = sym z
 
 -- ---- lists
-pub length-in_list_order {ℓ} : {A : Type ℓ} (g : ℕ → A) (n s : ℕ) → length (list_from g n s) ≡ n
+pub length-list_from {ℓ} : {A : Type ℓ} (g : ℕ → A) (n s : ℕ) → length (list_from g n s) ≡ n
 unfolding list_from
-length-in_list_order g zero s = refl
-length-in_list_order g (suc n) s = ap suc (length-in_list_order g n (s + 1))
+length-list_from g zero s = refl
+length-list_from g (suc n) s = ap suc (length-list_from g n (s + 1))
 
 pub list_at {ℓ} : {A : Type ℓ} (g : ℕ → A) (n s i : ℕ) (d : A) → i < n → get_or (list_from g n s) i d ≡ g (s + i)
 unfolding list_from
@@ -176,7 +176,7 @@ list-at-zero g n i d h = list_at g n 0 i d h ∙ ap g (zero-add i)
 -- a list is what a walk makes of its elements
 pub list_of {ℓ} : {A : Type ℓ} (g : ℕ → A) (n : ℕ) (xs : List A) (d : A) → n ≡ length xs → ((i : ℕ) → i < length xs → g i ≡ get_or xs i d) → list_from g n 0 ≡ xs
 list_of g n xs d e h =
-    let as_many : length (list_from g n 0) ≡ length xs = length-in_list_order g n 0 ∙ e in
+    let as_many : length (list_from g n 0) ≡ length xs = length-list_from g n 0 ∙ e in
     ext_get_or d (list_from g n 0) xs as_many (λ i l. list-at-zero g n i d (omega arith) ∙ h i (omega arith))
 
 pub join-length-zero {ℓ} : {A : Type ℓ} (g : ℕ → List A) (n : ℕ) → length (join_from g n 0) ≡ sum_to (λ k. length (g k)) n

@@ -19,13 +19,13 @@ use Rattle.rules.specs.Calendar.{Calendar, CalendarInRange, calendar_head, windo
 use Rattle.rules.specs.Book.{Book, with_calendar, flow_count, job_count, no_flow, no_job, flow_in, job_of, JobInRange, FlowInRange, InRange}
 use Rattle.rules.specs.Reading.{book_head, version_of, flow_head, job_record, release_at, jobs_at, flow_start, job_start, job_at, flow_at, book_of, flow_head_fault, job_fault, flow_fault, leftover_fault, book_fault, book_with, reading_of, read_book}
 use Rattle.rules.specs.Reading.Reading.{read}
-use Rattle.rules.proofs.Laws.Walks.{or_cases, length-in_list_order, list-at-zero, any_none}
+use Rattle.rules.proofs.Laws.Walks.{or_cases, length-list_from, list-at-zero, any_none}
 use Rattle.rules.proofs.Laws.Faults.{not-pass, both-pass, fault-pass, all_pass}
 
 -- ---- the values of the book that bytes hold
 pub flow-count : (s : List ℕ) → flow_count (book_of s) ≡ byte s 7
 unfolding book_of
-flow-count s = length-in_list_order (λ f. flow_at s (flow_start s f)) (byte s 7) 0
+flow-count s = length-list_from (λ f. flow_at s (flow_start s f)) (byte s 7) 0
 
 pub flow_in_book : (s : List ℕ) (f : ℕ) → f < byte s 7 → flow_in (book_of s) f ≡ flow_at s (flow_start s f)
 unfolding book_of flow_in
@@ -33,7 +33,7 @@ flow_in_book s f h = list-at-zero (λ g. flow_at s (flow_start s g)) (byte s 7) 
 
 pub job-count : (s : List ℕ) (at : ℕ) → job_count (flow_at s at) ≡ jobs_at s at
 unfolding flow_at
-job-count s at = length-in_list_order (λ i. job_at s (job_start s at i)) (jobs_at s at) 0
+job-count s at = length-list_from (λ i. job_at s (job_start s at i)) (jobs_at s at) 0
 
 pub job_of-flow : (s : List ℕ) (at i : ℕ) → i < jobs_at s at → job_of (flow_at s at) i ≡ job_at s (job_start s at i)
 unfolding flow_at job_of
@@ -248,7 +248,7 @@ calendar_passes s e =
 
 pub window-count : (s : List ℕ) → length (calendar_of s) ≡ byte s 5
 unfolding calendar_of
-window-count s = length-in_list_order (window_at s) (byte s 5) 0
+window-count s = length-list_from (window_at s) (byte s 5) 0
 
 pub window_in-calendar : (s : List ℕ) (k : ℕ) → k < byte s 5 → window_of (calendar_of s) k ≡ window_at s k
 unfolding calendar_of window_of

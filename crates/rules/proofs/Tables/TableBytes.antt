@@ -18,7 +18,7 @@ use Rattle.rules.specs.Book.{Book, flow_count, InRange}
 use Rattle.rules.specs.Rows.{Row, finish_of}
 use Rattle.rules.specs.Table.{table_head, row_length, table_length, row_bytes, rows_bytes, table_bytes, finish_in, row_at}
 use Rattle.rules.specs.Check.{no_row, table_rows, table_head_fault}
-use Rattle.rules.proofs.Laws.Walks.{length-in_list_order, list-at-zero}
+use Rattle.rules.proofs.Laws.Walks.{length-list_from, list-at-zero}
 use Rattle.rules.proofs.Laws.Fields.{bytes-length, field_lt, StandsAt, stands-whole, stands-first, stands_after, stands_empty, stands-append, stands-equal, field-written, byte-written, field-read, byte-read, join-bytes-length, join_stands, stands_join-at}
 use Rattle.rules.proofs.Reading.Passing.{test-passed, neither_true}
 use Rattle.rules.proofs.Rows.Rising.{◌∈◌, first_in, in-at}
@@ -222,7 +222,7 @@ table-rows-fit b s h r m =
     let at : ℕ → ℕ = λ k. table_head b + row_length * k in
     let n = (length s - table_head b) / row_length in
     let w = in-at no_row m in
-    let k : w.0 < n = omega (arith, w.1, length-in_list_order (λ j. row_at s (at j)) n 0) in
+    let k : w.0 < n = omega (arith, w.1, length-list_from (λ j. row_at s (at j)) n 0) in
     subst RowFits (sym (list-at-zero (λ j. row_at s (at j)) n w.0 no_row k) ∙ w.2) (row-at-fits s (at w.0) h)
 
 -- what the test of the head leaves
@@ -257,7 +257,7 @@ head_passes b s pass =
 pub tables-length : (b : Book) (s : List ℕ) → HeadPasses b s → table_length b (table_rows b s) ≡ length s
 unfolding table_length table_rows
 tables-length b s h =
-    omega (arith, h.head_whole, h.rows_whole, length-in_list_order (λ k. row_at s (table_head b + row_length * k)) ((length s - table_head b) / row_length) 0)
+    omega (arith, h.head_whole, h.rows_whole, length-list_from (λ k. row_at s (table_head b + row_length * k)) ((length s - table_head b) / row_length) 0)
 
 rows-stand-there : (b : Book) (s : List ℕ) → AllBytes s → StandsAt s (table_head b) (rows_bytes (table_rows b s))
 unfolding table_rows
