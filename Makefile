@@ -23,7 +23,8 @@ bench:
 	cd tests && cargo run --release --offline --quiet --bin bench_dispatch
 	cd tests && cargo run --release --offline --quiet --bin bench_finish
 
-# This library beside that of an earlier commit: make bench-between BEFORE=COMMIT. The calls of one from before Req 07 take no calendar.
+# This library beside that of an earlier commit that has `make library`: make bench-between BEFORE=COMMIT. The calls of one from before Req 07 take no
+# calendar.
 SHARED = cc -shared -Wl,-u,flowplan_plan -Wl,-u,flowplan_check
 bench-between:
 	@test -n "$(BEFORE)" || { echo "make bench-between BEFORE=COMMIT"; exit 2; }
