@@ -12,10 +12,9 @@ loop-k-init c = (omega arith, none_yet _)
 
 pub returns-then-window_fault : goal.returns-then-window_fault
 returns-then-window_fault c =
-    let turn = c in
-    let l = turn.loop-k in
-    let a = turn.args in
-    sym (any_true (window_fault a.calendar.now) a.count l.k turn.loop-k-test.true (sym c.window_fault.ensures ∙ c.if-window_fault.true))
+    let l = c.loop-k in
+    let a = c.args in
+    sym (any_true (window_fault a.calendar.now) a.count l.k c.loop-k-test.true (sym c.window_fault.ensures ∙ c.if-window_fault.true))
 
 pub loop-k-preserved : goal.loop-k-preserved
 loop-k-preserved c =

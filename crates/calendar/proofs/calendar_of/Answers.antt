@@ -9,13 +9,11 @@ use Rattle.calendar.proofs.calendar_of.Goals as goal
 
 pub bounds-calendar-5 : goal.bounds-calendar-5
 bounds-calendar-5 c =
-    let entry = c in
-    omega (arith, (calendar_passes entry.args.calendar.now entry.requires).calendar_whole)
+    omega (arith, (calendar_passes c.args.calendar.now c.requires).calendar_whole)
 
 pub loop-k-init : goal.loop-k-init
 loop-k-init c =
-    let entry = c in
-    let p = calendar_passes entry.args.calendar.now entry.requires in
+    let p = calendar_passes c.args.calendar.now c.requires in
     let n = c.wide-count.ensures.0 in
     (n, omega (arith, p.windows_to), omega (arith, p.calendar_bytes_is), omega arith, filled_none _ _, filled_none _ _)
 
@@ -33,7 +31,6 @@ loop-k-preserved c =
 
 pub returns : goal.returns
 returns c =
-    let entry = c in
     let l = c.loop-k in
     let e : l.k ≡ c.wide-count.result = omega arith in
-    record { passes = entry.requires; windows = windows_filled entry.args.calendar.now _ l.invariant.0 (rw e at l.invariant.4) (rw e at l.invariant.5) }
+    record { passes = c.requires; windows = windows_filled c.args.calendar.now _ l.invariant.0 (rw e at l.invariant.4) (rw e at l.invariant.5) }

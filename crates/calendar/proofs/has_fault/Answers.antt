@@ -16,41 +16,27 @@ returns-then-calendar-lt6 c = short-calendar c.args.calendar.now c.if-calendar-l
 
 pub returns-then-read32-calendar : goal.returns-then-read32-calendar
 returns-then-read32-calendar c =
-    let whole = c in
-    other_length whole.args.calendar.now whole.if-calendar-lt6.false (λ e. c.if-read32-calendar.true (c.read32.ensures ∙ e))
+    other_length c.args.calendar.now c.if-calendar-lt6.false (λ e. c.if-read32-calendar.true (c.read32.ensures ∙ e))
 
 pub returns-then-calendar-ne1 : goal.returns-then-calendar-ne1
 returns-then-calendar-ne1 c =
-    let fits = c in
-    let whole = fits in
-    other-version whole.args.calendar.now whole.if-calendar-lt6.false (sym fits.read32.ensures ∙ fits.if-read32-calendar.false) c.if-calendar-ne1.true
+    other-version c.args.calendar.now c.if-calendar-lt6.false (sym c.read32.ensures ∙ c.if-read32-calendar.false) (λ e. c.if-calendar-ne1.true (omega (arith, e)))
 
 pub returns-then-count-gt32 : goal.returns-then-count-gt32
 returns-then-count-gt32 c =
-    let version = c in
-    let fits = version in
-    let whole = fits in
-    many-windows whole.args.calendar.now whole.if-calendar-lt6.false (sym fits.read32.ensures ∙ fits.if-read32-calendar.false) version.if-calendar-ne1.false
+    many-windows c.args.calendar.now c.if-calendar-lt6.false (sym c.read32.ensures ∙ c.if-read32-calendar.false) (omega (arith, c.if-calendar-ne1.false))
     (omega (arith, c.if-count-gt32.true, c.wide-count.ensures.0))
 
 pub returns-then-calendar-count : goal.returns-then-calendar-count
 returns-then-calendar-count c =
-    let few = c in
-    let version = few in
-    let fits = version in
-    let whole = fits in
-    let count = few.wide-count.ensures.0 in
-    other-bytes whole.args.calendar.now whole.if-calendar-lt6.false (sym fits.read32.ensures ∙ fits.if-read32-calendar.false) version.if-calendar-ne1.false
-    (omega (arith, few.if-count-gt32.false, count)) (λ e. c.if-calendar-count.true (e ∙ ap (λ (n : ℕ). calendar_head + window_length * n) (sym count)))
+    let count = c.wide-count.ensures.0 in
+    other-bytes c.args.calendar.now c.if-calendar-lt6.false (sym c.read32.ensures ∙ c.if-read32-calendar.false) (omega (arith, c.if-calendar-ne1.false))
+    (omega (arith, c.if-count-gt32.false, count)) (λ e. c.if-calendar-count.true (e ∙ ap (λ (n : ℕ). calendar_head + window_length * n) (sym count)))
 
 pub returns : goal.returns
 returns c =
-    let few = c in
-    let version = few in
-    let fits = version in
-    let whole = fits in
-    let count = few.wide-count.ensures.0 in
-    let s = whole.args.calendar.now in
-    windows-left s whole.if-calendar-lt6.false (sym fits.read32.ensures ∙ fits.if-read32-calendar.false) version.if-calendar-ne1.false
-    (omega (arith, few.if-count-gt32.false, count)) (c.if-calendar-count.false ∙ ap (λ (n : ℕ). calendar_head + window_length * n) count)
+    let count = c.wide-count.ensures.0 in
+    let s = c.args.calendar.now in
+    windows-left s c.if-calendar-lt6.false (sym c.read32.ensures ∙ c.if-read32-calendar.false) (omega (arith, c.if-calendar-ne1.false))
+    (omega (arith, c.if-count-gt32.false, count)) (c.if-calendar-count.false ∙ ap (λ (n : ℕ). calendar_head + window_length * n) count)
     ∙ ap (λ (t : Bool). if t then Refused 24 none none else Pass) (sym (c.any_window_fault.ensures ∙ ap (any_to (window_fault s)) count))

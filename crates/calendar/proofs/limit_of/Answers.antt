@@ -16,37 +16,33 @@ overflow_mul-limit c = let a = c.args in omega (arith, c.open_before-limit.ensur
 
 pub loop-k-init : goal.loop-k-init
 loop-k-init c =
-    let entry = c in
-    let x = entry.args.x in
-    let d = entry.args.deadline in
+    let x = c.args.x in
+    let d = c.args.deadline in
     let twice = ap (λ (n : ℕ). 2 * n) c.open_before-limit.ensures in (
       omega arith,
-      count_most x entry.requires.0,
+      count_most x c.requires.0,
       omega (arith, twice, open_most (held_windows x) d),
       rw twice (reached-none x (2 * open_before (held_windows x) d)),
     )
 
 pub past_window-limit-requires : goal.past_window-limit-requires
 past_window-limit-requires c =
-    let entry = c in
     let l = c.loop-k in
-    (l.invariant.2, shut-first entry.args.x entry.requires.0 l.k (omega arith))
+    (l.invariant.2, shut-first c.args.x c.requires.0 l.k (omega arith))
 
 pub loop-k-preserved : goal.loop-k-preserved
 loop-k-preserved c =
-    let entry = c in
-    let x = entry.args.x in
-    let d = entry.args.deadline in
+    let x = c.args.x in
+    let d = c.args.deadline in
     let l = c.loop-k in
     let next : Reached (first_windows x (l.k + 1)) (2 * open_before (held_windows x) d) c.past_window-limit.result =
-    rw c.past_window-limit.ensures (reached-next x entry.requires.0 l.k (omega arith) (2 * open_before (held_windows x) d) l.limit l.invariant.3) in
-    (omega arith, l.invariant.1, reached_most x entry.requires.0 d entry.requires.1 (l.k + 1) c.past_window-limit.result (omega arith) next, next)
+    rw c.past_window-limit.ensures (reached-next x c.requires.0 l.k (omega arith) (2 * open_before (held_windows x) d) l.limit l.invariant.3) in
+    (omega arith, l.invariant.1, reached_most x c.requires.0 d c.requires.1 (l.k + 1) c.past_window-limit.result (omega arith) next, next)
 
 pub returns : goal.returns
 returns c =
-    let entry = c in
-    let x = entry.args.x in
-    let d = entry.args.deadline in
+    let x = c.args.x in
+    let d = c.args.deadline in
     let l = c.loop-k in
     let all = subst (λ (w : List Window). Reached w (2 * open_before (held_windows x) d) l.limit) (first-all x {k = l.k} (omega arith)) l.invariant.3 in
-    (reached-all x entry.requires.0 d entry.requires.1 l.limit l.invariant.2 all, l.invariant.2)
+    (reached-all x c.requires.0 d c.requires.1 l.limit l.invariant.2 all, l.invariant.2)

@@ -13,22 +13,19 @@ loop-k-init c = let a = c.args in (omega arith, count_most a.x c.requires, sym (
 
 pub shut_before-n-requires : goal.shut_before-n-requires
 shut_before-n-requires c =
-    let entry = c in
-    shut-first entry.args.x entry.requires c.loop-k.k (omega arith)
+    shut-first c.args.x c.requires c.loop-k.k (omega arith)
 
 pub overflow_sub-n : goal.overflow_sub-n
 overflow_sub-n c =
-    let entry = c in
     let l = c.loop-k in
-    omega (arith, l.invariant.2, c.shut_before-n.ensures, count_next entry.args.x entry.requires l.k (omega arith) entry.args.slot)
+    omega (arith, l.invariant.2, c.shut_before-n.ensures, count_next c.args.x c.requires l.k (omega arith) c.args.slot)
 
 pub loop-k-preserved : goal.loop-k-preserved
 loop-k-preserved c =
-    let entry = c in
     let l = c.loop-k in (
       omega arith,
       l.invariant.1,
-      omega (arith, l.invariant.2, c.shut_before-n.ensures, count_next entry.args.x entry.requires l.k (omega arith) entry.args.slot),
+      omega (arith, l.invariant.2, c.shut_before-n.ensures, count_next c.args.x c.requires l.k (omega arith) c.args.slot),
     )
 
 pub returns : goal.returns

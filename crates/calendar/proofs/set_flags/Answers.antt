@@ -16,21 +16,19 @@ use Rattle.calendar.proofs.set_flags.Goals as goal
 
 pub loop-k-init : goal.loop-k-init
 loop-k-init c =
-    let entry = c in
-    let x = entry.args.x in (
+    let x = c.args.x in (
       omega arith,
-      count_most x entry.requires.0,
-      ap length entry.requires.1 ∙ length-replicate {A = ℕ} most_reopening 0,
+      count_most x c.requires.0,
+      ap length c.requires.1 ∙ length-replicate {A = ℕ} most_reopening 0,
       refl,
-      λ t. ap (λ (l : List ℕ). open_by l t) entry.requires.1 ∙ unset_open most_reopening t ∙ sym (none-shut x t),
+      λ t. ap (λ (l : List ℕ). open_by l t) c.requires.1 ∙ unset_open most_reopening t ∙ sym (none-shut x t),
     )
 
 pub flag_window-requires : goal.flag_window-requires
 flag_window-requires c =
-    let entry = c in
     let l = c.loop-k in
-    let x = entry.args.x in
-    (omega (arith, shut-first x entry.requires.0 l.k (omega arith)), omega (arith, reopening_most x entry.requires.0 l.k (omega arith)))
+    let x = c.args.x in
+    (omega (arith, shut-first x c.requires.0 l.k (omega arith)), omega (arith, reopening_most x c.requires.0 l.k (omega arith)))
 
 pub loop-k-preserved : goal.loop-k-preserved
 loop-k-preserved c =

@@ -14,16 +14,14 @@ use Rattle.calendar.proofs.set_shut.Goals as goal
 
 pub loop-k-init : goal.loop-k-init
 loop-k-init c =
-    let entry = c in
-    let a = entry.args in
-    (omega arith, count_most a.x entry.requires.0, refl, shut_none slots a.value a.work.now a.x)
+    let a = c.args in
+    (omega arith, count_most a.x c.requires.0, refl, shut_none slots a.value a.work.now a.x)
 
 pub set_window-requires : goal.set_window-requires
 set_window-requires c =
-    let entry = c in
     let l = c.loop-k in
-    let x = entry.args.x in
-    (omega (arith, shut-first x entry.requires.0 l.k (omega arith)), omega (arith, reopening_most x entry.requires.0 l.k (omega arith)), omega arith)
+    let x = c.args.x in
+    (omega (arith, shut-first x c.requires.0 l.k (omega arith)), omega (arith, reopening_most x c.requires.0 l.k (omega arith)), omega arith)
 
 pub loop-k-preserved : goal.loop-k-preserved
 loop-k-preserved c =

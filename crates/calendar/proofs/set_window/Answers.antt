@@ -15,8 +15,7 @@ loop-t-init c = let a = c.args in (omega arith, c.requires.0, refl, window-none 
 
 pub loop-t-preserved : goal.loop-t-preserved
 loop-t-preserved c =
-    let entry = c in
-    let a = entry.args in
+    let a = c.args in
     let l = c.loop-t in
     let write = c.write16 in
     let stored = write.ensures ∙ ap (λ (n : ℕ). sets l.work (2 * n) (bytes_of 2 a.value)) c.wide16.ensures.0 in

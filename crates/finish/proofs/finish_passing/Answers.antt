@@ -59,9 +59,7 @@ set_shut-requires-2 c =
 pub bounds-order-k : goal.bounds-order-k
 bounds-order-k c =
     let counted : c.position-count.result < flow_count (book_of c.args.book.now) = omega (arith, c.position-count.ensures, position_below (book_of c.args.book.now) c.args.flow c.requires.2) in
-    let p = c in
-    let a = p in
-    omega (arith, counted, (pass_in-range a.args.book.now a.requires.0).flows_most, c.if-k-count.true)
+    omega (arith, counted, (pass_in-range c.args.book.now c.requires.0).flows_most, c.if-k-count.true)
 
 pub returns-then-k-count : goal.returns-then-k-count
 returns-then-k-count c =

@@ -86,9 +86,8 @@ returns-in_default c =
     limit_is (held_windows a.calendar) (book_of a.book.now) c.requires.calendar_in_range (calendar_of_book a.book.now)
     c.wide-f.result
     _ _ next.deadline c.limit_of-limit.ensures.0 in
-    let placed : (w : Placed) → c.place_flow.result ≡ w → (let u = c in
-    FlowPlaced true (book_of u.args.book.now) c.wide-f.result c.limit_of-limit.result
-    (shut_rows (with_calendar (held_windows u.args.calendar) (book_of u.args.book.now)) ++ u.loop-k.invariant.3.0) u.args.work.now u.loop-k.out u.loop-k.next
+    let placed : (w : Placed) → c.place_flow.result ≡ w → (FlowPlaced true (book_of c.args.book.now) c.wide-f.result c.limit_of-limit.result
+    (shut_rows (with_calendar (held_windows c.args.calendar) (book_of c.args.book.now)) ++ c.loop-k.invariant.3.0) c.args.work.now c.loop-k.out c.loop-k.next
     c.place_flow.new.out c.place_flow.new.area w) = λ w e. let st = c.loop-k.invariant.3.1 in
     subst ((λ w. FlowPlaced true (book_of c.args.book.now) c.wide-f.result c.limit_of-limit.result
     (shut_rows whole ++ c.loop-k.invariant.3.0) c.args.work.now c.loop-k.out c.loop-k.next
@@ -109,9 +108,8 @@ returns-in_default c =
 pub overflow_cast-finish : goal.overflow_cast-finish
 overflow_cast-finish c =
     let whole = with_calendar (held_windows c.args.calendar) (book_of c.args.book.now) in
-    let placed : (w : Placed) → c.place_flow.result ≡ w → (let u = c in
-    FlowPlaced true (book_of u.args.book.now) c.wide-f.result c.limit_of-limit.result
-    (shut_rows (with_calendar (held_windows u.args.calendar) (book_of u.args.book.now)) ++ u.loop-k.invariant.3.0) u.args.work.now u.loop-k.out u.loop-k.next
+    let placed : (w : Placed) → c.place_flow.result ≡ w → (FlowPlaced true (book_of c.args.book.now) c.wide-f.result c.limit_of-limit.result
+    (shut_rows (with_calendar (held_windows c.args.calendar) (book_of c.args.book.now)) ++ c.loop-k.invariant.3.0) c.args.work.now c.loop-k.out c.loop-k.next
     c.place_flow.new.out c.place_flow.new.area w) = λ w e. let st = c.loop-k.invariant.3.1 in
     subst ((λ w. FlowPlaced true (book_of c.args.book.now) c.wide-f.result c.limit_of-limit.result
     (shut_rows whole ++ c.loop-k.invariant.3.0) c.args.work.now c.loop-k.out c.loop-k.next
@@ -139,9 +137,8 @@ loop-k-preserved c =
     limit_is (held_windows a.calendar) (book_of a.book.now) c.requires.calendar_in_range (calendar_of_book a.book.now)
     c.wide-f.result
     _ _ next.deadline c.limit_of-limit.ensures.0 in
-    let placed : (w : Placed) → c.place_flow.result ≡ w → (let u = c in
-    FlowPlaced true (book_of u.args.book.now) c.wide-f.result c.limit_of-limit.result
-    (shut_rows (with_calendar (held_windows u.args.calendar) (book_of u.args.book.now)) ++ u.loop-k.invariant.3.0) u.args.work.now u.loop-k.out u.loop-k.next
+    let placed : (w : Placed) → c.place_flow.result ≡ w → (FlowPlaced true (book_of c.args.book.now) c.wide-f.result c.limit_of-limit.result
+    (shut_rows (with_calendar (held_windows c.args.calendar) (book_of c.args.book.now)) ++ c.loop-k.invariant.3.0) c.args.work.now c.loop-k.out c.loop-k.next
     c.place_flow.new.out c.place_flow.new.area w) = λ w e. let st = c.loop-k.invariant.3.1 in
     subst ((λ w. FlowPlaced true (book_of c.args.book.now) c.wide-f.result c.limit_of-limit.result
     (shut_rows whole ++ c.loop-k.invariant.3.0) c.args.work.now c.loop-k.out c.loop-k.next

@@ -24,7 +24,7 @@ returns-then-read16-eq0 c =
     let p = c.requires.0 in
     let e : 2 * c.wide16.result ≡ 2 * a.slot = ap (2 *◌) c.wide16.ensures.0 in
     let unused : used_in (accepted_rows a.book.now a.table.now) a.slot ≡ 0 =
-    sym (pair-used _ _ p.accepted _ p.a_slot a.work.now c.requires.2) ∙ ap (field 2 a.work.now) (sym e) ∙ sym c.read16.ensures ∙ c.if-read16-eq0.true in
+    sym (pair-used _ _ p.accepted _ p.a_slot a.work.now c.requires.2) ∙ ap (field 2 a.work.now) (sym e) ∙ sym c.read16.ensures ∙ (omega (arith, c.if-read16-eq0.true)) in
     record {
       cursors = cursors-pass _ _ p.accepted _ p.a_slot unused _ _ p.cursors;
       listed = rw (no-rows_in _ _ p.accepted _ p.a_slot unused (flow_count (book_of a.book.now))) (listed-none _ _);

@@ -9,11 +9,10 @@ use Rattle.plan_text.proofs.lines.put_line.Goals as goal
 
 pub put_table-requires : goal.put_table-requires
 put_table-requires c =
-    let start = c in
     let accepted = c.if-answer-eq0.true in (
       search rules,
-      start.requires.1 accepted,
-      subst (λ (m : ℕ). start.args.n < m) (sym (count-of_table start.args.table.now start.args.answer accepted)) start.requires.2,
+      c.requires.1 accepted,
+      subst (λ (m : ℕ). c.args.n < m) (sym (count-of_table c.args.table.now c.args.answer accepted)) c.requires.2,
     )
 
 pub returns-then-answer-eq0 : goal.returns-then-answer-eq0

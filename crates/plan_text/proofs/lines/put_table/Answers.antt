@@ -20,20 +20,17 @@ returns-then-n-flows c =
 pub overflow_mul-n-2 : goal.overflow_mul-n-2
 overflow_mul-n-2 c = omega (
   arith,
-  (let start = c in
-      row_within _ _ _ _ start.requires.1 c.wide-flows.ensures.0 c.if-n-flows.false start.requires.2),
+  (row_within _ _ _ _ c.requires.1 c.wide-flows.ensures.0 c.if-n-flows.false c.requires.2),
 )
 
 pub overflow_add-flows-3 : goal.overflow_add-flows-3
 overflow_add-flows-3 c = omega (
   arith,
-  (let start = c in
-      row_within _ _ _ _ start.requires.1 c.wide-flows.ensures.0 c.if-n-flows.false start.requires.2),
+  (row_within _ _ _ _ c.requires.1 c.wide-flows.ensures.0 c.if-n-flows.false c.requires.2),
 )
 
 pub put_row-requires : goal.put_row-requires
-put_row-requires c = let inside = (let start = c in
-    row_within _ _ _ _ start.requires.1 c.wide-flows.ensures.0 c.if-n-flows.false start.requires.2) in search rules
+put_row-requires c = let inside = (row_within _ _ _ _ c.requires.1 c.wide-flows.ensures.0 c.if-n-flows.false c.requires.2) in search rules
 
 pub returns : goal.returns
 returns c =

@@ -14,9 +14,8 @@ loop-n-init c =
 
 pub put_line-at-requires : goal.put_line-at-requires
 put_line-at-requires c =
-    let start = c in
     let count = c.line_count-end.ensures in
-    (omega arith, start.requires.0, omega arith)
+    (omega arith, c.requires.0, omega arith)
 
 pub loop-n-preserved : goal.loop-n-preserved
 loop-n-preserved c =
