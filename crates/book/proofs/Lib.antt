@@ -4,6 +4,6 @@ pub mod Records
 pub mod Verdicts
 pub mod Stands
 pub mod Filled
-pub mod Loaded
+pub mod Starts
 pub mod Served
 pub mod LateFlows

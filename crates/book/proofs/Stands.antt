@@ -5,7 +5,7 @@ use Prim.Native.Nat.{ℕ, ◌+◌, ◌-◌, ◌≤◌, ◌<◌}
 use native.Mathlib.Omega.{arith}
 use mathlib.Core.List.{List}
 use lib.ListN.{length}
-use Rattle.rules.specs.declared.Verdict.TheVariants.{Pass}
+use Rattle.rules.specs.Verdicts.{Pass}
 use Rattle.rules.specs.Fields.{byte}
 use Rattle.rules.specs.Limits.{most_jobs}
 use Rattle.rules.specs.Book.{Flow, job_count, flow_in, lower_cap, lower_caps, flow_of, job_of}

@@ -3,3 +3,5 @@ pub mod Promise
 pub mod Records
 pub mod Arrays
 pub mod Late
+pub mod Rows
+pub mod Starts

@@ -1,36 +1,23 @@
 // Late flows, by deadlines and finishes.
-ghost use Rattle.std.specs.Prelude.{◌≡◌, ◌+◌, ◌<◌, ◌≤◌};
-ghost use Rattle.rules.specs.Walks.{bit};
+ghost use Rattle.std.specs.Prelude.{◌≡◌, ◌+◌, ◌<◌, ◌≤◌, length};
 ghost use Rattle.book.specs.Late.{late_by, late_count};
 
-// Rule 7 (02, Req 06): a flow is late when its finish plus 1 is greater than its deadline. In 32 bits the sum fits, whatever the finish.
+// A flow is late when its finish plus 1 is greater than its deadline.
+#[tactic(auto, unfolding(crate::specs::Late::late_by, rules::specs::Rows::is_late))]
 pub fn is_late(deadline: u16, finish: u16) -> bool
     ensures { result ≡ late_by deadline finish }
 {
-    (deadline as u32) < finish as u32 + 1
+    deadline <= finish
 }
 
-// One more where a flow is late.
-pub fn and_late(late: u8, deadline: u16, finish: u16) -> u8
-    requires { late < 255 }
-    ensures { result ≡ late + bit (late_by deadline finish) }
+// How many of the first `flows` flows are late. Two lists, since the count is promised of any deadlines and finishes.
+pub fn late_flows(deadlines: &[u16], finish: &[u16], flows: usize) -> u8
+    requires { (flows ≤ 64) × (flows ≤ length deadlines.now) × (flows ≤ length finish.now) }
+    ensures { result ≡ late_count deadlines.now finish.now flows }
 {
-    if is_late(deadline, finish) {
-        return late + 1;
-    }
-    late
-}
-
-// How many of the first `flows` flows are late.
-pub fn late_flows(deadlines: [u16; 64], finish: [u16; 64], flows: usize) -> u8
-    requires { flows ≤ 64 }
-    ensures { result ≡ late_count deadlines finish flows }
-{
-    let mut late: u8 = 0;
-    let mut f: usize = 0;
-    while f < flows {
-        late = and_late(late, deadlines[f], finish[f]);
-        f = f + 1;
+    let mut late = 0;
+    for f in 0..flows {
+        late += u8::from(is_late(deadlines[f], finish[f]));
     }
     late
 }

@@ -1,23 +1,22 @@
--- Laws of work areas whose pairs hold any function of the slot. The number of slots is a parameter throughout. Assumes nothing.
+-- Laws of work areas whose pairs hold any function of the slot. The number of slots is a parameter throughout. Assumes
+-- nothing.
 use mathlib.Core.Path.{◌≡◌, refl, sym, ap, ◌∙◌}
 use Prim.Native.Nat.{ℕ, suc, ◌+◌, ◌*◌, ◌-◌, ◌≤◌, ◌<◌}
 use mathlib.Core.Bool.{Bool, true, false, not, ◌&&◌}
 use mathlib.Core.List.{List, ◌++◌, append_assoc}
 use native.Mathlib.Nat.{zero-add}
 use native.Mathlib.Omega.{arith}
-use lib.ListN.{length, drop, length-append, length-drop}
+use lib.ListN.{take, drop}
 use lib.Seq.{sets}
 use Rattle.std.specs.Prelude.{if◌then◌else◌}
 use Rattle.rules.specs.Fields.{field, bytes_of}
 use Rattle.rules.specs.Rows.{Row, used_in, work_used}
-use Rattle.rules.specs.Calendar.{in_window, is_open}
+use Rattle.rules.specs.Calendar.{Calendar, Window, in_window, is_open}
 use Rattle.rules.proofs.Laws.Walks.{join-ext}
 use Rattle.rules.proofs.Laws.Fields.{bytes-length, field_between}
 use Rattle.rules.proofs.Rows.WorkArea.{pairs, pairs-length, pairs-around, sets_between}
-use Rattle.calendar.specs.declared.Calendar.{Calendar}
-use Rattle.calendar.specs.Held.{held_window}
 use Rattle.calendar.specs.Area.{area_holding}
-use Rattle.calendar.proofs.Windows.{up_to, slot_in, others_same, none_in, first_windows, none-shut, first_next}
+use Rattle.calendar.proofs.Windows.{up_to, slot_in, others_same, none_in, none-shut}
 
 -- the use of rows is one such function
 pub used_holding : (n : ℕ) (rows : List Row) (area : List ℕ) → work_used n rows area ≡ area_holding n (used_in rows) area
@@ -28,10 +27,6 @@ module _ (n : ℕ) (area : List ℕ) where
   pub holding_ext : (g h : ℕ → ℕ) → ((t : ℕ) → t < n → g t ≡ h t) → area_holding n g area ≡ area_holding n h area
   unfolding area_holding
   holding_ext g h e = ap (◌++ drop (2 * n) area) (join-ext _ _ n 0 (λ k l. ap (bytes_of 2) (rw (zero-add k) (e k l))))
-
-  pub holding-length : (g : ℕ → ℕ) → 2 * n ≤ length area → length (area_holding n g area) ≡ length area
-  unfolding area_holding
-  holding-length g l = rw (length-append, length-drop, pairs-length g n 0) (omega arith)
 
   -- a slot's pair between those before it and the rest
   holding-around : (g : ℕ → ℕ) (t : ℕ) → t < n → area_holding n g area ≡ pairs g t 0 ++ bytes_of 2 (g t) ++ (pairs g (n - suc t) (suc t) ++ drop (2 * n) area)
@@ -70,17 +65,18 @@ module _ (n value : ℕ) (before : List ℕ) where
 
   -- area l has the value in the slots that the first k windows shut, and else what was there before
   abbrev pub ShutTo : Calendar → ℕ → List ℕ → Type 0
-  ShutTo x k l = (used : ℕ → ℕ) (bytes : List ℕ) → before ≡ area_holding n used bytes → l ≡ area_holding n (λ t. if is_open (first_windows x k) t then used t else value) bytes
+  ShutTo c k l = (used : ℕ → ℕ) (bytes : List ℕ) → before ≡ area_holding n used bytes → l ≡ area_holding n (λ t. if is_open (take k c) t then used t else value) bytes
 
-  pub shut_none : (x : Calendar) → ShutTo x 0 before
-  shut_none x used bytes e = e ∙ holding_ext n bytes _ _ (λ t l. rw (none-shut x t) refl)
+  pub shut_none : (c : Calendar) → ShutTo c 0 before
+  shut_none c used bytes e = e ∙ holding_ext n bytes _ _ (λ t l. rw (none-shut c t) refl)
 
--- one window more
-pub shut-next : (n value : ℕ) (before l : List ℕ) (x : Calendar) (k : ℕ) {m : List ℕ} → ShutTo n value before x k l →
-    WindowTo n value l (held_window x k).shut (held_window x k).reopening m → ShutTo n value before x (k + 1) m
-shut-next n value before l x k so_far window used bytes e =
+-- one window more, v
+pub shut-next : (n value : ℕ) (before l : List ℕ) (c : Calendar) (k : ℕ) (v : Window) {m : List ℕ} →
+    ((t : ℕ) → is_open (take (k + 1) c) t ≡ (is_open (take k c) t && not (in_window v t))) → ShutTo n value before c k l →
+    WindowTo n value l v.shut v.reopening m → ShutTo n value before c (k + 1) m
+shut-next n value before l c k v next so_far window used bytes e =
     window _ bytes (so_far used bytes e)
-    ∙ holding_ext n bytes _ _ (λ t b. rw (first_next x k t) (both (in_window (held_window x k) t) (is_open (first_windows x k) t) (used t)))
+    ∙ holding_ext n bytes _ _ (λ t b. rw (next t) (both (in_window v t) (is_open (take k c) t) (used t)))
   where
     both : (i o : Bool) (u : ℕ) → (if i then value else if o then u else value) ≡ (if o && not i then u else value)
     both true true u = refl

@@ -1,29 +1,53 @@
--- Flags of shut slots, one set at a time. Assumes nothing.
-use mathlib.Core.Path.{◌≡◌, refl, sym}
-use Prim.Native.Nat.{ℕ, ◌+◌, ◌≤◌, ◌<◌}
+-- Flags of shut slots, those of a window set at once. Assumes nothing.
+use mathlib.Core.Path.{◌≡◌, refl, sym, ap, ◌∙◌}
+use Prim.Native.Nat.{ℕ, ◌+◌, ◌-◌, ◌≤◌, ◌<◌}
 use mathlib.Core.Bool.{true, not, ◌&&◌, and-true, and-false}
-use mathlib.Core.List.{List}
+use mathlib.Core.List.{List, ◌++◌}
 use mathlib.Core.Logic.{◌⊎◌, inl, inr}
 use native.Mathlib.Omega.{arith}
-use lib.ListN.{length, set, replicate, length-replicate, get_or-replicate, get_or-eq_default}
-use lib.Dec.{eqb}
+use lib.ListN.{length, take, drop, replicate, length-replicate, get_or, get_or-append, get_or-replicate, get_or-eq_default, length-drop}
+use lib.Dec.{eqb, ltb, leb}
+use borrow.Author.Tests.{lt-ltb, le-ltb, le-leb, lt-leb}
+use Rattle.std.proofs.lemmas.List.{length-take-le, get_or-take, get_or-drop, get_or-append_right}
+use Rattle.rules.specs.Calendar.{in_window}
 use Rattle.rules.proofs.Laws.Division.{lt-or_ge}
-use Rattle.rules.proofs.Laws.Walks.{after-set}
 use Rattle.calendar.specs.Area.{open_by}
-use Rattle.calendar.proofs.Windows.{up_to, slot_in, others_same, none_in}
 
--- l is shut where `before` is, and in a window's slots up to t
-abbrev pub FlaggedTo : List ℕ → ℕ → ℕ → List ℕ → Type 0
-FlaggedTo before shut t l = (u : ℕ) → open_by l u ≡ (open_by before u && not (up_to shut t u))
+-- the flags `ones` put in the place of those of slots a to e - 1
+module _ (xs ones : List ℕ) (a e : ℕ) (l : a ≤ e) (within : e ≤ length xs) (set : ones ≡ replicate (length (take (e - a) (drop a xs))) 1) where
+  before : length (take a xs) ≡ a
+  before = length-take-le a xs (omega arith)
 
-pub flagged-none : (before : List ℕ) (shut : ℕ) → FlaggedTo before shut shut before
-flagged-none before shut u = rw (none_in shut u) (sym (and-true (open_by before u)))
+  room : length (take (e - a) (drop a xs)) ≡ e - a
+  room = length-take-le (e - a) (drop a xs) (omega (arith, length-drop {A = ℕ}))
 
-pub flagged-next : (before l : List ℕ) (shut t : ℕ) → shut ≤ t → t < length l → FlaggedTo before shut t l → FlaggedTo before shut (t + 1) (set l t 1)
-unfolding open_by
-flagged-next before l shut t h room so_far =
-    after-set (λ u flag. not (eqb flag 1) ≡ (open_by before u && not (up_to shut (t + 1) u))) l t 1 room
-    (rw (slot_in shut t h) (sym (and-false (open_by before t)))) (λ u other. rw (others_same shut t h u other) (so_far u))
+  as_many : length ones ≡ e - a
+  as_many = ap length set ∙ length-replicate {A = ℕ} (length (take (e - a) (drop a xs))) 1 ∙ room
+
+  pub filled_open : (u : ℕ) → open_by (take a xs ++ (ones ++ drop (e - a) (drop a xs))) u ≡ (open_by xs u && not (in_window (record { shut = a; reopening = e }) u))
+  unfolding open_by
+  filled_open u = go (lt-or_ge u a) (lt-or_ge u e)
+    where
+      rest : List ℕ
+      rest = ones ++ drop (e - a) (drop a xs)
+
+      past : a ≤ u → get_or (take a xs ++ rest) u 0 ≡ get_or rest (u - a) 0
+      past h = get_or-append_right (take a xs) rest a u 0 before h
+
+      go : (u < a) ⊎ (a ≤ u) → (u < e) ⊎ (e ≤ u) → not (eqb (get_or (take a xs ++ rest) u 0) 1) ≡ (not (eqb (get_or xs u 0) 1) && not (leb a u && ltb u e))
+      go (inl h) o =
+          rw (lt-leb a u h, get_or-append (take a xs) rest 0 u (omega (arith, before)), get_or-take a xs u 0 h)
+          (sym (and-true (not (eqb (get_or xs u 0) 1))))
+      go (inr h) (inl m) =
+          let one : get_or rest (u - a) 0 ≡ 1 =
+          get_or-append ones (drop (e - a) (drop a xs)) 0 (u - a) (omega (arith, as_many)) ∙ rw set (get_or-replicate {A = ℕ} (length (take (e - a) (drop a xs))) (u - a) 1 0 (omega (arith, room))) in
+          rw (le-leb a u h, lt-ltb u e m, past h, one) (sym (and-false (not (eqb (get_or xs u 0) 1))))
+      go (inr h) (inr m) =
+          let same : get_or rest (u - a) 0 ≡ get_or xs u 0 =
+          get_or-append_right ones (drop (e - a) (drop a xs)) (e - a) (u - a) 0 as_many (omega arith)
+          ∙ get_or-drop (e - a) (drop a xs) (u - a - (e - a)) 0 ∙ get_or-drop a xs (e - a + (u - a - (e - a))) 0
+          ∙ ap (λ (n : ℕ). get_or xs n 0) (omega arith) in
+          rw (le-leb a u h, le-ltb u e m, past h, same) (sym (and-true (not (eqb (get_or xs u 0) 1))))
 
 -- no flag is set
 pub unset_open : (n u : ℕ) → open_by (replicate n 0) u ≡ true

@@ -1,75 +1,74 @@
--- A walk over the windows that a struct holds: what one window more shuts, and, inside a window, what one slot more shuts. Assumes nothing.
+-- A walk over the windows of a calendar: what one window more shuts, and, inside a window, what one slot more shuts;
+-- and the slice that lends the windows of a calendar's struct. Assumes nothing.
 use mathlib.Core.Path.{◌≡◌, refl, sym, ap, ◌∙◌}
 use Prim.Native.Nat.{ℕ, zero, suc, ◌+◌, ◌≤◌, ◌<◌}
 use mathlib.Core.Bool.{Bool, true, false, not, ◌&&◌, and-true, and-false, and_assoc}
-use mathlib.Core.List.{List, []}
+use mathlib.Core.List.{List, [], ◌∷◌}
 use mathlib.Core.Logic.{◌⊎◌, inl, inr}
-use native.Mathlib.Nat.{add-zero, zero-add}
+use native.Mathlib.Nat.{not-suc-le-zero}
 use native.Mathlib.Numerals.{add-one}
 use native.Mathlib.Omega.{arith}
-use lib.ListN.{length, get_or}
+use lib.ListN.{length, get_or, take}
 use lib.Dec.{leb}
 use borrow.Author.Tests.{lt-ltb, le-ltb, le-leb, lt-leb}
-use Rattle.rules.specs.Walks.{list_from}
-use Rattle.rules.specs.Limits.{most_windows, most_reopening}
-use Rattle.rules.specs.Calendar.{Window, in_window, is_open, no_window, window_of, CalendarInRange}
+use Rattle.std.proofs.lemmas.List.{get_or-map, length-map, take_all}
+use Rattle.rules.specs.Limits.{most_reopening}
+use Rattle.rules.specs.Calendar.{Calendar, in_window, is_open, no_window, window_of, CalendarInRange}
 use Rattle.rules.proofs.Laws.Division.{lt-or_ge}
-use Rattle.rules.proofs.Laws.Walks.{length-list_from, list-at-zero}
-use Rattle.calendar.specs.declared.Calendar.{Calendar}
-use Rattle.calendar.specs.Held.{held_window, held_windows}
+use Rattle.calendar.specs.declared.maintenance.Window.{Window as HeldWindow}
+use Rattle.calendar.specs.declared.maintenance.Calendar.{Calendar as Held}
+use Rattle.calendar.specs.Windows.{window_in, windows_in}
+use Rattle.calendar.specs.Held.{held_windows}
 
 -- ---- one window more
-open-last : (g : ℕ → Window) (k s t : ℕ) → is_open (list_from g (suc k) s) t ≡ (is_open (list_from g k s) t && not (in_window (g (s + k)) t))
-unfolding is_open list_from
-open-last g zero s t = rw (add-zero s) (and-true (not (in_window (g s) t)))
-open-last g (suc k) s t =
-    let e : s + 1 + k ≡ s + suc k = omega arith in
-    ap (not (in_window (g s) t) &&◌) (open-last g k (s + 1) t ∙ ap (λ (j : ℕ). is_open (list_from g k (s + 1)) t && not (in_window (g j) t)) e)
-    ∙ sym (and_assoc (not (in_window (g s) t)) (is_open (list_from g k (s + 1)) t) (not (in_window (g (s + suc k)) t)))
+pub none-shut : (c : Calendar) (t : ℕ) → is_open (take 0 c) t ≡ true
+unfolding is_open
+none-shut c t = refl
 
--- the first k windows
-unfoldable pub first_windows : Calendar → ℕ → List Window
-first_windows x k = list_from (held_window x) k 0
+open-last : (c : Calendar) (k t : ℕ) → k < length c → is_open (take (suc k) c) t ≡ (is_open (take k c) t && not (in_window (window_of c k) t))
+unfolding is_open window_of
+open-last [] k t l = absurd (not-suc-le-zero l)
+open-last (v ∷ vs) zero t l = and-true (not (in_window v t))
+open-last (v ∷ vs) (suc k) t l =
+    ap (not (in_window v t) &&◌) (open-last vs k t (omega arith))
+    ∙ sym (and_assoc (not (in_window v t)) (is_open (take k vs) t) (not (in_window (window_of vs k) t)))
 
-module _ (x : Calendar) where
-  pub first-none : first_windows x 0 ≡ []
-  unfolding first_windows list_from
-  first-none = refl
+pub first_next : (c : Calendar) (k t : ℕ) → k < length c → is_open (take (k + 1) c) t ≡ (is_open (take k c) t && not (in_window (window_of c k) t))
+first_next c k t l = rw (add-one k) (open-last c k t l)
 
-  pub none-shut : (t : ℕ) → is_open (first_windows x 0) t ≡ true
-  none-shut t = rw first-none (unfold is_open in refl)
+-- ---- the slice that lends the windows of a calendar's struct
+pub in-range : (x : Held) → CalendarInRange (held_windows x)
+unfolding held_windows
+in-range x = x.in_range
 
-  pub first_next : (k t : ℕ) → is_open (first_windows x (k + 1)) t ≡ (is_open (first_windows x k) t && not (in_window (held_window x k) t))
-  unfolding first_windows
-  first_next k t =
-      rw (add-one k) (open-last (held_window x) k 0 t ∙ ap (λ (j : ℕ). is_open (list_from (held_window x) k 0) t && not (in_window (held_window x j) t)) (zero-add k))
+-- what an index past the last window finds
+abbrev pub blank : HeldWindow
+blank = record { shut = 0; reopening = 0 }
 
-  pub first-all : {k : ℕ} → k ≡ x.count → first_windows x k ≡ held_windows x
-  unfolding first_windows held_windows
-  first-all e = ap (λ (n : ℕ). list_from (held_window x) n 0) e
+module _ (x : Held) (vs : List HeldWindow) (e : vs ≡ x.windows.items) where
+  pub as-many : length (held_windows x) ≡ length vs
+  unfolding held_windows windows_in
+  as-many = length-map x.windows.items window_in ∙ ap length (sym e)
 
-  held-count : length (held_windows x) ≡ x.count
-  unfolding held_windows
-  held-count = length-list_from (held_window x) x.count 0
+  pub all-taken : {k : ℕ} → length vs ≤ k → take k (held_windows x) ≡ held_windows x
+  all-taken {k} l = take_all k (held_windows x) (omega (arith, as-many))
 
-  held_at : (k : ℕ) → k < x.count → window_of (held_windows x) k ≡ held_window x k
-  unfolding held_windows window_of
-  held_at k l = list-at-zero (held_window x) x.count k no_window l
+  module _ (k : ℕ) (l : k < length vs) where
+    inside : k < length (held_windows x)
+    inside = omega (arith, as-many)
 
-  -- ---- windows in range
-  module _ (range : CalendarInRange (held_windows x)) where
-    pub count_most : x.count ≤ most_windows
-    count_most = rw held-count at range.windows_most
+    pub window-at : window_of (held_windows x) k ≡ window_in (get_or vs k blank)
+    unfolding held_windows windows_in window_of
+    window-at = rw (← e) (get_or-map window_in vs k blank no_window l)
 
-    module _ (k : ℕ) (l : k < x.count) where
-      pub shut-first : get_or x.shut k 0 < get_or x.reopening k 0
-      shut-first = rw (held_at k l) at (range.not_empty k (rw held-count l))
+    pub not-empty : (get_or vs k blank).shut < (get_or vs k blank).reopening
+    not-empty = rw window-at at ((in-range x).not_empty k inside)
 
-      pub reopening_most : get_or x.reopening k 0 ≤ most_reopening
-      reopening_most = rw (held_at k l) at (range.reopens k (rw held-count l))
+    pub reopening-most : (get_or vs k blank).reopening ≤ most_reopening
+    reopening-most = rw window-at at ((in-range x).reopens k inside)
 
-    pub next-apart : (k : ℕ) → suc k < x.count → get_or x.reopening k 0 < get_or x.shut (suc k) 0
-    next-apart k l = rw (held_at k (omega arith), held_at (suc k) l) at (range.apart k (rw held-count l))
+    pub one_more : (t : ℕ) → is_open (take (k + 1) (held_windows x)) t ≡ (is_open (take k (held_windows x)) t && not (in_window (window_in (get_or vs k blank)) t))
+    one_more t = rw window-at at (first_next (held_windows x) k t inside)
 
 -- ---- one slot more of a window
 -- the slots of a window up to slot t

@@ -1,223 +1,182 @@
 // The calendar of the cluster: its reader, its shut slots, the limit of a flow.
 #![tactic(auto)]
 
-ghost use Rattle.std.specs.Prelude.{◌≡◌, ℕ, ◌+◌, ◌-◌, ◌*◌, ◌<◌, ◌≤◌, min, not, ◌&&◌, List, length, replicate, ltb, if◌then◌else◌};
-ghost use Rattle.rules.specs.declared.Verdict.TheVariants.{Pass, Refused};
-ghost use Rattle.rules.specs.Walks.{any_to};
-ghost use Rattle.rules.specs.Answers.{none};
+ghost use Rattle.std.specs.Prelude.{◌≡◌, ℕ, ◌+◌, ◌-◌, ◌*◌, ◌<◌, ◌≤◌, min, not, ◌&&◌, List, length, replicate, ◌||◌, ltb, leb, if◌then◌else◌, IfOk};
+ghost use Rattle.rules.specs.Verdicts.{Pass};
+ghost use Rattle.rules.specs.Faults.{verdict_by};
 ghost use Rattle.rules.specs.Limits.{most_deadline, most_reopening, slots, work_bytes};
-ghost use Rattle.rules.specs.Calendar.{in_window, is_open, open_before, slot_after, window_fault, calendar_fault, CalendarInRange};
+ghost use Rattle.rules.specs.Calendar.{in_window, is_open, open_before, slot_after, window_at, calendar_fault, CalendarInRange};
+ghost use Rattle.calendar.specs.Windows.{window_in, windows_in};
 ghost use Rattle.calendar.specs.Held.{held_windows, Held};
+ghost use Rattle.calendar.specs.Layout.{LayoutRead};
 ghost use Rattle.calendar.specs.Area.{area_holding, open_by};
 
-use book::bytes;
-use rules::Verdict;
+mod maintenance;
 
-// The windows of a calendar that passes.
-#[derive(Clone, Copy)]
-pub struct Calendar {
-    pub count: usize,
-    pub shut: [u16; 32],
-    pub reopening: [u16; 32],
-}
+use arrayvec::ArrayVec;
+use book::bytes::Field;
+pub use maintenance::{Calendar, MOST_WINDOWS, Window};
+use rules::{Fault, Refusal};
 
-// Whether window k breaks its rules.
-pub fn window_fault(calendar: &[u8], k: usize) -> bool
-    requires { 6 + 4 * k + 4 ≤ length calendar.now }
-    ensures { result ≡ window_fault calendar.now k }
-{
-    let at = 6 + 4 * k;
-    let shut = bytes::read16(calendar, at);
-    let reopening = bytes::read16(calendar, at + 2);
-    if reopening <= shut {
-        return true;
-    }
-    if 4096 < reopening {
-        return true;
-    }
-    if k == 0 {
-        return false;
-    }
-    shut <= bytes::read16(calendar, at - 2)
-}
+// The bytes before the windows, and those of each window.
+const HEAD_BYTES: usize = 6;
 
-// Whether one of the windows breaks its rules.
-pub fn any_window_fault(calendar: &[u8], count: usize) -> bool
-    requires { 6 + 4 * count ≤ length calendar.now }
-    ensures { result ≡ any_to (window_fault calendar.now) count }
-{
-    let mut k: usize = 0;
-    while k < count {
-        if window_fault(calendar, k) {
-            return true;
+const WINDOW_BYTES: usize = 4;
+
+// The version of a calendar.
+const VERSION: u8 = 1;
+
+// The last slot at which a window may reopen.
+const LAST_REOPENING: u16 = 4096;
+
+impl Window {
+    // Window k of a calendar's bytes.
+    #[tactic(auto, unfolding(rules::specs::Calendar::window_at))]
+    pub fn read(bytes: &[u8], k: usize) -> Self
+        requires { 6 + 4 * k + 4 ≤ length bytes.now }
+        ensures { window_in result ≡ window_at bytes.now k }
+    {
+        let at = HEAD_BYTES + WINDOW_BYTES * k;
+        Self {
+            shut: u16::read(bytes, at),
+            reopening: u16::read(bytes, at + 2),
         }
-        k = k + 1;
     }
-    false
-}
 
-// Whether the bytes break the layout of a calendar, or one of its windows its rules.
-pub fn has_fault(calendar: &[u8]) -> bool
-    ensures { calendar_fault calendar.now ≡ (if result then Refused 24 none none else Pass) }
-{
-    if calendar.len() < 6 {
-        return true;
+    // Whether it breaks the rules of a window that may begin at slot `free` or later.
+    pub fn has_fault(self, free: u16) -> bool
+        ensures { result ≡ (leb self.reopening self.shut || ltb self.shut free || ltb most_reopening self.reopening) }
+    {
+        self.reopening <= self.shut || self.shut < free || LAST_REOPENING < self.reopening
     }
-    if bytes::read32(calendar, 0) as usize != calendar.len() {
-        return true;
-    }
-    if calendar[4] != 1 {
-        return true;
-    }
-    let count = bytes::wide(calendar[5]);
-    if 32 < count {
-        return true;
-    }
-    if calendar.len() != 6 + 4 * count {
-        return true;
-    }
-    any_window_fault(calendar, count)
-}
 
-// Whether the bytes are those of a calendar that passes; 24 where not.
-pub fn verdict_of(calendar: &[u8]) -> Verdict
-    ensures { result ≡ calendar_fault calendar.now }
-{
-    if has_fault(calendar) {
-        return Verdict::Refused {
-            number: 24,
-            flow: 255,
-            job: 255,
-        };
+    // How many of its slots stand before a slot.
+    pub fn shut_before(self, slot: u16) -> usize
+        ensures { result ≡ min self.reopening slot - self.shut }
+    {
+        usize::from(self.reopening.min(slot).saturating_sub(self.shut))
     }
-    Verdict::Pass
-}
 
-// The windows of a calendar that passes.
-pub fn calendar_of(calendar: &[u8]) -> Calendar
-    requires { calendar_fault calendar.now ≡ Pass }
-    ensures { Held calendar.now result }
-{
-    let count = bytes::wide(calendar[5]);
-    let mut shut = [0u16; 32];
-    let mut reopening = [0u16; 32];
-    let mut k: usize = 0;
-    while k < count {
-        shut[k] = bytes::read16(calendar, 6 + 4 * k);
-        reopening[k] = bytes::read16(calendar, 8 + 4 * k);
-        k = k + 1;
+    // The limit with this window more: one that shuts before it moves it on by the window's slots.
+    pub fn past(self, limit: usize) -> usize
+        requires { (limit ≤ slots) × (self.shut < self.reopening) }
+        ensures { result ≡ (if ltb self.shut limit then limit + (self.reopening - self.shut) else limit) }
+    {
+        if usize::from(self.shut) < limit {
+            limit + usize::from(self.reopening - self.shut)
+        } else {
+            limit
+        }
     }
-    Calendar {
-        count,
-        shut,
-        reopening,
+
+    // A value written into the pair of each of its slots. The work area stays a slice with a clause on its length; book's
+    // `WORK_BYTES` says why.
+    pub fn set(self, work: &mut [u8], value: u16)
+        requires { (self.shut ≤ self.reopening) × (self.reopening ≤ slots) × (work_bytes ≤ length work.old) }
+        ensures { (used : ℕ → ℕ) (bytes : List ℕ) → work.old ≡ area_holding slots used bytes →
+            work.new ≡ area_holding slots (λ t. if in_window (window_in self) t then value else used t) bytes }
+    {
+        for slot in self.shut..self.reopening {
+            value.write(work, 2 * usize::from(slot));
+        }
+    }
+
+    // The flag of each of its slots set.
+    pub fn flag(self, flags: &mut [u8])
+        requires { (self.shut ≤ self.reopening) × (self.reopening ≤ length flags.old) }
+        ensures { (t : ℕ) → open_by flags.new t ≡ (open_by flags.old t && not (in_window (window_in self) t)) }
+    {
+        flags[usize::from(self.shut)..usize::from(self.reopening)].fill(1);
     }
 }
 
-// How many slots of a window stand before a slot.
-pub fn shut_before(shut: u16, reopening: u16, slot: u16) -> usize
-    requires { shut < reopening }
-    ensures { result ≡ min reopening slot - shut }
+// How many windows stand in the bytes of a calendar; 24 where they break its layout.
+#[tactic(auto, unfolding(rules::specs::Calendar::calendar_fault))]
+pub fn window_count(bytes: &[u8]) -> Result<usize, Refusal>
+    ensures { LayoutRead bytes.now result }
 {
-    if slot <= shut {
-        return 0;
+    let refusal = Fault::Calendar.nowhere();
+    if bytes.len() < HEAD_BYTES || u32::read(bytes, 0) as usize != bytes.len() {
+        return Err(refusal);
     }
-    if reopening <= slot {
-        return (reopening - shut) as usize;
+    if bytes[4] != VERSION {
+        return Err(refusal);
     }
-    (slot - shut) as usize
+    let count = usize::from(bytes[5]);
+    if MOST_WINDOWS < count || bytes.len() != HEAD_BYTES + WINDOW_BYTES * count {
+        return Err(refusal);
+    }
+    Ok(count)
 }
 
-// How many open slots stand before a slot.
-pub fn open_before(x: Calendar, slot: u16) -> usize
-    requires { CalendarInRange (held_windows x) }
-    ensures { result ≡ open_before (held_windows x) slot }
-{
-    let mut n = slot as usize;
-    let mut k: usize = 0;
-    while k < x.count {
-        n = n - shut_before(x.shut[k], x.reopening[k], slot);
-        k = k + 1;
+impl Calendar {
+    // The calendar in these bytes; 24 where they break its layout or one of its windows breaks its rules.
+    pub fn read(bytes: &[u8]) -> Result<Self, Refusal>
+        ensures verdict { verdict_by result ≡ calendar_fault bytes.now }
+        ensures held { IfOk result (Held bytes.now) }
+    {
+        let count = window_count(bytes)?;
+        let mut windows = ArrayVec::new();
+        // the first slot at which the next window may begin
+        let mut free = 0;
+        for k in 0..count {
+            let window = Window::read(bytes, k);
+            if window.has_fault(free) {
+                return Err(Fault::Calendar.nowhere());
+            }
+            windows.push(window);
+            free = window.reopening + 1;
+        }
+        Ok(Self { windows })
     }
-    n
-}
 
-// The limit with one window more: a window that shuts before it moves it on by the window's slots.
-pub fn past_window(limit: usize, shut: u16, reopening: u16) -> usize
-    requires { (limit ≤ slots) × (shut < reopening) }
-    ensures { result ≡ (if ltb shut limit then limit + (reopening - shut) else limit) }
-{
-    if (shut as usize) < limit {
-        return limit + (reopening - shut) as usize;
+    // How many open slots stand before a slot.
+    pub fn open_before(&self, slot: u16) -> usize
+        ensures { result ≡ open_before (held_windows self.now) slot }
+    {
+        let mut open = usize::from(slot);
+        for window in self.windows.as_slice() {
+            open -= window.shut_before(slot);
+        }
+        open
     }
-    limit
-}
 
-// The slot at which twice the open slots before a deadline have passed.
-pub fn limit_of(x: Calendar, deadline: u16) -> usize
-    requires { CalendarInRange (held_windows x) × (deadline ≤ most_deadline) }
-    ensures { (result ≡ slot_after (held_windows x) (2 * open_before (held_windows x) deadline)) × (result ≤ slots) }
-{
-    let mut limit = 2 * open_before(x, deadline);
-    let mut k: usize = 0;
-    while k < x.count {
-        limit = past_window(limit, x.shut[k], x.reopening[k]);
-        k = k + 1;
+    // The slot at which twice the open slots before a deadline have passed.
+    pub fn limit_of(&self, deadline: u16) -> usize
+        requires { deadline ≤ most_deadline }
+        ensures { (result ≡ slot_after (held_windows self.now) (2 * open_before (held_windows self.now) deadline)) × (result ≤ slots) }
+    {
+        let mut limit = 2 * self.open_before(deadline);
+        for window in self.windows.as_slice() {
+            limit = window.past(limit);
+        }
+        limit
     }
-    limit
-}
 
-// A value written into the pair of each slot of a window.
-pub fn set_window(work: &mut [u8], shut: u16, reopening: u16, value: u16)
-    requires { (shut ≤ reopening) × (reopening ≤ slots) × (work_bytes ≤ length work.old) }
-    ensures { (used : ℕ → ℕ) (bytes : List ℕ) → work.old ≡ area_holding slots used bytes →
-        work.new ≡ area_holding slots (λ t. if in_window (record { shut = shut; reopening = reopening }) t then value else used t) bytes }
-{
-    let mut t = shut;
-    while t < reopening {
-        bytes::write16(work, 2 * bytes::wide16(t), value);
-        t = t + 1;
+    // A value written into the pair of each shut slot.
+    pub fn set_shut(&self, work: &mut [u8], value: u16)
+        requires { work_bytes ≤ length work.old }
+        ensures { (used : ℕ → ℕ) (bytes : List ℕ) → work.old ≡ area_holding slots used bytes →
+            work.new ≡ area_holding slots (λ t. if is_open (held_windows self.now) t then used t else value) bytes }
+    {
+        for window in self.windows.as_slice() {
+            window.set(work, value);
+        }
     }
-}
 
-// A value written into the pair of each shut slot.
-pub fn set_shut(work: &mut [u8], x: Calendar, value: u16)
-    requires { CalendarInRange (held_windows x) × (work_bytes ≤ length work.old) }
-    ensures { (used : ℕ → ℕ) (bytes : List ℕ) → work.old ≡ area_holding slots used bytes →
-        work.new ≡ area_holding slots (λ t. if is_open (held_windows x) t then used t else value) bytes }
-{
-    let mut k: usize = 0;
-    while k < x.count {
-        set_window(work, x.shut[k], x.reopening[k], value);
-        k = k + 1;
-    }
-}
-
-// The flag of each slot of a window set.
-pub fn flag_window(flags: &mut [u8], shut: u16, reopening: u16)
-    requires { (shut ≤ reopening) × (reopening ≤ length flags.old) }
-    ensures { (t : ℕ) → open_by flags.new t ≡ (open_by flags.old t && not (in_window (record { shut = shut; reopening = reopening }) t)) }
-{
-    let mut slot = shut;
-    while slot < reopening {
-        flags[slot as usize] = 1;
-        slot = slot + 1;
-    }
-}
-
-// The flag of each shut slot set.
-pub fn set_flags(flags: &mut [u8], x: Calendar)
-    requires { CalendarInRange (held_windows x) × (flags.old ≡ replicate most_reopening 0) }
-    ensures { ((t : ℕ) → open_by flags.new t ≡ is_open (held_windows x) t) × (length flags.new ≡ most_reopening) }
-{
-    let mut k: usize = 0;
-    while k < x.count {
-        flag_window(flags, x.shut[k], x.reopening[k]);
-        k = k + 1;
+    // The flag of each shut slot set, among flags that are all 0.
+    pub fn set_flags(&self, flags: &mut [u8])
+        requires { flags.old ≡ replicate most_reopening 0 }
+        ensures { ((t : ℕ) → open_by flags.new t ≡ is_open (held_windows self.now) t) × (length flags.new ≡ most_reopening) }
+    {
+        for window in self.windows.as_slice() {
+            window.flag(flags);
+        }
     }
 }
 
 // Whether a slot is open, by its flag; past the last flag every slot is.
+// The flags are bytes, not truth values: of any bytes, the promise is that each one but 1 means open.
 pub fn is_open(flags: &[u8], slot: usize) -> bool
     ensures { result ≡ open_by flags.now slot }
 {

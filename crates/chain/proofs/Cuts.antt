@@ -1,6 +1,6 @@
--- The next cut: the least of the slots for which the jobs' takes stay is the width of the first run. The jobs are counted
--- in one after another; a run is as wide as all of them allow, and where it ends before the path one of them changes.
--- Assumes nothing.
+-- The next cut: the least of the slots for which the jobs' takes stay is the width of the first run. The jobs are
+-- counted in one after another; a run is as wide as all of them allow, and where it ends before the path one of them
+-- changes. Assumes nothing.
 use mathlib.Core.Path.{◌≡◌, refl, sym, ap, ◌∙◌}
 use mathlib.Core.Logic.{◌⊎◌, inl, inr}
 use mathlib.Core.Bool.{true, false}
@@ -8,7 +8,7 @@ use mathlib.Core.List.{List, [], ◌∷◌}
 use Prim.Native.Nat.{ℕ, zero, suc, ◌+◌, ◌*◌, ◌-◌, ◌≤◌, ◌<◌, min}
 use native.Mathlib.Numerals.{add-one}
 use native.Mathlib.Omega.{arith}
-use lib.ListN.{length, get_or, set}
+use lib.ListN.{length, set}
 use lib.Dec.{ltb}
 use borrow.Author.Tests.{lt-ltb, le-ltb}
 use Rattle.std.specs.Prelude.{if◌then◌else◌}
@@ -21,11 +21,8 @@ use Rattle.rules.proofs.Laws.Walks.{last_or}
 use Rattle.rules.proofs.Laws.Sums.{sum-nothing}
 use Rattle.rules.proofs.Chains.Ideal.{Sized, duration-positive, end_is_start_plus-duration, take-before_start, take-from_end, take-positive}
 use Rattle.rules.proofs.Chains.PseudoJobs.{unchanged_where-all_are, changed_where-one_is, run_step, chain_length}
-use Rattle.book.specs.Promise.{FlowJobs, flow_from}
 use Rattle.chain.specs.declared.Run.{Run}
-use Rattle.chain.specs.Jobs.{ChainInput}
-use Rattle.chain.specs.Runs.{Ideal, LeastFrom, IdealOf, RunInput, take_between, NextChange, FirstRun, PartsOf, RunAt, walk}
-use Rattle.chain.proofs.Starts.{count_of, sized_of, cap-at, starts-before_end, last_some, take_most, rate_most}
+use Rattle.chain.specs.Runs.{take_between, NextChange, FirstRun, PartsOf, RunAt, walk}
 use Rattle.chain.proofs.Parts.{sum-stays, parts-few, parts_of-none, parts_of-next, parts_of-rest}
 
 -- ---- one job, by its values
@@ -163,132 +160,10 @@ module _ (w : Flow) (t : ℕ) where
   all-jobs width s parts names takes so_far =
       record { parts = so_far.listed; rate = so_far.rate; run = first_run width s parts names takes so_far }
 
--- ---- one job by the arrays' values
-module _ (x : FlowJobs) (y : Ideal) (input : ChainInput x) (ideal : IdealOf (flow_from x) y) (t i : ℕ) (h : i < x.count) where
-  abbrev take_at : ℕ → ℕ
-  take_at = take_between (get_or y.starts i 0) (get_or y.ends i 0) (get_or y.lasts i 0) (get_or x.cap i 0)
-
-  in-flow : i < job_count (flow_from x)
-  in-flow = rw (count_of x) h
-
-  -- what `until_change` asks of the job
-  pub change-asked : (get_or y.starts i 0 < get_or y.ends i 0) × (1 ≤ get_or y.lasts i 0) × (1 ≤ get_or x.cap i 0)
-  change-asked = (
-    omega (arith, ideal.starts i in-flow, ideal.ends i in-flow, starts-before_end x input i h),
-    omega (arith, ideal.lasts i in-flow, last_some x input i h),
-    input.cap_least i h,
-  )
-
-  take_is : (v : ℕ) → v ≡ take_at t → v ≡ take_of (flow_from x) i t
-  take_is v e = e ∙ take_by-values (flow_from x) i _ _ _ _ (ideal.starts i in-flow) (ideal.ends i in-flow) (ideal.lasts i in-flow) (cap-at x input i h) t
-
-  module _ (width s v parts : ℕ) (names takes : List ℕ) (so_far : RunSoFar (flow_from x) t i width s names takes parts) (ev : v ≡ take_at t) where
-    -- a rate reaches 262,144
-    pub rate-fits : s + v ≤ 262144
-    rate-fits =
-        omega (
-          arith,
-          so_far.rate,
-          rate_most x input i t (omega arith),
-          take_is v ev,
-          take_most x input i h t,
-          input.count_most,
-        )
-
-    -- one turn of the loop
-    pub job-counted_in : (r : ℕ) → parts < length names → parts < length takes → NextChange take_at t width r →
-        RunSoFar (flow_from x) t (i + 1) r (s + v) (set names parts i) (set takes parts v) (parts + bit (ltb 0 v))
-    job-counted_in r room-names room-takes next =
-        one-more-job
-        (flow_from x)
-        t
-        i
-        width
-        r
-        s
-        v
-        parts
-        names
-        takes
-        room-names
-        room-takes
-        so_far
-        (take_is v ev)
-        (change_by-values (flow_from x) i _ _ _ _ (ideal.starts i in-flow) (ideal.ends i in-flow) (ideal.lasts i in-flow) (cap-at x input i h) t width r next)
-
+-- ---- what a run is
 -- a run has at most one part for each job
 pub parts-counted : (w : Flow) (t : ℕ) (names takes : List ℕ) (r : Run) → RunAt w t names takes r → r.parts ≤ job_count w
 parts-counted w t names takes r at_cut = omega (arith, at_cut.parts.count, parts-few (λ i. take_of w i t) (job_count w))
-
--- .. and by lists that are theirs
-pub run-input : (x : FlowJobs) (y : Ideal) → ChainInput x → IdealOf (flow_from x) y → RunInput x.cap y.starts y.ends y.lasts y.firsts x.count y.path x y
-run-input x y input ideal =
-    record {
-      input = input;
-      ideal = ideal;
-      count_is = refl;
-      path_is = refl;
-      caps_are = refl;
-      starts_are = refl;
-      ends_are = refl;
-      lasts_are = refl;
-      firsts_are = refl;
-    }
-
-module _ (caps starts ends lasts firsts : List ℕ) (count most : ℕ) (x : FlowJobs) (y : Ideal) (of : RunInput caps starts ends lasts firsts count most x y) (t : ℕ) where
-  in_count : (i : ℕ) → i < count → i < x.count
-  in_count i h = omega (arith, h, of.count_is)
-
-  counted : count ≡ job_count (flow_from x)
-  counted = of.count_is ∙ sym (count_of x)
-
-  -- what is known where the jobs below `from` have ended
-  pub ended-so_far_of : (from : ℕ) (names takes : List ℕ) → from ≤ count → t < most → ((i : ℕ) → i < from → get_or ends i 0 ≤ t) →
-      RunSoFar (flow_from x) t from (most - t) 0 names takes 0
-  ended-so_far_of from names takes h l ended =
-      ended-so_far (flow_from x) t from most names takes (of.path_is ∙ of.ideal.path) l
-      (λ i b. omega (arith, ended i b, ap (λ (e : List ℕ). get_or e i 0) of.ends_are, of.ideal.ends i (omega (arith, counted))))
-
-  -- the run where none of the jobs from i on has begun
-  pub none-begun_of : (i width s parts first r : ℕ) (names takes : List ℕ) → i < count → first ≡ get_or firsts i 0 → t < first → r ≡ min width (first - t) →
-      RunSoFar (flow_from x) t i width s names takes parts → RunAt (flow_from x) t names takes (record { width = r; rate = s; parts = parts })
-  none-begun_of i width s parts first r names takes h ef l er so_far =
-      all-jobs (flow_from x) t r s parts names takes
-      (none-begun (flow_from x) t i width s parts first r names takes (sized_of x of.input) (omega (arith, counted)) l
-      (λ k a b. omega (arith, least.within k a b, is-least, of.ideal.starts k b))
-      (least.attained.0, least.attained.1, least.attained.2, sym (of.ideal.starts _ least.attained.2) ∙ least.attained.3 ∙ sym is-least) er so_far)
-    where
-      in-flow : i < job_count (flow_from x)
-      in-flow = omega (arith, counted)
-
-      least : LeastFrom y.starts (job_count (flow_from x)) i (get_or y.firsts i 0)
-      least = of.ideal.firsts i in-flow
-
-      is-least : first ≡ get_or y.firsts i 0
-      is-least = ef ∙ ap (λ (e : List ℕ). get_or e i 0) of.firsts_are
-
-  -- the run when all jobs are counted in
-  pub all-jobs_of : (i width s parts : ℕ) (names takes : List ℕ) → i ≡ count → RunSoFar (flow_from x) t i width s names takes parts →
-      RunAt (flow_from x) t names takes (record { width = width; rate = s; parts = parts })
-  all-jobs_of i width s parts names takes e so_far = all-jobs (flow_from x) t width s parts names takes (rw (e ∙ counted) at so_far)
-
-  module _ (i : ℕ) (h : i < count) where
-    pub change-asked_of : (get_or starts i 0 < get_or ends i 0) × (1 ≤ get_or lasts i 0) × (1 ≤ get_or caps i 0)
-    change-asked_of = rw (of.caps_are, of.starts_are, of.ends_are, of.lasts_are) (change-asked x y of.input of.ideal t i (in_count i h))
-
-    module _ (width s v parts : ℕ) (names takes : List ℕ) (so_far : RunSoFar (flow_from x) t i width s names takes parts)
-        (ev : v ≡ take_between (get_or starts i 0) (get_or ends i 0) (get_or lasts i 0) (get_or caps i 0) t) where
-      pub rate-fits_of : s + v ≤ 262144
-      rate-fits_of =
-          rate-fits x y of.input of.ideal t i (in_count i h) width s v parts names takes so_far (rw (of.caps_are, of.starts_are, of.ends_are, of.lasts_are) at ev)
-
-      pub job-counted_in_of : (r : ℕ) → parts < length names → parts < length takes →
-          NextChange (take_between (get_or starts i 0) (get_or ends i 0) (get_or lasts i 0) (get_or caps i 0)) t width r →
-          RunSoFar (flow_from x) t (i + 1) r (s + v) (set names parts i) (set takes parts v) (parts + bit (ltb 0 v))
-      job-counted_in_of r room-names room-takes next =
-          job-counted_in x y of.input of.ideal t i (in_count i h) width s v parts names takes so_far
-          (rw (of.caps_are, of.starts_are, of.ends_are, of.lasts_are) at ev) r room-names room-takes
-          (rw (of.caps_are, of.starts_are, of.ends_are, of.lasts_are) at next)
 
 -- ---- the walk from cut to cut
 past-path : (w : Flow) (t : ℕ) → path w ≤ t → runs w (path w - t) t ≡ []
@@ -320,10 +195,7 @@ walk_is-chain w sized width first =
     let most : length (runs w (path w - 0) 0) ≤ 2 * job_count w = rw z (chain_length w sized) in
     walk_is-runs w width first (2 * job_count w) 0 most ∙ ap (λ (n : ℕ). runs w n 0) z
 
--- walking a flow's values from 0 by the widths of `run_at` gives exactly the chain, in at most 2 × n steps
-pub walk_by-runs_is-chain : (x : FlowJobs) → ChainInput x → (names takes : ℕ → List ℕ) (r : ℕ → Run) →
-    ((t : ℕ) → t < path (flow_from x) → RunAt (flow_from x) t (names t) (takes t) (r t)) →
-    walk (λ t. (r t).width) (path (flow_from x)) (2 * x.count) 0 ≡ chain (flow_from x)
-walk_by-runs_is-chain x input names takes r each =
-    let w = flow_from x in
-    ap (λ (n : ℕ). walk (λ t. (r t).width) (path w) (2 * n) 0) (sym (count_of x)) ∙ walk_is-chain w (sized_of x input) (λ t. (r t).width) (λ t h. (each t h).run)
+-- walking a flow from 0 by the widths of `run_at` gives exactly the chain, in at most 2 × n steps
+pub walk_by-runs_is-chain : (w : Flow) → Sized w → (names takes : ℕ → List ℕ) (r : ℕ → Run) →
+    ((t : ℕ) → t < path w → RunAt w t (names t) (takes t) (r t)) → walk (λ t. (r t).width) (path w) (2 * job_count w) 0 ≡ chain w
+walk_by-runs_is-chain w sized names takes r each = walk_is-chain w sized (λ t. (r t).width) (λ t h. (each t h).run)

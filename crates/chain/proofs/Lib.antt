@@ -7,3 +7,5 @@ pub mod Takes
 pub mod Parts
 pub mod Ended
 pub mod Cuts
+pub mod Alone
+pub mod Walked

@@ -1,5 +1,5 @@
--- The lowest set bit of a number that is not 0: `count_trailing_zeros` is its index, and `b & (b - 1)` has the bits above it.
--- Assumes nothing.
+-- The lowest set bit of a number that is not 0: `count_trailing_zeros` is its index, and `b & (b - 1)` has the bits
+-- above it. Assumes nothing.
 use mathlib.Core.Path.{◌≡◌, refl, sym, ap, ◌∙◌}
 use mathlib.Core.Bool.{true, false}
 use Prim.Native.Nat.{ℕ, zero, suc, ◌+◌, ◌*◌, ◌-◌, ◌/◌, ◌%◌, ◌^◌, ◌≤◌, ◌<◌}

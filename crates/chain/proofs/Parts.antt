@@ -1,6 +1,6 @@
--- The parts of a pseudo-job, the jobs that take something, counted and listed: each stands behind as many as there are before it, so that a list
--- of them grows at its end. Which job a part is, and that what a job without a take leaves as it is stays from one part to the next. Assumes
--- nothing.
+-- The parts of a pseudo-job, the jobs that take something, counted and listed: each stands behind as many as there are
+-- before it, so that a list of them grows at its end. Which job a part is, and that what a job without a take leaves as
+-- it is stays from one part to the next. Assumes nothing.
 use mathlib.Core.Path.{◌≡◌, refl, sym, ap, ◌∙◌}
 use mathlib.Core.Logic.{◌⊎◌, inl, inr}
 use mathlib.Core.List.{List}

@@ -43,6 +43,22 @@ chosen : (b : Bool) {r x y : ℕ} → r ≡ (if b then x else y) → Chosen b r 
 chosen true e = inl (refl, e)
 chosen false e = inr (refl, e)
 
+-- the take by three choices, of which the first counts only before the end
+pub take-by-choices : (start end last cap t left working take r : ℕ) → (t < end → left ≡ end - t) → working ≡ (if eqb left 1 then last else cap) →
+    take ≡ (if leb end t then 0 else working) → r ≡ (if ltb t start then 0 else take) → r ≡ take_between start end last cap t
+take-by-choices start end last cap t left working take r el ew et er = go (chosen (ltb t start) er) (chosen (leb end t) et) (chosen (eqb left 1) ew)
+  where
+    go : Chosen (ltb t start) r 0 take → Chosen (leb end t) take 0 working → Chosen (eqb left 1) working last cap → r ≡ take_between start end last cap t
+    go (inl (a, b)) _ _ = b ∙ sym (nothing-before start end last cap t (ltb-true t start a))
+    go (inr (a, b)) (inl (c, d)) _ = b ∙ (d ∙ sym (nothing_after start end last cap t (leb-true end t c)))
+    go (inr (a, b)) (inr (c, d)) (inl (e, f)) =
+        let h = leb-false end t c in
+        b ∙ (d ∙ (f ∙ sym (last_in-last-slot start end last cap t (ltb-false t start a) (omega (arith, el h, eqb-true left 1 e)))))
+    go (inr (a, b)) (inr (c, d)) (inr (e, f)) =
+        let h = leb-false end t c in
+        let more : left ≡ 1 → ⊥ = eqb-false left 1 e in
+        b ∙ (d ∙ (f ∙ sym (cap-before start end last cap t (ltb-false t start a) (omega (arith, el h)))))
+
 module _ (start end last cap t limit : ℕ) where
   -- after d slots the take is known to change
   change-after : (d n : ℕ) → 0 < d → 0 < limit → ((u : ℕ) → u < d → take_between start end last cap (t + u) ≡ take_between start end last cap t) →
@@ -122,15 +138,6 @@ module _ (start end last cap t limit : ℕ) where
     module _ (turn running next cut : ℕ) (fits : t + limit ≤ 4294967295) (et : turn ≡ (if eqb last cap then end else end - 1))
         (er : running ≡ (if ltb t turn then turn else end)) (en : next ≡ (if ltb t start then start else running))
         (ec : cut ≡ (if leb end t then 4294967295 else next)) where
-      pub cut-ahead : t ≤ cut
-      cut-ahead = go (chosen (leb end t) ec) (chosen (ltb t start) en) (chosen (ltb t turn) er)
-        where
-          go : Chosen (leb end t) cut 4294967295 next → Chosen (ltb t start) next start running → Chosen (ltb t turn) running turn end → t ≤ cut
-          go (inl (a, c)) _ _ = omega arith
-          go (inr (a, c)) (inl (b, d)) _ = omega (arith, ltb-true t start b)
-          go (inr (a, c)) (inr (b, d)) (inl (f, g)) = omega (arith, ltb-true t turn f)
-          go (inr (a, c)) (inr (b, d)) (inr (f, g)) = omega (arith, leb-false end t a)
-
       pub change-at-cut : (n : ℕ) → n ≡ min (cut - t) limit → NextChange (take_between start end last cap) t limit n
       change-at-cut n e =
           go (chosen (leb end t) ec) (chosen (ltb t start) en) (chosen (ltb t turn) er) (chosen (eqb last cap) et)

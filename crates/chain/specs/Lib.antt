@@ -1,3 +1,4 @@
 -- The definitions that the contracts of `chain` cite.
 pub mod Jobs
 pub mod Runs
+pub mod Alone

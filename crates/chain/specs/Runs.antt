@@ -1,52 +1,16 @@
--- What is held of a flow on endless processors, what a job takes by its start and end, how long its take stays, and the
--- run that begins at an ideal slot: the first of the specification's runs from there on. Assumes nothing.
+-- What a job takes by its start and end, how long its take stays, and the run that begins at an ideal slot: the first
+-- of the specification's runs from there on. Assumes nothing.
 use Rattle.std.specs.Prelude.{◌≡◌, ◌||◌, List, [], ◌∷◌, ℕ, zero, suc, ◌+◌, ◌-◌, ◌≤◌, ◌<◌, get_or, ltb, leb, eqb, if◌then◌else◌}
 use Rattle.rules.specs.Walks.{count_to}
-use Rattle.rules.specs.Book.{Flow, job_count, job_of}
-use Rattle.rules.specs.Ideal.{last_take, start_of, end_of, path, take_of}
+use Rattle.rules.specs.Book.{Flow, job_count}
+use Rattle.rules.specs.Ideal.{path, take_of}
 use Rattle.rules.specs.PseudoJobs.{PseudoJob, runs, rate}
-use Rattle.book.specs.Promise.{FlowJobs, flow_from}
 use Rattle.chain.specs.declared.Run.{Run}
-use Rattle.chain.specs.Jobs.{ChainInput}
 
 -- v is the least of the numbers that a list has from index i to index n
 pub record LeastFrom (l : List ℕ) (n i v : ℕ) : Type 0 where
   pub within : (k : ℕ) → i ≤ k → k < n → v ≤ get_or l k 0
   pub attained : (k : ℕ) × (i ≤ k) × (k < n) × (get_or l k 0 ≡ v)
-
--- what is held of a flow on endless processors: the start, the end and the last take of each job, the least start from each job on, and the path
-pub record Ideal : Type 0 where
-  pub starts : List ℕ
-  pub ends : List ℕ
-  pub lasts : List ℕ
-  pub firsts : List ℕ
-  pub path : ℕ
-
--- the values are those of rules 1 and 2; `firsts` has the least start from each job on
-pub record IdealOf (w : Flow) (x : Ideal) : Type 0 where
-  pub starts : (i : ℕ) → i < job_count w → get_or x.starts i 0 ≡ start_of w i
-  pub ends : (i : ℕ) → i < job_count w → get_or x.ends i 0 ≡ end_of w i
-  pub lasts : (i : ℕ) → i < job_count w → get_or x.lasts i 0 ≡ last_take (job_of w i)
-  pub firsts : (i : ℕ) → i < job_count w → LeastFrom x.starts (job_count w) i (get_or x.firsts i 0)
-  pub path : x.path ≡ path w
-
--- the lists are a flow's caps, and its starts, ends, last takes and least starts on endless processors
-pub record RunInput (caps starts ends lasts firsts : List ℕ) (count most : ℕ) (x : FlowJobs) (y : Ideal) : Type 0 where
-  pub input : ChainInput x
-  pub ideal : IdealOf (flow_from x) y
-  pub count_is : count ≡ x.count
-  pub path_is : most ≡ y.path
-  pub caps_are : caps ≡ x.cap
-  pub starts_are : starts ≡ y.starts
-  pub ends_are : ends ≡ y.ends
-  pub lasts_are : lasts ≡ y.lasts
-  pub firsts_are : firsts ≡ y.firsts
-
--- they are those of some flow
-pub record SomeFlow (caps starts ends lasts firsts : List ℕ) (count most : ℕ) : Type 0 where
-  pub jobs : FlowJobs
-  pub ideal : Ideal
-  pub held : RunInput caps starts ends lasts firsts count most jobs ideal
 
 -- what a job takes in ideal slot u, by its start, its end, its last take and its cap
 unfoldable pub take_between : ℕ → ℕ → ℕ → ℕ → ℕ → ℕ
@@ -72,7 +36,8 @@ pub record FirstRun (w : Flow) (t width : ℕ) : Type 0 where
 unfoldable pub parts_below : (ℕ → ℕ) → ℕ → ℕ
 parts_below take n = count_to (λ i. ltb 0 (take i)) n
 
--- the jobs below n that take something, by their numbers, and what they take: each stands behind as many as there are before it
+-- the jobs below n that take something, by their numbers, and what they take: each stands behind as many as there are
+-- before it
 pub record PartsOf (take : ℕ → ℕ) (n : ℕ) (names takes : List ℕ) (parts : ℕ) : Type 0 where
   pub count : parts ≡ parts_below take n
   pub name : (i : ℕ) → i < n → 0 < take i → get_or names (parts_below take i) 0 ≡ i

@@ -1,20 +1,22 @@
--- A call and its outcome: what number 0 of the check leaves behind, the list put together from head and rows, and the refusal of a longer one.
--- Assumes nothing.
+-- A call and its outcome: what number 0 of the check leaves behind, the list put together from head and rows, and the
+-- refusal of a longer one. Assumes nothing.
 use mathlib.Core.Path.{◌≡◌, refl, sym, ap, ◌∙◌}
 use Prim.Native.Nat.{ℕ, zero, suc, ◌+◌, ◌*◌, ◌-◌, ◌≤◌, ◌<◌}
 use native.Mathlib.Nat.{div-one}
-use native.Mathlib.Numerals.{towards_suc}
 use native.Mathlib.Omega.{arith}
 use mathlib.Core.List.{List, ◌++◌}
 use lib.ListN.{length, set, drop, length-append}
 use lib.Seq.{sets, sets-eq}
 use lib.Dec.{ltb}
 use borrow.Author.Tests.{eq-eqb}
-use Rattle.rules.specs.declared.Verdict.TheVariants.{Pass}
-use Rattle.std.specs.Prelude.{if◌then◌else◌}
+use Rattle.rules.specs.Verdicts.{Pass}
+use Rattle.std.specs.Prelude.{if◌then◌else◌, Result, Err}
+use Rattle.std.specs.Result.{IsErrAnd}
+use Rattle.std.proofs.lemmas.Result.{err_from_is_err_and}
+use Rattle.table_check.proofs.TestNumbers.{fault_some}
 use Rattle.rules.specs.Walks.{join_from}
 use Rattle.rules.specs.Fields.{bytes_of}
-use Rattle.rules.specs.Answers.{none, list_accepted, list_refused}
+use Rattle.rules.specs.Answers.{none, list_accepted, list_refused, check_refused}
 use Rattle.rules.specs.Limits.{slots, work_bytes}
 use Rattle.rules.specs.Book.{Book, flow_count}
 use Rattle.rules.specs.Calendar.{calendar_of}
@@ -22,7 +24,11 @@ use Rattle.rules.specs.Reading.{read, read_book, book_of, book_with}
 use Rattle.rules.specs.Rows.{Row, used_in, work_used, work_zero}
 use Rattle.rules.specs.Table.{rows_bytes}
 use Rattle.rules.specs.Check.{table_fault, CheckOutcome, check_outcome, check_call}
-use Rattle.rules.specs.Dispatch.{in_list_order, list_length, list_bytes, list_outcome, dispatch_checked, dispatch_call}
+use Rattle.rules.specs.declared.CheckAnswer.{CheckAnswer}
+use Rattle.rules.specs.declared.ListAnswer.{ListAnswer}
+use Rattle.rules.specs.declared.Refusal.{Refusal}
+use Rattle.rules.specs.Faults.{fault_number}
+use Rattle.rules.specs.Dispatch.{DispatchOutcome, in_list_order, list_length, list_bytes, list_outcome, dispatch_checked, dispatch_call}
 use Rattle.rules.proofs.Laws.Fields.{bytes-length, sets-append}
 use Rattle.rules.proofs.Reading.Passing.{calendar_of_book, read-passes}
 use Rattle.rules.proofs.Reading.SameUse.{with-same, rows_same}
@@ -32,8 +38,9 @@ use Rattle.rules.proofs.Tables.TableBytes.{rows-bytes-length}
 use Rattle.rules.proofs.Rows.ListOrder.{length-in_list_order}
 use Rattle.rules.proofs.Demands.AcceptsExactly.{call-accepts}
 use Rattle.rules.proofs.Demands.Dispatches.{check-reads, dispatches}
-use Rattle.dispatch.specs.Merge.{Accepted, accepted_rows, InUse}
-use Rattle.dispatch.specs.Call.{list_head_bytes}
+use Rattle.dispatch.specs.Accepted.{Accepted, accepted_rows}
+use Rattle.dispatch.specs.Merge.{InUse}
+use Rattle.dispatch.specs.Call.{list_head_bytes, answer_by, Leaves}
 use Rattle.dispatch.proofs.Tables.{rows_fill}
 
 -- ---- the check's number 0
@@ -83,11 +90,11 @@ module _ (book table : List ℕ) (accepted : Accepted book table) where
 -- head and rows, stored one after the other
 pub head_stores : (s : List ℕ) (n processors : ℕ) → sets (set (sets s 0 (bytes_of 4 n)) 4 1) 5 (bytes_of 2 processors) ≡ sets s 0 (list_head_bytes n processors)
 unfolding bytes_of list_head_bytes
-head_stores s n processors = simp (towards_suc, div-one)
+head_stores s n processors = simp div-one
 
 pub list-length_is : (rows : List Row) → list_length rows ≡ 7 + 6 * length rows
 unfolding list_length
-list-length_is rows = refl
+list-length_is _ = refl
 
 pub list_stores : (b : Book) (rows : List Row) (out : List ℕ) (size : ℕ) → size ≡ list_length rows → size ≤ length out →
     sets (sets out 0 (list_head_bytes size b.processors)) 7 (rows_bytes (in_list_order rows)) ≡ list_bytes b rows ++ drop size out
@@ -136,3 +143,34 @@ unfolding dispatch_call dispatch_checked
 call-listed book calendar table out area z =
     rw (eq-eqb (check_call book calendar table area).answer.number 0 z)
     (outcome-same (book_of book) (accepted_rows book table) out area (check_call book calendar table area).area (area_used book calendar table area z))
+
+-- what is left by the list of an accepted table is what the call leaves
+pub listed_after : (book calendar table out area : List ℕ) {left out' area' : List ℕ} {answer : ListAnswer} → left ≡ (check_call book calendar table area).area →
+    (check_call book calendar table area).answer.number ≡ 0 → Leaves (list_outcome (book_of book) (accepted_rows book table) out left left) answer out' area' →
+    Leaves (dispatch_call book calendar table out area) answer out' area'
+listed_after book calendar table out area e z p =
+    let q =
+    ap (λ (w : List ℕ). list_outcome (book_of book) (accepted_rows book table) out w w) e
+    ∙ sym (call-listed book calendar table out area z) in
+    record {
+      answers = p.answers ∙ ap (λ (o : DispatchOutcome). o.answer) q;
+      output_left = p.output_left ∙ ap (λ (o : DispatchOutcome). o.output) q;
+      area_left = p.area_left ∙ ap (λ (o : DispatchOutcome). o.area) q;
+    }
+
+-- the same of a refusal of the check, handed on as it is
+pub refused_after : (book calendar table out area : List ℕ) {left : List ℕ} (e : Refusal) (r : Result ℕ Refusal) → IsErrAnd r (λ y. y ≡ e) →
+    left ≡ (check_call book calendar table area).area → check_refused (fault_number e.fault) e.flow e.job ≡ (check_call book calendar table area).answer →
+    Leaves (dispatch_call book calendar table out area) (answer_by r) out left
+refused_after book calendar table out area e r h left_is same =
+    let p = err_from_is_err_and r h in
+    let some : 0 < fault_number e.fault = positive (fault_number e.fault) (fault_some e.fault) in
+    let q = call-refused book calendar table out area (omega (arith, some, ap (λ (x : CheckAnswer). x.number) same)) in
+    record {
+      answers =
+          ap answer_by (p.1 ∙ ap Err p.2)
+          ∙ ap (λ (x : CheckAnswer). list_refused x.number x.flow x.job) same
+          ∙ sym (ap (λ (o : DispatchOutcome). o.answer) q);
+      output_left = sym (ap (λ (o : DispatchOutcome). o.output) q);
+      area_left = left_is ∙ sym (ap (λ (o : DispatchOutcome). o.area) q);
+    }

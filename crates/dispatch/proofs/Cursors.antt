@@ -1,7 +1,8 @@
 -- The cursor of a flow among a table's rows.
--- Rows of a flow stand together, since what stands between two of them is served neither before nor after the flow. So a run from the cursor on that ends
--- has all rows of the flow in the slot: those before the cursor are in earlier slots, and none behind the run is in the slot, or the row at the
--- run's end would be. Behind the run stands the cursor before the next slot. Assumes nothing.
+-- Rows of a flow stand together, since what stands between two of them is served neither before nor after the flow.
+-- So a run from the cursor on that ends has all rows of the flow in the slot: those before the cursor are in earlier
+-- slots, and none behind the run is in the slot, or the row at the run's end would be. Behind the run stands the
+-- cursor before the next slot. Assumes nothing.
 use mathlib.Core.Path.{◌≡◌, refl, sym, ap, ◌∙◌}
 use mathlib.Core.Logic.{◌⊎◌, inl, inr}
 use mathlib.Core.Bool.{Bool, true, false, ◌&&◌, and-eq-true_iff}

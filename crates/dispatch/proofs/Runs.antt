@@ -1,259 +1,327 @@
--- Parts of a table's bytes, and the runs in them.
--- A part and the part behind it are one part, so that copies one after the other are one copy. A row of a run stands before the table's end,
--- since 65,535 is no slot. What stands between two rows of a run belongs to it, so that the last of sixteen rows tells of all. Assumes nothing.
+-- Runs of rows and their copies.
+-- What is written behind what was written is one writing, so that copies one after the other are one copy. Behind the
+-- first rows of a run the rest of it is a run of its own. What stands between two rows of a run belongs to it, so
+-- that the last row of a block tells of all. Assumes nothing.
 use mathlib.Core.Path.{◌≡◌, refl, sym, ap, ◌∙◌}
 use mathlib.Core.Logic.{◌⊎◌, inl, inr}
-use mathlib.Core.Bool.{Bool, true, false}
-use Prim.Native.Nat.{ℕ, zero, suc, ◌+◌, ◌*◌, ◌-◌, ◌≤◌, ◌<◌}
-use native.Mathlib.Nat.{add-zero}
+use mathlib.Core.Bool.{Bool, true, false, not, false≢true}
+use Prim.Native.Nat.{ℕ, zero, suc, ◌+◌, ◌*◌, ◌-◌, ◌/◌, ◌≤◌, ◌<◌}
 use native.Mathlib.Omega.{arith}
-use mathlib.Core.List.{List, ◌∷◌, ◌++◌}
-use lib.ListN.{length, set}
+use mathlib.Core.List.{List, [], ◌∷◌, ◌++◌}
+use lib.ListN.{length, get_or, take, drop, length-drop, length-append}
 use lib.Seq.{sets, length-sets}
-use lib.Dec.{leb, eqb}
-use borrow.Author.Tests.{leb-false, le-leb, lt-leb, eqb-true, eq-eqb, ne_eqb}
-use Rattle.std.specs.Prelude.{if◌then◌else◌}
-use Rattle.rules.specs.Walks.{list_from}
+use lib.Dec.{eqb}
+use borrow.Author.Tests.{le-leb, lt-leb, eqb-true, eq-eqb, ne_eqb}
+use borrow.Rule.Slice.PartMut.{put_mid}
+use Rattle.std.specs.Prelude.{if◌then◌else◌, Option, Some, None}
+use Rattle.std.specs.List.{flat_map}
+use Rattle.std.specs.Option.{option_eq}
+use Rattle.std.specs.Simd.{first_chunks}
+use Rattle.std.proofs.lemmas.List.{append-nil, append_assoc, take_all, drop-drop, drop_all, get_or-take, get_or-drop, length-take, length-take-le}
+use Rattle.std.proofs.lemmas.List.Edits.{sets-eq}
+use Rattle.std.proofs.lemmas.List.Concat.{flat_map-append}
+use Rattle.std.proofs.lemmas.Option.{none-some, same_Some}
+use Rattle.std.proofs.Math.Seq.{take-add}
 use Rattle.rules.specs.Fields.{byte, field}
-use Rattle.rules.proofs.Laws.Walks.{last_or, length-list_from}
 use Rattle.rules.proofs.Laws.Division.{lt-or_ge}
+use Rattle.rules.proofs.Laws.Walks.{last_or}
 use Rattle.rules.proofs.Laws.Fields.{sets-append}
-use Rattle.dispatch.specs.Runs.{part, due_at, WholeRows, RunOf, RunTo, RunAsked, Copied, RunCopied}
+use Rattle.dispatch.specs.Runs.{due_of, due_at, RunOf, RunAsked, front, Copied, RunCopied}
 
--- ---- parts
-list-split : {A : Type 0} (g : ℕ → A) (m n s : ℕ) → list_from g (m + n) s ≡ list_from g m s ++ list_from g n (s + m)
-unfolding list_from
-list-split g zero n s = let a : zero + n ≡ n = omega arith in rw (a, add-zero) refl
-list-split g (suc m) n s =
-    let a : suc m + n ≡ suc (m + n) = omega arith in
-    let e : s + suc m ≡ s + 1 + m = omega arith in
-    rw (a, e) (ap (g s ∷◌) (list-split g m n (s + 1)))
+-- ---- parts of a list
+pub chunk-at : {X : Type 0} (n count : ℕ) (xs : List X) (k : ℕ) → k < count → get_or (first_chunks n count xs) k [] ≡ take n (drop (n * k) xs)
+chunk-at n zero xs k h = absurd (omega arith)
+chunk-at n (suc count) xs zero h = ap (λ (j : ℕ). take n (drop j xs)) (let z : 0 ≡ n * 0 = omega arith in z)
+chunk-at n (suc count) xs (suc k) h =
+    let z : n + n * k ≡ n * suc k = omega arith in
+    chunk-at n count (drop n xs) k (omega arith) ∙ ap (take n) (drop-drop (n * k) n xs ∙ ap (λ (j : ℕ). drop j xs) z)
 
--- a copy, and behind it the copy of the part behind
-pub copies-append : (out s : List ℕ) (to from m n : ℕ) →
-    sets (sets out to (part s from m)) (to + m) (part s (from + m) n) ≡ sets out to (part s from (m + n))
-unfolding part
-copies-append out s to from m n =
-    let l : to + m ≡ to + length (list_from (byte s) m from) = ap (to +◌) (sym (length-list_from (byte s) m from)) in
-    rw (l, sets-append, list-split) refl
+pub block-long : (rows : List (List ℕ)) (k : ℕ) → k < length rows / 16 → length (get_or (first_chunks 16 (length rows / 16) rows) k []) ≡ 16
+block-long rows k h =
+    ap length (chunk-at 16 (length rows / 16) rows k h) ∙ length-take-le 16 (drop (16 * k) rows) (omega (arith, length-drop (16 * k) rows))
 
--- and of one more byte
-pub copy-byte : (out s : List ℕ) (to from n : ℕ) → set (sets out to (part s from n)) (to + n) (byte s (from + n)) ≡ sets out to (part s from (n + 1))
-unfolding part list_from
-copy-byte out s to from n = copies-append out s to from n 1
+-- what is left behind the first n
+abbrev pub behind : {X : Type 0} → List X → ℕ → List X
+behind xs n = take (length xs - n) (drop n xs)
+
+pub rest_is : {X : Type 0} (xs : List X) (n : ℕ) → behind xs n ≡ drop n xs
+rest_is xs n = take_all (length xs - n) (drop n xs) (omega (arith, length-drop n xs))
 
 -- ---- the slot of a row
-module _ (s : List ℕ) (at flow : ℕ) where
-  pub due-past : length s ≤ at → due_at s at flow ≡ 65535
-  unfolding due_at
-  due-past h = rw (le-leb (length s) at h) refl
+module _ (row : List ℕ) (flow : ℕ) where
+  pub due-own : byte row 2 ≡ flow → due_of row flow ≡ Some (field 2 row 0)
+  unfolding due_of
+  due-own e = rw (eq-eqb (byte row 2) flow e) refl
 
-  pub due-other : (byte s (at + 2) ≡ flow → ⊥) → due_at s at flow ≡ 65535
-  unfolding due_at
-  due-other h = rw (ne_eqb (byte s (at + 2)) flow h) (go (leb (length s) at))
+  pub due-other : (byte row 2 ≡ flow → ⊥) → due_of row flow ≡ None
+  unfolding due_of
+  due-other h = rw (ne_eqb (byte row 2) flow h) refl
+
+  -- what a slot tells
+  pub due-tells : (slot : ℕ) → due_of row flow ≡ Some slot → (byte row 2 ≡ flow) × (field 2 row 0 ≡ slot)
+  unfolding due_of
+  due-tells slot h = go (eqb (byte row 2) flow) refl h
     where
-      go : (t : Bool) → ◌≡◌ {A = ℕ} (if t then 65535 else 65535) 65535
-      go true = refl
-      go false = refl
+      go : (t : Bool) → eqb (byte row 2) flow ≡ t → ◌≡◌ {A = Option ℕ} (if t then Some (field 2 row 0) else None) (Some slot) → (byte row 2 ≡ flow) × (field 2 row 0 ≡ slot)
+      go true e l = (eqb-true (byte row 2) flow e, same_Some (field 2 row 0) slot l)
+      go false e l = absurd (none-some slot l)
 
-  pub due-own : at < length s → byte s (at + 2) ≡ flow → due_at s at flow ≡ field 2 s at
-  unfolding due_at
-  due-own h e = rw (lt-leb (length s) at h, eq-eqb (byte s (at + 2)) flow e) refl
+-- a slot compared with another
+pub due-same : (o : Option ℕ) (slot : ℕ) → not (option_eq eqb o (Some slot)) ≡ false → o ≡ Some slot
+due-same None slot e = absurd (false≢true (sym e))
+due-same (Some x) slot e = ap Some (eqb-true x slot (go (eqb x slot) e))
+  where
+    go : (t : Bool) → not t ≡ false → t ≡ true
+    go true h = refl
+    go false h = absurd (false≢true (sym h))
 
-  -- what a slot below 65,535 tells
-  pub due-inside : due_at s at flow < 65535 → at < length s
+pub due-differs : (o : Option ℕ) (slot : ℕ) → not (option_eq eqb o (Some slot)) ≡ true → o ≡ Some slot → ⊥
+due-differs o slot e d =
+    false≢true (sym (ap not (eq-eqb slot slot refl)) ∙ ap (λ (x : Option ℕ). not (option_eq eqb x (Some slot))) (sym d) ∙ e)
+
+module _ (rows : List (List ℕ)) (at flow : ℕ) where
+  pub due-there : at < length rows → due_at rows at flow ≡ due_of (get_or rows at []) flow
   unfolding due_at
-  due-inside h = go (leb (length s) at) refl h
+  due-there h = rw (lt-leb (length rows) at h) refl
+
+  pub due-past : length rows ≤ at → due_at rows at flow ≡ None
+  unfolding due_at
+  due-past h = rw (le-leb (length rows) at h) refl
+
+  pub due-inside : (slot : ℕ) → due_at rows at flow ≡ Some slot → at < length rows
+  due-inside slot h = go (lt-or_ge at (length rows))
     where
-      go : (t : Bool) → leb (length s) at ≡ t → (if t then 65535 else if eqb (byte s (at + 2)) flow then field 2 s at else 65535) < 65535 → at < length s
-      go true e l = absurd (omega arith)
-      go false e l = leb-false (length s) at e
+      go : (at < length rows) ⊎ (length rows ≤ at) → at < length rows
+      go (inl l) = l
+      go (inr l) = absurd (none-some slot (sym (due-past l) ∙ h))
 
-  pub due-flow : due_at s at flow < 65535 → byte s (at + 2) ≡ flow
-  unfolding due_at
-  due-flow h = go (leb (length s) at) (eqb (byte s (at + 2)) flow) refl h
-    where
-      go : (t u : Bool) → eqb (byte s (at + 2)) flow ≡ u → (if t then 65535 else if u then field 2 s at else 65535) < 65535 → byte s (at + 2) ≡ flow
-      go true u e l = absurd (omega arith)
-      go false true e l = eqb-true (byte s (at + 2)) flow e
-      go false false e l = absurd (omega arith)
+-- among the first n rows
+pub due-take : (rows : List (List ℕ)) (n m flow : ℕ) → m < length (take n rows) → due_of (get_or (take n rows) m []) flow ≡ due_at rows m flow
+due-take rows n m flow l =
+    ap (λ (r : List ℕ). due_of r flow) (get_or-take n rows m [] (omega (arith, length-take n rows)))
+    ∙ sym (due-there rows m flow (omega (arith, length-take n rows)))
 
--- a row with a slot stands before the table's end
-pub row_inside : (s : List ℕ) (at flow slot : ℕ) → slot < 65535 → due_at s at flow ≡ slot → at < length s
-row_inside s at flow slot h e = due-inside s at flow (rw e h)
+-- the last row of block k of sixteen
+pub due-block : (rows : List (List ℕ)) (k flow : ℕ) → k < length rows / 16 →
+    due_of (get_or (get_or (first_chunks 16 (length rows / 16) rows) k []) 15 []) flow ≡ due_at rows (16 * k + 15) flow
+due-block rows k flow l =
+    ap (λ (b : List (List ℕ)). due_of (get_or b 15 []) flow) (chunk-at 16 (length rows / 16) rows k l)
+    ∙ ap (λ (r : List ℕ). due_of r flow) (get_or-take 16 (drop (16 * k) rows) 15 [] (omega arith) ∙ get_or-drop (16 * k) rows 15 [])
+    ∙ sym (due-there rows (16 * k + 15) flow (omega arith))
 
--- ---- whole rows
-pub whole-inside : (s : List ℕ) (at : ℕ) → WholeRows s at → at < length s → at + 6 ≤ length s
-whole-inside s at w h = omega (arith, w.whole 0 (omega arith))
+-- behind the first n rows
+pub due-drop : (rows : List (List ℕ)) (n m flow : ℕ) → due_at (drop n rows) m flow ≡ due_at rows (n + m) flow
+due-drop rows n m flow = go (lt-or_ge m (length (drop n rows)))
+  where
+    long : length (drop n rows) ≡ length rows - n
+    long = length-drop n rows
 
-pub whole_shift : (s : List ℕ) (at k : ℕ) → WholeRows s at → WholeRows s (at + 6 * k)
-whole_shift s at k w = record {
-  whole = λ m h. let e : at + 6 * k + 6 * m ≡ at + 6 * (k + m) = omega arith in omega (arith, w.whole (k + m) (omega arith));
-}
+    go : (m < length (drop n rows)) ⊎ (length (drop n rows) ≤ m) → due_at (drop n rows) m flow ≡ due_at rows (n + m) flow
+    go (inl l) =
+        due-there (drop n rows) m flow l
+        ∙ ap (λ (r : List ℕ). due_of r flow) (get_or-drop n rows m [])
+        ∙ sym (due-there rows (n + m) flow (omega (arith, long)))
+    go (inr l) = due-past (drop n rows) m flow l ∙ sym (due-past rows (n + m) flow (omega (arith, long)))
 
 -- ---- runs
-module _ (s : List ℕ) (flow slot from : ℕ) where
-  pub run_none : RunTo s flow slot from from
+module _ (rows : List (List ℕ)) (flow slot : ℕ) where
+  pub run_none : RunOf rows flow slot 0
   unfolding RunOf
-  run_none = record { count = 0; at_is = omega arith; each = λ m l. absurd (omega arith) }
+  run_none m l = absurd (omega arith)
 
-  pub run-next : (at : ℕ) → RunTo s flow slot from at → due_at s at flow ≡ slot → RunTo s flow slot from (at + 6)
+  pub run-next : (n : ℕ) → RunOf rows flow slot n → due_at rows n flow ≡ Some slot → RunOf rows flow slot (suc n)
   unfolding RunOf
-  run-next at r e = record { count = suc r.count; at_is = omega (arith, r.at_is); each = each }
-    where
-      each : (m : ℕ) → m < suc r.count → due_at s (from + 6 * m) flow ≡ slot
-      each m l = last_or m r.count l (λ q. ap (λ k. due_at s (from + 6 * k) flow) q ∙ ap (λ k. due_at s k flow) (sym r.at_is) ∙ e) (λ b. r.each m b)
+  run-next n r e m l = last_or m n l (λ q. ap (λ k. due_at rows k flow) q ∙ e) (λ b. r m b)
 
-  -- whole rows stand where a run reaches
-  pub run-whole : (at : ℕ) → WholeRows s from → RunTo s flow slot from at → WholeRows s at
-  run-whole at w r = rw r.at_is (whole_shift s from r.count w)
+  -- a run has no more rows than there are
+  pub run-inside : (n : ℕ) → RunOf rows flow slot n → n ≤ length rows
+  unfolding RunOf
+  run-inside zero r = omega arith
+  run-inside (suc n) r = omega (arith, due-inside rows n flow slot (r n (omega arith)))
 
   -- a run goes on where another one had got to
-  module _ (at n : ℕ) (r : RunTo s flow slot from at) where
-    pub run_of_joined : RunOf s flow slot at n → RunOf s flow slot from (r.count + n)
-    unfolding RunOf
-    run_of_joined each m l = go (lt-or_ge m r.count)
-      where
-        go : (m < r.count) ⊎ (r.count ≤ m) → due_at s (from + 6 * m) flow ≡ slot
-        go (inl b) = r.each m b
-        go (inr b) =
-            let p : from + 6 * m ≡ at + 6 * (m - r.count) = omega (arith, r.at_is) in
-            rw p (each (m - r.count) (omega arith))
+  pub run_of_joined : (n m : ℕ) → RunOf rows flow slot n → RunOf (drop n rows) flow slot m → RunOf rows flow slot (n + m)
+  unfolding RunOf
+  run_of_joined n m r q k l = go (lt-or_ge k n)
+    where
+      go : (k < n) ⊎ (n ≤ k) → due_at rows k flow ≡ Some slot
+      go (inl b) = r k b
+      go (inr b) =
+          let p : n + (k - n) ≡ k = omega arith in
+          rw p at (sym (due-drop rows n (k - n) flow) ∙ q (k - n) (omega arith))
 
-    pub run_of-rest : RunOf s flow slot from (r.count + n) → RunOf s flow slot at n
-    unfolding RunOf
-    run_of-rest each m l =
-        let p : at + 6 * m ≡ from + 6 * (r.count + m) = omega (arith, r.at_is) in
-        rw p (each (r.count + m) (omega arith))
+  pub run_of-rest : (n m : ℕ) → RunOf rows flow slot (n + m) → RunOf (drop n rows) flow slot m
+  unfolding RunOf
+  run_of-rest n m r k l = due-drop rows n k flow ∙ r (n + k) (omega arith)
 
--- where the last of sixteen rows is no more of the run, the run is shorter
-pub fewer : (s : List ℕ) (flow slot from next : ℕ) → RunTo s flow slot from next → (due_at s (from + 90) flow ≡ slot → ⊥) → next < from + 96
-unfolding RunOf
-fewer s flow slot from next r last = go (lt-or_ge next (from + 96))
-  where
-    go : (next < from + 96) ⊎ (from + 96 ≤ next) → next < from + 96
-    go (inl l) = l
-    go (inr l) = absurd (last (r.each 15 (omega (arith, r.at_is))))
+  -- where the last row of sixteen is no more of the run, the run is shorter
+  pub fewer : (n : ℕ) → RunOf rows flow slot n → (due_at rows 15 flow ≡ Some slot → ⊥) → n < 16
+  unfolding RunOf
+  fewer n r last = go (lt-or_ge n 16)
+    where
+      go : (n < 16) ⊎ (16 ≤ n) → n < 16
+      go (inl l) = l
+      go (inr l) = absurd (last (r 15 (omega arith)))
 
--- ---- copies of a run's rows, one behind the other
-pub run_to_joined : {s : List ℕ} {flow slot from at end : ℕ} → RunTo s flow slot from at → RunTo s flow slot at end → RunTo s flow slot from end
-run_to_joined {s} {flow} {slot} {from} {at} {end} r q = record {
-  count = r.count + q.count;
-  at_is = omega (arith, r.at_is, q.at_is);
-  each = run_of_joined s flow slot from at q.count r q.each;
-}
-
-pub copied-append : {s : List ℕ} {flow slot from to at end next : ℕ} {out mid out' : List ℕ} → next ≡ to + (at - from) →
-    Copied s flow slot from to out mid at → Copied s flow slot at next mid out' end → Copied s flow slot from to out out' end
-copied-append {s} {flow} {slot} {from} {to} {at} {end} {next} {out} e p q =
-    let l : at - from + (end - at) ≡ end - from = omega (arith, p.reaches.at_is, q.reaches.at_is) in
-    let back : from + (at - from) ≡ at = omega (arith, p.reaches.at_is) in
-    record {
-      reaches = run_to_joined p.reaches q.reaches;
-      copied =
-          q.copied
-          ∙ ap (λ (o : List ℕ). sets o next (part s at (end - at))) p.copied
-          ∙ ap (λ (n : ℕ). sets (sets out to (part s from (at - from))) n (part s at (end - at))) e
-          ∙ ap (λ (n : ℕ). sets (sets out to (part s from (at - from))) (to + (at - from)) (part s n (end - at))) (sym back)
-          ∙ copies-append out s to from (at - from) (end - at)
-          ∙ ap (λ (n : ℕ). sets out to (part s from n)) l;
+  -- ---- room for a run
+  module _ (room : ℕ) (p : RunAsked rows flow slot room) where
+    -- behind its first rows there is room for the rest
+    pub room_after : (n : ℕ) → RunOf rows flow slot n → RunAsked (drop n rows) flow slot (room - 6 * n)
+    room_after n r = record {
+      gapless = λ m e.
+          let z : suc (n + m) ≡ n + suc m = omega arith in
+          run_of-rest n (suc m) (rw z at (p.gapless (n + m) (sym (due-drop rows n m flow) ∙ e)));
+      fits = λ m q. omega (arith, p.fits (n + m) (run_of_joined n m r q));
     }
 
+    -- sixteen rows more, where the last of them belongs to the run
+    pub run_block : (n : ℕ) → due_at rows (n + 15) flow ≡ Some slot → RunOf rows flow slot (n + 16)
+    run_block n e = let z : suc (n + 15) ≡ n + 16 = omega arith in rw z at (p.gapless (n + 15) e)
+
+-- ---- what is written
+-- a write to a part is one from the part's start on
+pub put_sets : (a k : ℕ) (xs ys : List ℕ) → length ys ≡ k → a + k ≤ length xs → put_mid a k xs ys ≡ sets xs a ys
+put_sets a k xs ys e l =
+    let n : a + length ys ≡ a + k = omega (arith, e) in
+    sym
+    (sets-eq ys xs a (omega (arith, e))
+    ∙ ap (λ (j : ℕ). take a xs ++ ys ++ drop j xs) n
+    ∙ append_assoc (take a xs) ys (drop (a + k) xs)
+    ∙ ap (λ (t : List ℕ). take a xs ++ (ys ++ t)) (sym (drop-drop k a xs)))
+
+-- what is written behind what was written from the start on
+pub sets_behind : (out xs ys : List ℕ) (n : ℕ) → length xs ≡ n → sets (sets out 0 xs) n ys ≡ sets out 0 (xs ++ ys)
+sets_behind out xs ys n e =
+    let z : n ≡ 0 + length xs = omega (arith, e) in
+    rw z (sets-append out 0 xs ys)
+
+-- what is written to the start of the rest
+pub sets_rest : (l ys zs : List ℕ) (n k : ℕ) → n + length ys ≤ length l → k ≡ length l - n → zs ≡ sets (drop n l) 0 ys → put_mid n k l zs ≡ sets l n ys
+sets_rest l ys zs n k fits e is =
+    let long = length-drop n l in
+    let z : 0 + length ys ≡ length ys = omega arith in
+    let tail : zs ≡ ys ++ drop (n + length ys) l =
+    is ∙ sets-eq ys (drop n l) 0 (omega (arith, long)) ∙ ap (λ (j : ℕ). ys ++ drop j (drop n l)) z ∙ ap (ys ++◌) (drop-drop (length ys) n l) in
+    let none : drop k (drop n l) ≡ [] = drop_all k (drop n l) (omega (arith, long)) in
+    ap (λ (t : List ℕ). take n l ++ (zs ++ t)) none
+    ∙ ap (take n l ++◌) (append-nil zs ∙ tail)
+    ∙ sym (append_assoc (take n l) ys (drop (n + length ys) l))
+    ∙ sym (sets-eq ys l n fits)
+
+-- ---- copies, one behind the other
+pub front-add : (rows : List (List ℕ)) (n m : ℕ) → front rows (n + m) ≡ front rows n ++ front (drop n rows) m
+front-add rows n m = ap (flat_map (λ (r : List ℕ). r)) (take-add n m rows) ∙ flat_map-append (λ (r : List ℕ). r) (take n rows) (take m (drop n rows))
+
+pub copied-length : {rows : List (List ℕ)} {flow slot n : ℕ} {out out' : List ℕ} → Copied rows flow slot out out' n → length out' ≡ length out
+copied-length {rows} {n = n} {out = out} p = ap length p.copied ∙ length-sets out 0 (front rows n)
+
 -- all of a run
-pub run-copied : {s : List ℕ} {flow slot from to next : ℕ} {out out' : List ℕ} → Copied s flow slot from to out out' next →
-    (due_at s next flow ≡ slot → ⊥) → RunCopied s flow slot from to out out' next
-run-copied p ends = record { run = record { reaches = p.reaches; ends = ends }; copied = p.copied }
+pub run-copied : {rows : List (List ℕ)} {flow slot n : ℕ} {out out' : List ℕ} → Copied rows flow slot out out' n → (due_at rows n flow ≡ Some slot → ⊥) →
+    RunCopied rows flow slot out out' n
+run-copied p ends = record { run = record { each = p.each; ends = ends }; copied = p.copied }
 
-pub run-copied-behind : {s : List ℕ} {flow slot from to at end next : ℕ} {out mid out' : List ℕ} → next ≡ to + (at - from) →
-    Copied s flow slot from to out mid at → RunCopied s flow slot at next mid out' end → RunCopied s flow slot from to out out' end
-run-copied-behind e p q = run-copied (copied-append e p (record { reaches = q.run.reaches; copied = q.copied })) q.run.ends
+-- each row has six bytes
+pub record SixEach (rows : List (List ℕ)) : Type 0 where
+  pub six : (k : ℕ) → k < length rows → length (get_or rows k []) ≡ 6
 
-pub copied-length : {s : List ℕ} {flow slot from to at : ℕ} {out out' : List ℕ} → Copied s flow slot from to out out' at → length out' ≡ length out
-copied-length {s} {from = from} {to = to} {at = at} {out = out} p = ap length p.copied ∙ length-sets out to (part s from (at - from))
+front-next : (rows : List (List ℕ)) (n : ℕ) → n < length rows → front rows (suc n) ≡ front rows n ++ get_or rows n []
+front-next [] n h = absurd (omega arith)
+front-next (r ∷ rs) zero h = append-nil r
+front-next (r ∷ rs) (suc n) h = ap (r ++◌) (front-next rs n (omega arith)) ∙ sym (append_assoc r (front rs n) (get_or rs n []))
 
--- ---- room for a run
-module _ (s : List ℕ) (flow slot from to size : ℕ) (p : RunAsked s flow slot from to size) where
-  -- a run stays inside the table
-  pub run_inside : (at : ℕ) → RunTo s flow slot from at → at ≤ length s
-  unfolding RunOf
-  run_inside at r = go r.count refl
-    where
-      go : (n : ℕ) → r.count ≡ n → at ≤ length s
-      go zero e = omega (arith, r.at_is, p.inside)
-      go (suc n) e =
-          let i = row_inside s (from + 6 * n) flow slot p.a_slot (r.each n (omega arith)) in
-          omega (arith, r.at_is, p.rows.whole n i)
+pub front_length : (rows : List (List ℕ)) → SixEach rows → (n : ℕ) → n ≤ length rows → length (front rows n) ≡ 6 * n
+front_length rows six zero h = refl
+front_length rows six (suc n) h =
+    ap length (front-next rows n (omega arith))
+    ∙ length-append (front rows n) (get_or rows n [])
+    ∙ omega (arith, front_length rows six n (omega arith), six.six n (omega arith))
 
-  -- and behind its first rows there is room for the rest
-  pub room_after : (at next : ℕ) → next ≡ to + (at - from) → RunTo s flow slot from at → RunAsked s flow slot at next size
-  room_after at next is r = record {
-    rows = run-whole s flow slot from at p.rows r;
-    inside = run_inside at r;
-    short = p.short;
-    a_slot = p.a_slot;
-    gapless = λ m e.
-        let q : at + 6 * m ≡ from + 6 * (r.count + m) = omega (arith, r.at_is) in
-        let z : suc (r.count + m) ≡ r.count + suc m = omega arith in
-        run_of-rest s flow slot from at (suc m) r (rw z at (p.gapless (r.count + m) (rw q at e)));
-    room = λ n each. omega (arith, p.room (r.count + n) (run_of_joined s flow slot from at n r each), r.at_is);
-  }
+-- behind a copy of its first rows there is room for the rest of a run, and a copy of that makes one copy of both
+module _ {rows : List (List ℕ)} {flow slot n : ℕ} {out mid : List ℕ} (six : SixEach rows) (asked : RunAsked rows flow slot (length out))
+    (p : Copied rows flow slot out mid n) where
+  pub rest_asked : RunAsked (behind rows n) flow slot (length (behind mid (6 * n)))
+  rest_asked =
+      rw (rest_is rows n, rest_is mid (6 * n), length-drop (6 * n) mid, copied-length p)
+      (room_after rows flow slot (length out) asked n p.each)
 
-  -- the offset behind it in the output
-  pub offset-inside : (at : ℕ) → RunTo s flow slot from at → to + (at - from) ≤ size
-  offset-inside at r = omega (arith, p.room r.count r.each, r.at_is)
+  module _ {m : ℕ} {rest : List ℕ} where
+    pub copied-append : Copied (behind rows n) flow slot (behind mid (6 * n)) rest m →
+        Copied rows flow slot out (put_mid (6 * n) (length mid - 6 * n) mid rest) (n + m)
+    copied-append q =
+        let r : Copied (drop n rows) flow slot (drop (6 * n) mid) rest m = rw (rest_is rows n, rest_is mid (6 * n)) at q in
+        let each = run_of_joined rows flow slot n m p.each r.each in
+        let inside = run-inside rows flow slot (n + m) each in
+        let long = front_length rows six n (omega arith) in
+        let whole = front_length rows six (n + m) inside in
+        let both = ap length (front-add rows n m) ∙ length-append (front rows n) (front (drop n rows) m) in
+        record {
+          each = each;
+          copied =
+              sets_rest mid (front (drop n rows) m) rest (6 * n) (length mid - 6 * n)
+              (omega (arith, long, whole, both, copied-length p, asked.fits (n + m) each)) refl r.copied
+              ∙ ap (λ (o : List ℕ). sets o (6 * n) (front (drop n rows) m)) p.copied
+              ∙ sets_behind out (front rows n) (front (drop n rows) m) (6 * n) long
+              ∙ ap (sets out 0) (sym (front-add rows n m));
+        }
 
-  -- sixteen rows more, where the last of them belongs to the run
-  pub run_block : (done : ℕ) → RunTo s flow slot from (from + done) → due_at s (from + done + 90) flow ≡ slot → RunTo s flow slot from (from + done + 96)
-  run_block done r e =
-      let q : from + done + 90 ≡ from + 6 * (r.count + 15) = omega (arith, r.at_is) in
-      record { count = suc (r.count + 15); at_is = omega (arith, r.at_is); each = p.gapless (r.count + 15) (rw q at e) }
+    pub run-copied-behind : RunCopied (behind rows n) flow slot (behind mid (6 * n)) rest m →
+        RunCopied rows flow slot out (put_mid (6 * n) (length mid - 6 * n) mid rest) (n + m)
+    run-copied-behind q =
+        let ends : due_at (drop n rows) m flow ≡ Some slot → ⊥ = rw (rest_is rows n) at q.run.ends in
+        run-copied (copied-append (record { each = q.run.each; copied = q.copied })) (λ d. ends (due-drop rows n m flow ∙ d))
 
 -- ---- a loop that copies a run
--- `done` bytes of it are copied so far
-pub record Going (s : List ℕ) (flow slot from to : ℕ) (out₀ out : List ℕ) (done : ℕ) : Type 0 where
+-- n rows of it are copied so far
+pub record Going (rows : List (List ℕ)) (flow slot : ℕ) (out₀ out : List ℕ) (n : ℕ) : Type 0 where
   pub kept : length out ≡ length out₀
-  pub reaches : RunTo s flow slot from (from + done)
-  pub copied : out ≡ sets out₀ to (part s from done)
+  pub each : RunOf rows flow slot n
+  pub copied : out ≡ sets out₀ 0 (front rows n)
 
-module _ (s : List ℕ) (flow slot from to : ℕ) (out₀ : List ℕ) where
-  pub going-none : Going s flow slot from to out₀ out₀ 0
-  unfolding part list_from
-  going-none = record { kept = refl; reaches = rw add-zero (run_none s flow slot from); copied = refl }
+module _ (rows : List (List ℕ)) (flow slot : ℕ) (out₀ : List ℕ) where
+  pub going-none : Going rows flow slot out₀ out₀ 0
+  going-none = record { kept = refl; each = run_none rows flow slot; copied = refl }
 
-  pub going-copied : {out : List ℕ} {done : ℕ} → Going s flow slot from to out₀ out done → Copied s flow slot from to out₀ out (from + done)
-  going-copied {done = done} g = let n : from + done - from ≡ done = omega arith in record { reaches = g.reaches; copied = rw n g.copied }
+  pub going-copied : {out : List ℕ} {n : ℕ} → Going rows flow slot out₀ out n → Copied rows flow slot out₀ out n
+  going-copied g = record { each = g.each; copied = g.copied }
 
-  -- some bytes more
-  pub going_more : {out out' : List ℕ} {done : ℕ} (n : ℕ) → RunTo s flow slot from (from + done + n) →
-      out' ≡ sets out (to + done) (part s (from + done) n) → Going s flow slot from to out₀ out done → Going s flow slot from to out₀ out' (done + n)
-  going_more {out} {done = done} n r e g =
-      let a : from + done + n ≡ from + (done + n) = omega arith in
-      record {
-        kept = ap length e ∙ length-sets out (to + done) (part s (from + done) n) ∙ g.kept;
-        reaches = rw a at r;
-        copied =
-            e
-            ∙ ap (λ (o : List ℕ). sets o (to + done) (part s (from + done) n)) g.copied
-            ∙ copies-append out₀ s to from done n;
-      }
+  -- m rows more, whose bytes are these
+  pub going_more : {out : List ℕ} (n m : ℕ) (bytes : List ℕ) → SixEach rows → 6 * (n + m) ≤ length out₀ → RunOf rows flow slot (n + m) →
+      bytes ≡ front (drop n rows) m → Going rows flow slot out₀ out n → Going rows flow slot out₀ (put_mid (6 * n) (6 * m) out bytes) (n + m)
+  going_more {out} n m bytes six fits each is g =
+      let inside = run-inside rows flow slot (n + m) each in
+      let long = front_length rows six n (omega arith) in
+      let whole = front_length rows six (n + m) inside in
+      let both = ap length (front-add rows n m) ∙ length-append (front rows n) (front (drop n rows) m) in
+      let copied : put_mid (6 * n) (6 * m) out bytes ≡ sets out₀ 0 (front rows (n + m)) =
+      put_sets (6 * n) (6 * m) out bytes (ap length is ∙ omega (arith, long, whole, both)) (omega (arith, g.kept))
+      ∙ ap (sets out (6 * n)) is
+      ∙ ap (λ (o : List ℕ). sets o (6 * n) (front (drop n rows) m)) g.copied
+      ∙ sets_behind out₀ (front rows n) (front (drop n rows) m) (6 * n) long
+      ∙ ap (sets out₀ 0) (sym (front-add rows n m)) in
+      record { kept = ap length copied ∙ length-sets out₀ 0 (front rows (n + m)); each = each; copied = copied }
 
-  module _ (p : RunAsked s flow slot from to (length out₀)) {out : List ℕ} {done : ℕ} (g : Going s flow slot from to out₀ out done) where
-    pub going-inside : from + done ≤ length s
-    going-inside = run_inside s flow slot from to (length out₀) p (from + done) g.reaches
+  -- one row more
+  pub going_row : {out : List ℕ} (n k : ℕ) (row : List ℕ) → SixEach rows → RunAsked rows flow slot (length out₀) → due_at rows n flow ≡ Some slot →
+      k ≡ 6 → row ≡ get_or rows n [] → Going rows flow slot out₀ out n → Going rows flow slot out₀ (put_mid (6 * n) k out row) (n + 1)
+  going_row {out} n k row six asked due six_is is g =
+      let z : suc n ≡ n + 1 = omega arith in
+      let each : RunOf rows flow slot (n + 1) = rw z at (run-next rows flow slot n g.each due) in
+      let inside = due-inside rows n flow slot due in
+      let first : n + 0 ≡ n = omega arith in
+      let one : row ≡ front (drop n rows) 1 =
+      is
+      ∙ sym
+      (front-next (drop n rows) 0 (omega (arith, length-drop n rows))
+      ∙ get_or-drop n rows 0 []
+      ∙ ap (λ (j : ℕ). get_or rows j []) first) in
+      rw six_is (going_more n 1 row six (asked.fits (n + 1) each) each one g)
 
-    pub going-whole : (k : ℕ) → WholeRows s (from + done + 6 * k)
-    going-whole k = whole_shift s (from + done) k (run-whole s flow slot from (from + done) p.rows g.reaches)
-
-    -- what the copy of n bytes more asks
-    pub going-fits : (n : ℕ) → RunTo s flow slot from (from + done + n) → (from + done + n ≤ length s) × (to + done + n ≤ length out)
-    going-fits n r = (
-      run_inside s flow slot from to (length out₀) p (from + done + n) r,
-      omega (arith, p.room r.count r.each, r.at_is, g.kept),
-    )
-
-    -- one row more, and sixteen
-    pub going-row : due_at s (from + done) flow ≡ slot → RunTo s flow slot from (from + done + 6)
-    going-row e = run-next s flow slot from (from + done) g.reaches e
-
-    pub going_block : due_at s (from + done + 90) flow ≡ slot → RunTo s flow slot from (from + done + 96)
-    going_block e = run_block s flow slot from to (length out₀) p done g.reaches e
+  -- a block more
+  pub going_block : {out : List ℕ} (k size : ℕ) (bytes : List ℕ) → SixEach rows → RunAsked rows flow slot (length out₀) →
+      due_at rows (16 * k + 15) flow ≡ Some slot → size ≡ 96 → bytes ≡ front (drop (16 * k) rows) 16 → Going rows flow slot out₀ out (16 * k) →
+      Going rows flow slot out₀ (put_mid (96 * k) size out bytes) (16 * (k + 1))
+  going_block {out} k size bytes six asked due size_is is g =
+      let at : 96 * k ≡ 6 * (16 * k) = omega arith in
+      let z : 16 * (k + 1) ≡ 16 * k + 16 = omega arith in
+      let each = run_block rows flow slot (length out₀) asked (16 * k) due in
+      rw (size_is, at, z) (going_more (16 * k) 16 bytes six (asked.fits (16 * k + 16) each) each is g)

@@ -3,18 +3,21 @@ use mathlib.Core.Path.{◌≡◌, refl, sym, ap, ◌∙◌}
 use mathlib.Core.Bool.{Bool, true, false}
 use Prim.Native.Nat.{ℕ, zero, suc, ◌+◌, ◌*◌, ◌-◌, ◌≤◌, ◌<◌}
 use native.Mathlib.Omega.{arith}
-use mathlib.Core.List.{List, [], ◌∷◌, ◌++◌, append_assoc, append-nil}
-use lib.ListN.{length, get_or, set, length-set, length-append}
-use lib.Seq.{sets, get_or-set_same, get_or-set_other}
+use mathlib.Core.List.{List, [], ◌∷◌, ◌++◌, map, append_assoc, append-nil}
+use lib.ListN.{length, get_or, set, drop, length-set, length-append, length-map}
+use lib.Seq.{sets, length-sets, get_or-set_same, get_or-set_other}
 use lib.Dec.{eqb}
 use borrow.Author.Tests.{eqb-true, eqb-false, eq-eqb}
-use Rattle.rules.specs.Fields.{AllBytes, field}
+use borrow.Rule.Slice.PartMut.{put_mid}
+use Rattle.std.specs.Prelude.{Some, unwrap_or}
+use Rattle.std.proofs.lemmas.List.{nil_from_length}
+use Rattle.rules.specs.Fields.{field}
 use Rattle.rules.specs.Walks.{join_from}
 use Rattle.rules.specs.Limits.{slots}
 use Rattle.rules.specs.Book.{Book, flow_count}
 use Rattle.rules.specs.Reading.{book_of}
 use Rattle.rules.specs.Rows.{Row, used_in}
-use Rattle.rules.specs.Table.{table_head, row_length, row_bytes, rows_bytes}
+use Rattle.rules.specs.Table.{row_length, row_bytes, rows_bytes}
 use Rattle.rules.specs.Check.{no_row}
 use Rattle.rules.proofs.Laws.Walks.{last_or, join_last}
 use Rattle.rules.proofs.Laws.Fields.{sets-append}
@@ -22,102 +25,74 @@ use Rattle.rules.proofs.Rows.Rising.{at_in}
 use Rattle.rules.proofs.Rows.RowSums.{sum_where-least}
 use Rattle.rules.proofs.Tables.TableBytes.{rows-bytes-length}
 use Rattle.rules.proofs.Rows.WorkArea.{used_pair}
-use Rattle.dispatch.specs.Runs.{due_at, Run, RunCopied}
-use Rattle.dispatch.specs.Merge.{Accepted, accepted_rows, InUse, rows_at, rows_in, offset_after, CursorAt, Cursors, RowsListed}
-use Rattle.dispatch.proofs.Runs.{run_none}
-use Rattle.dispatch.proofs.Keeping.{no_rows, keep-none}
+use Rattle.dispatch.specs.declared.merge.Cursor as code
+use Rattle.dispatch.specs.Accepted.{Accepted, accepted_rows}
+use Rattle.dispatch.specs.Runs.{due_at, Run, front, RunCopied}
+use Rattle.dispatch.specs.declared.accepted.AcceptedTable.{AcceptedTable}
+use Rattle.dispatch.specs.Merge.{book_beside, rows_of, InUse, rows_at, rows_in, rows_below, Cursor, CursorStands, CursorAt, Cursors, no_cursor, RowsListed, FlowAsked, SlotAsked}
+use Rattle.dispatch.proofs.Listing.{flow-room, slot-left, slot-room}
+use Rattle.dispatch.proofs.Runs.{behind, rest_is, run_none, due-drop, sets_rest}
+use Rattle.dispatch.proofs.Keeping.{keep-none}
 use Rattle.dispatch.proofs.Cursors.{is_in, not_in}
 use Rattle.dispatch.proofs.Tables.{in_range, row-passes, use-within, due-within, due-row-slot, after_run, run-size, run-bytes}
 
--- ---- arrays with one element set
-module _ (l : List ℕ) (f v : ℕ) (few : f < length l) where
-  set_there : get_or (set l f v) f 0 ≡ v
-  set_there = get_or-set_same l f v 0 few
-
-  set-elsewhere : (g : ℕ) → (g ≡ f → ⊥) → get_or (set l f v) g 0 ≡ get_or l g 0
-  set-elsewhere g ne = get_or-set_other l f g v 0 ne
+-- ---- a cursor that stands at a row, where that is the one before the slot
+pub cursor_stands : {rows : List Row} {f t at : ℕ} {c : code.Cursor} → CursorStands rows f at c → Cursor rows f t at → CursorAt rows t c
+cursor_stands {rows} {f} {t} {c = c} p q =
+    let here : Cursor rows c.flow t c.at = rw (p.flow_is, p.at_is) q in
+    let due : c.due ≡ unwrap_or (due_at (map row_bytes rows) c.at c.flow) 65535 = rw (p.flow_is, p.at_is) p.due_is in
+    record { stands = here; due_is = due }
 
 -- ---- cursors at the first rows
 -- those of the flows below n are set
-pub record Started (b : Book) (s : List ℕ) (n : ℕ) (ats dues : List ℕ) : Type 0 where
-  pub ats_long : length ats ≡ 64
-  pub dues_long : length dues ≡ 64
-  pub at : (f : ℕ) → f < n → CursorAt b s f 0 (get_or ats f 0)
-  pub due : (f : ℕ) → f < n → get_or dues f 0 ≡ due_at s (get_or ats f 0) f
+pub record Started (rows : List Row) (n : ℕ) (cursors : List code.Cursor) : Type 0 where
+  pub own : (f : ℕ) → f < n → (get_or cursors f no_cursor).flow ≡ f
+  pub at : (f : ℕ) → f < n → CursorAt rows 0 (get_or cursors f no_cursor)
 
-module _ (b : Book) (s : List ℕ) where
-  pub started_none : (ats dues : List ℕ) → length ats ≡ 64 → length dues ≡ 64 → Started b s 0 ats dues
-  started_none ats dues l m = record { ats_long = l; dues_long = m; at = λ f h. absurd (omega arith); due = λ f h. absurd (omega arith) }
+pub started_none : (rows : List Row) (cursors : List code.Cursor) → Started rows 0 cursors
+started_none rows cursors = record { own = λ f l. absurd (omega arith); at = λ f l. absurd (omega arith) }
 
-  pub started-next : (n at due : ℕ) (ats dues : List ℕ) → n < 64 → CursorAt b s n 0 at → due ≡ due_at s at n → Started b s n ats dues →
-      Started b s (n + 1) (set ats n at) (set dues n due)
-  started-next n at due ats dues few cursor is p = record {
-    ats_long = length-set ats n at ∙ p.ats_long;
-    dues_long = length-set dues n due ∙ p.dues_long;
-    at = λ f l. last_or f n (omega arith) (λ e. rw (e, there) cursor) (λ m. rw (other f m) (p.at f m));
-    due = λ f l. last_or f n (omega arith) (λ e. rw (e, there, due-there) is) (λ m. rw (other f m, due-other f m) (p.due f m));
+module _ (rows : List Row) (n : ℕ) (c : code.Cursor) (cursors : List code.Cursor) (few : n < length cursors) where
+  there : get_or (set cursors n c) n no_cursor ≡ c
+  there = get_or-set_same cursors n c no_cursor few
+
+  other : (g : ℕ) → (g ≡ n → ⊥) → get_or (set cursors n c) g no_cursor ≡ get_or cursors g no_cursor
+  other g ne = get_or-set_other cursors n g c no_cursor ne
+
+  pub started-next : c.flow ≡ n → CursorAt rows 0 c → Started rows n cursors → Started rows (n + 1) (set cursors n c)
+  started-next own here p = record {
+    own = λ f l. last_or f n (omega arith) (λ e. rw (e, there) own) (λ m. rw (other f (λ e. omega arith)) (p.own f m));
+    at = λ f l. last_or f n (omega arith) (λ e. rw (e, there) here) (λ m. rw (other f (λ e. omega arith)) (p.at f m));
   }
-    where
-      there : get_or (set ats n at) n 0 ≡ at
-      there = set_there ats n at (omega (arith, p.ats_long))
-
-      due-there : get_or (set dues n due) n 0 ≡ due
-      due-there = set_there dues n due (omega (arith, p.dues_long))
-
-      other : (f : ℕ) → f < n → get_or (set ats n at) f 0 ≡ get_or ats f 0
-      other f m = set-elsewhere ats n at (omega (arith, p.ats_long)) f (λ e. omega arith)
-
-      due-other : (f : ℕ) → f < n → get_or (set dues n due) f 0 ≡ get_or dues f 0
-      due-other f m = set-elsewhere dues n due (omega (arith, p.dues_long)) f (λ e. omega arith)
-
-  pub started-all : (ats dues : List ℕ) → Started b s (flow_count b) ats dues → Cursors b s 0 0 ats dues
-  started-all ats dues p =
-      record { ats_long = p.ats_long; dues_long = p.dues_long; passed = λ f l. absurd (omega arith); ahead = λ f l m. p.at f m; due = p.due }
 
   -- ---- one cursor goes on
-  module _ (t f : ℕ) (ats dues : List ℕ) (in_book : f < flow_count b) (few : flow_count b ≤ 64) (p : Cursors b s t f ats dues) where
-    pub cursors-moved : (next due : ℕ) → CursorAt b s f (suc t) next → due ≡ due_at s next f → Cursors b s t (suc f) (set ats f next) (set dues f due)
-    cursors-moved next due cursor is = record {
-      ats_long = length-set ats f next ∙ p.ats_long;
-      dues_long = length-set dues f due ∙ p.dues_long;
-      passed = λ g l. last_or g f l (λ e. rw (e, there) cursor) (λ m. rw (other g (λ e. omega arith)) (p.passed g m));
-      ahead = λ g l m. rw (other g (λ e. omega arith)) (p.ahead g (omega arith) m);
-      due = due_of;
-    }
-      where
-        there : get_or (set ats f next) f 0 ≡ next
-        there = set_there ats f next (omega (arith, p.ats_long))
+  pub cursors-moved : (b : Book) (t : ℕ) → c.flow ≡ n → Cursors b rows t n cursors → CursorAt rows (suc t) c → Cursors b rows t (n + 1) (set cursors n c)
+  cursors-moved b t own p here = record {
+    one_each = length-set cursors n c ∙ p.one_each;
+    own = each;
+    passed = λ g l. last_or g n (omega arith) (λ e. rw (e, there) here) (λ m. rw (other g (λ e. omega arith)) (p.passed g m));
+    ahead = λ g l m. rw (other g (λ e. omega arith)) (p.ahead g (omega arith) m);
+  }
+    where
+      each : (f : ℕ) → f < flow_count b → (get_or (set cursors n c) f no_cursor).flow ≡ f
+      each f l = go (eqb f n) refl
+        where
+          go : (x : Bool) → eqb f n ≡ x → (get_or (set cursors n c) f no_cursor).flow ≡ f
+          go true e = let d = eqb-true f n e in rw (d, there) own
+          go false e = rw (other f (eqb-false f n e)) (p.own f l)
 
-        due-there : get_or (set dues f due) f 0 ≡ due
-        due-there = set_there dues f due (omega (arith, p.dues_long))
-
-        other : (g : ℕ) → (g ≡ f → ⊥) → get_or (set ats f next) g 0 ≡ get_or ats g 0
-        other g ne = set-elsewhere ats f next (omega (arith, p.ats_long)) g ne
-
-        due-other : (g : ℕ) → (g ≡ f → ⊥) → get_or (set dues f due) g 0 ≡ get_or dues g 0
-        due-other g ne = set-elsewhere dues f due (omega (arith, p.dues_long)) g ne
-
-        due_of : (g : ℕ) → g < flow_count b → get_or (set dues f due) g 0 ≡ due_at s (get_or (set ats f next) g 0) g
-        due_of g l = go (eqb g f) refl
-          where
-            go : (x : Bool) → eqb g f ≡ x → get_or (set dues f due) g 0 ≡ due_at s (get_or (set ats f next) g 0) g
-            go true e = let d = eqb-true g f e in rw (d, there, due-there) is
-            go false e = let ne = eqb-false g f e in rw (other g ne, due-other g ne) (p.due g l)
-
-    -- a cursor that need not move
-    pub cursors-kept : CursorAt b s f (suc t) (get_or ats f 0) → Cursors b s t (suc f) ats dues
-    cursors-kept cursor = record {
-      ats_long = p.ats_long;
-      dues_long = p.dues_long;
-      passed = λ g l. last_or g f l (λ e. rw e cursor) (λ m. p.passed g m);
-      ahead = λ g l m. p.ahead g (omega arith) m;
-      due = p.due;
-    }
+module _ (b : Book) (rows : List Row) where
+  pub started-all : (n : ℕ) (cursors : List code.Cursor) → length cursors ≡ flow_count b → n ≡ flow_count b → Started rows n cursors → Cursors b rows 0 0 cursors
+  started-all n cursors long all p = record {
+    one_each = long;
+    own = λ f l. p.own f (omega arith);
+    passed = λ f l. absurd (omega arith);
+    ahead = λ f l m. p.at f (omega arith);
+  }
 
   -- all of them went on
-  pub cursors-next : (t : ℕ) (ats dues : List ℕ) → Cursors b s t (flow_count b) ats dues → Cursors b s (suc t) 0 ats dues
-  cursors-next t ats dues p =
-      record { ats_long = p.ats_long; dues_long = p.dues_long; passed = λ f l. absurd (omega arith); ahead = λ f l m. p.passed f m; due = p.due }
+  pub cursors-next : (t : ℕ) (cursors : List code.Cursor) → Cursors b rows t (flow_count b) cursors → Cursors b rows (suc t) 0 cursors
+  cursors-next t cursors p = record { one_each = p.one_each; own = p.own; passed = λ f l. absurd (omega arith); ahead = λ f l m. p.passed f m }
 
 -- ---- rows listed, one list behind the other
 rows-bytes-append : (xs ys : List Row) → rows_bytes (xs ++ ys) ≡ rows_bytes xs ++ rows_bytes ys
@@ -125,50 +100,98 @@ unfolding rows_bytes
 rows-bytes-append [] ys = refl
 rows-bytes-append (x ∷ xs) ys = ap (row_bytes x ++◌) (rows-bytes-append xs ys) ∙ sym (append_assoc (row_bytes x) (rows_bytes xs) (rows_bytes ys))
 
-pub listed-none : (to : ℕ) (out : List ℕ) → RowsListed [] to out out to
-unfolding offset_after rows_bytes
-listed-none to out = record { written = refl; next_is = omega arith }
+pub listed-none : (count : ℕ) (out : List ℕ) → RowsListed [] count out out count
+unfolding rows_bytes
+listed-none count out = record { written = refl; next_is = omega arith }
 
-pub listed-append : {xs ys : List Row} {to next end : ℕ} {out mid out' : List ℕ} → RowsListed xs to out mid next → RowsListed ys next mid out' end →
-    RowsListed (xs ++ ys) to out out' end
-unfolding offset_after
-listed-append {xs} {ys} {to} {next} {end} {out} p q = record {
-  written =
-      q.written
-      ∙ ap (λ (o : List ℕ). sets o next (rows_bytes ys)) p.written
-      ∙ ap (λ (n : ℕ). sets (sets out to (rows_bytes xs)) n (rows_bytes ys)) (p.next_is ∙ ap (to +◌) (sym (rows-bytes-length xs)))
-      ∙ sets-append out to (rows_bytes xs) (rows_bytes ys)
-      ∙ ap (sets out to) (sym (rows-bytes-append xs ys));
-  next_is = omega (arith, q.next_is, p.next_is, length-append xs ys);
-}
+pub listed-length : {xs : List Row} {n m : ℕ} {out out' : List ℕ} → RowsListed xs n out out' m → length out' ≡ length out
+listed-length {xs} {n} {out = out} p = ap length p.written ∙ length-sets out (row_length * n) (rows_bytes xs)
+
+pub listed-append : {xs ys : List Row} {n m k : ℕ} {out mid out' : List ℕ} → RowsListed xs n out mid m → RowsListed ys m mid out' k →
+    RowsListed (xs ++ ys) n out out' k
+listed-append {xs} {ys} {n} {m} {k} {out} p q =
+    let at : row_length * m ≡ row_length * n + length (rows_bytes xs) = omega (arith, p.next_is, rows-bytes-length xs) in
+    record {
+      written =
+          q.written
+          ∙ ap (λ (o : List ℕ). sets o (row_length * m) (rows_bytes ys)) p.written
+          ∙ ap (λ (j : ℕ). sets (sets out (row_length * n) (rows_bytes xs)) j (rows_bytes ys)) at
+          ∙ sets-append out (row_length * n) (rows_bytes xs) (rows_bytes ys)
+          ∙ ap (sets out (row_length * n)) (sym (rows-bytes-append xs ys));
+      next_is = omega (arith, q.next_is, p.next_is, length-append xs ys);
+    }
+
+-- the flow whose turn it is is one of the book, its cursor stands before the slot, and there is room for its rows
+-- behind those of the flows before
+pub flow_asked : (a : AcceptedTable) {slot f count next : ℕ} {before cursors : List code.Cursor} {out out' : List ℕ} →
+    SlotAsked a slot count before (length out) → f < length cursors → Cursors (book_beside a) (rows_of a) slot f cursors →
+    RowsListed (rows_in (rows_of a) f slot) count out out' next → FlowAsked a slot next (get_or cursors f no_cursor) (length out')
+flow_asked a {slot} {f} {count} {next} {before} {cursors} {out} {out'} p few q listed =
+    let among : f < flow_count (book_beside a) = omega (arith, q.one_each) in
+    let own = q.own f among in
+    record {
+      a_slot = p.a_slot;
+      a_flow = omega (arith, own);
+      cursor = q.ahead f (omega arith) among;
+      fits =
+          rw own
+          (omega (arith, p.fits, flow-room (rows_of a) slot f (flow_count (book_beside a)) among, listed.next_is, listed-length listed));
+    }
+
+-- while a row is left a slot is left, and there is room for its rows behind those of the slots before
+pub slot_asked : (a : AcceptedTable) {slot count : ℕ} {cursors : List code.Cursor} {out out' : List ℕ} → 6 * length (rows_of a) ≤ length out → slot ≤ slots →
+    count < length a.rows.now → Cursors (book_beside a) (rows_of a) slot 0 cursors →
+    RowsListed (rows_below (rows_of a) (flow_count (book_beside a)) slot) 0 out out' count → SlotAsked a slot count cursors (length out')
+slot_asked a {slot} room upto more cursors listed =
+    let all = ap length a.rows_are ∙ length-map (rows_of a) row_bytes in
+    let left : slot < slots = slot-left a.book.now.bytes.now a.table.now a.accepted slot upto (omega (arith, all, listed.next_is)) in
+    record {
+      a_slot = left;
+      cursors_are = cursors;
+      fits = omega (arith, room, slot-room a.book.now.bytes.now a.table.now a.accepted slot left, listed.next_is, listed-length listed);
+    }
 
 -- ---- a flow in a slot
-module _ (book table : List ℕ) (accepted : Accepted book table) (f t at : ℕ) (a_slot : t < slots)
-    (cursor : CursorAt (book_of book) table f t at) where
+module _ (book table : List ℕ) (accepted : Accepted book table) (f t at : ℕ) (cursor : Cursor (accepted_rows book table) f t at) where
+  abbrev held : List (List ℕ)
+  held = map row_bytes (accepted_rows book table)
+
   -- a run that is copied lists the flow's rows in the slot
-  pub run-listed : (to next : ℕ) (out out' : List ℕ) → AllBytes table → RunCopied table f t at to out out' next →
-      RowsListed (rows_at (accepted_rows book table) t f) to out out' (to + (next - at))
-  unfolding offset_after
-  run-listed to next out out' bytes r = record {
-    written = r.copied ∙ ap (sets out to) (run-bytes book table accepted f t at cursor (omega arith) next r.run bytes);
-    next_is = ap (to +◌) (run-size book table accepted f t at cursor (omega arith) next r.run);
-  }
+  pub run-listed : (count n : ℕ) (out out' : List ℕ) → 6 * (count + length (rows_at (accepted_rows book table) t f)) ≤ length out →
+      RunCopied (behind held at) f t (behind out (6 * count)) out' n →
+      RowsListed (rows_at (accepted_rows book table) t f) count out (put_mid (6 * count) (length out - 6 * count) out out') (count + n)
+  run-listed count n out out' fits r =
+      let rows = rows_at (accepted_rows book table) t f in
+      let written : out' ≡ sets (drop (6 * count) out) 0 (rows_bytes rows) =
+      r.copied
+      ∙ ap (λ (o : List ℕ). sets o 0 (front (behind held at) n)) (rest_is out (6 * count))
+      ∙ ap (sets (drop (6 * count) out) 0) (run-bytes book table accepted f t at cursor n r.run) in
+      record {
+        written = sets_rest out (rows_bytes rows) out' (6 * count) (length out - 6 * count) (omega (arith, rows-bytes-length rows)) refl written;
+        next_is = ap (count +◌) (run-size book table accepted f t at cursor n r.run);
+      }
 
   -- a cursor at another slot has none there
-  module _ (not-due : due_at table at f ≡ t → ⊥) where
-    nothing : Run table f t at at
-    nothing = record { reaches = run_none table f t at; ends = not-due }
+  module _ (not-due : due_at held at f ≡ Some t → ⊥) where
+    nothing : Run (behind held at) f t 0
+    nothing =
+        let here : at + 0 ≡ at = omega arith in
+        rw (rest_is held at)
+        (record {
+          each = run_none _ f t;
+          ends = λ d. not-due (ap (λ (n : ℕ). due_at held n f) (sym here) ∙ sym (due-drop held at 0 f) ∙ d);
+        })
 
-    pub kept_cursor : CursorAt (book_of book) table f (suc t) at
-    kept_cursor = after_run book table accepted f t at cursor (omega arith) at nothing
+    pub kept_cursor : Cursor (accepted_rows book table) f (suc t) at
+    kept_cursor =
+        let here : at + 0 ≡ at = omega arith in
+        rw here at (after_run book table accepted f t at cursor 0 nothing)
 
     none-there : rows_at (accepted_rows book table) t f ≡ []
-    none-there =
-        let e = run-size book table accepted f t at cursor (omega arith) at nothing in
-        no_rows (rows_at (accepted_rows book table) t f) (omega (arith, e))
+    none-there = nil_from_length (rows_at (accepted_rows book table) t f) (sym (run-size book table accepted f t at cursor 0 nothing))
 
-    pub kept-listed : (to : ℕ) (out : List ℕ) → RowsListed (rows_at (accepted_rows book table) t f) to out out to
-    kept-listed to out = rw none-there (listed-none to out)
+    pub kept-listed : (count : ℕ) (out : List ℕ) → RowsListed (rows_at (accepted_rows book table) t f) count out out count
+    kept-listed count out = rw none-there (listed-none count out)
 
 -- ---- a slot that is not in use
 module _ (book table : List ℕ) (accepted : Accepted book table) (t : ℕ) (a_slot : t < slots) where
@@ -197,17 +220,15 @@ module _ (book table : List ℕ) (accepted : Accepted book table) (t : ℕ) (a_s
     no-rows_in zero = refl
     no-rows_in (suc n) = join_last (rows_at rows t) n ∙ rw (none_in n) (append-nil (join_from (rows_at rows t) n 0) ∙ no-rows_in n)
 
-    pub cursors-pass : (ats dues : List ℕ) → Cursors (book_of book) table t 0 ats dues → Cursors (book_of book) table (suc t) 0 ats dues
-    cursors-pass ats dues p = record {
-      ats_long = p.ats_long;
-      dues_long = p.dues_long;
+    pub cursors-pass : (cursors : List code.Cursor) → Cursors (book_of book) rows t 0 cursors → Cursors (book_of book) rows (suc t) 0 cursors
+    cursors-pass cursors p = record {
+      one_each = p.one_each;
+      own = p.own;
       passed = λ f l. absurd (omega arith);
-      ahead = λ f l m. let q = p.ahead f (omega arith) m in kept_cursor book table accepted f t (get_or ats f 0) a_slot q (not-due f (get_or ats f 0) q);
-      due = p.due;
+      ahead = λ f l m.
+          let q = p.ahead f (omega arith) m in
+          record { stands = kept_cursor book table accepted _ t _ q.stands (not-due _ _); due_is = q.due_is };
     }
       where
-        not-due : (f at : ℕ) → CursorAt (book_of book) table f t at → due_at table at f ≡ t → ⊥
-        not-due f at q d =
-            let z : at ≡ table_head (book_of book) + row_length * q.index + 6 * 0 = omega (arith, q.at_is) in
-            let e = rw z at d in
-            no-row (q.index + 0) (due-within book table accepted f t q.index 0 (omega arith) e) (due-row-slot book table accepted f t q.index 0 (omega arith) e)
+        not-due : (f at : ℕ) → due_at (map row_bytes rows) at f ≡ Some t → ⊥
+        not-due f at d = no-row at (due-within book table accepted f t at d) (due-row-slot book table accepted f t at d)

@@ -1,5 +1,7 @@
--- Runs of rows in the bytes of a table: the rows of one flow in one slot, from an offset on, and what copying them leaves. Assumes nothing.
-use Rattle.std.specs.Prelude.{◌≡◌, ℕ, suc, ◌+◌, ◌*◌, ◌-◌, ◌≤◌, ◌<◌, List, length, leb, eqb, if◌then◌else◌}
+-- Runs of rows, each as its six bytes: the rows of one flow in one slot, from the first one on, and what copying them
+-- leaves. Assumes nothing.
+use Rattle.std.specs.Prelude.{◌≡◌, ℕ, suc, ◌+◌, ◌*◌, ◌≤◌, ◌<◌, List, [], length, take, get_or, Option, Some, None, leb, eqb, if◌then◌else◌}
+use Rattle.std.specs.List.{flat_map}
 use Rattle.std.proofs.lemmas.List.Edits.{sets}
 use Rattle.rules.specs.Walks.{list_from}
 use Rattle.rules.specs.Fields.{byte, field}
@@ -8,56 +10,50 @@ use Rattle.rules.specs.Fields.{byte, field}
 unfoldable pub part : List ℕ → ℕ → ℕ → List ℕ
 part s from n = list_from (byte s) n from
 
--- the slot of the row at `at`, where it is one of this flow; 65,535, which no row has, where it is not or the table ends
-unfoldable pub due_at : List ℕ → ℕ → ℕ → ℕ
-due_at s at flow = if leb (length s) at then 65535 else if eqb (byte s (at + 2)) flow then field 2 s at else 65535
+-- the slot of a row, where it is one of this flow
+unfoldable pub due_of : List ℕ → ℕ → Option ℕ
+due_of row flow = if eqb (byte row 2) flow then Some (field 2 row 0) else None
 
--- nothing but whole rows stands from `at` on
-pub record WholeRows (s : List ℕ) (at : ℕ) : Type 0 where
-  pub whole : (m : ℕ) → at + 6 * m < length s → at + 6 * m + 6 ≤ length s
+-- the slot of the row at `at`, where there is one and it is one of this flow
+unfoldable pub due_at : List (List ℕ) → ℕ → ℕ → Option ℕ
+due_at rows at flow = if leb (length rows) at then None else due_of (get_or rows at []) flow
 
--- n rows of this flow in this slot stand from `from` on
-unfoldable pub RunOf : List ℕ → ℕ → ℕ → ℕ → ℕ → Type 0
-RunOf s flow slot from n = (m : ℕ) → m < n → due_at s (from + 6 * m) flow ≡ slot
-
--- such rows, and no others, stand from `from` up to `at`
-pub record RunTo (s : List ℕ) (flow slot from at : ℕ) : Type 0 where
-  pub count : ℕ
-  pub at_is : at ≡ from + 6 * count
-  pub each : RunOf s flow slot from count
+-- the first n rows are of this flow in this slot
+unfoldable pub RunOf : List (List ℕ) → ℕ → ℕ → ℕ → Type 0
+RunOf rows flow slot n = (m : ℕ) → m < n → due_at rows m flow ≡ Some slot
 
 -- and the run ends there
-pub record Run (s : List ℕ) (flow slot from end : ℕ) : Type 0 where
-  pub reaches : RunTo s flow slot from end
-  pub ends : due_at s end flow ≡ slot → ⊥
+pub record Run (rows : List (List ℕ)) (flow slot n : ℕ) : Type 0 where
+  pub each : RunOf rows flow slot n
+  pub ends : due_at rows n flow ≡ Some slot → ⊥
 
--- what copying a run asks: whole rows from `from` on in a table whose length four bytes can hold, what stands between two rows of the run belongs to it, and
--- there is room for the run, however long it is
-pub record RunAsked (s : List ℕ) (flow slot from to size : ℕ) : Type 0 where
-  pub rows : WholeRows s from
-  pub inside : from ≤ length s
-  pub short : length s < 4294967296
-  pub a_slot : slot < 65535
-  pub gapless : (m : ℕ) → due_at s (from + 6 * m) flow ≡ slot → RunOf s flow slot from (suc m)
-  pub room : (n : ℕ) → RunOf s flow slot from n → to + 6 * n ≤ size
+-- what copying a run asks: what stands between two rows of the run belongs to it, and there is room for the run,
+-- however long it is
+pub record RunAsked (rows : List (List ℕ)) (flow slot room : ℕ) : Type 0 where
+  pub gapless : (m : ℕ) → due_at rows m flow ≡ Some slot → RunOf rows flow slot (suc m)
+  pub fits : (n : ℕ) → RunOf rows flow slot n → 6 * n ≤ room
 
--- the rows of a run from `from` up to `at` are copied to `to`
-pub record Copied (s : List ℕ) (flow slot from to : ℕ) (out out' : List ℕ) (at : ℕ) : Type 0 where
-  pub reaches : RunTo s flow slot from at
-  pub copied : out' ≡ sets out to (part s from (at - from))
+-- the bytes of the first n rows
+abbrev pub front : List (List ℕ) → ℕ → List ℕ
+front rows n = flat_map (λ row. row) (take n rows)
+
+-- the first n rows are of the run, and they are copied
+pub record Copied (rows : List (List ℕ)) (flow slot : ℕ) (out out' : List ℕ) (n : ℕ) : Type 0 where
+  pub each : RunOf rows flow slot n
+  pub copied : out' ≡ sets out 0 (front rows n)
 
 -- the same, and fewer than 16 rows of the run are left
-pub record BlocksCopied (s : List ℕ) (flow slot from to : ℕ) (out out' : List ℕ) (at : ℕ) : Type 0 where
-  pub some : Copied s flow slot from to out out' at
-  pub few_left : due_at s (at + 90) flow ≡ slot → ⊥
+pub record BlocksCopied (rows : List (List ℕ)) (flow slot : ℕ) (out out' : List ℕ) (n : ℕ) : Type 0 where
+  pub some : Copied rows flow slot out out' n
+  pub few_left : due_at rows (n + 15) flow ≡ Some slot → ⊥
 
--- the same, of at most `most` bytes of rows: all of the run, where it is fewer
-pub record SomeCopied (most : ℕ) (s : List ℕ) (flow slot from to : ℕ) (out out' : List ℕ) (next : ℕ) : Type 0 where
-  pub some : Copied s flow slot from to out out' next
-  pub within : next ≤ from + most
-  pub ends : next < from + most → due_at s next flow ≡ slot → ⊥
+-- the same, of at most `most` rows: all of the run, where it is fewer
+pub record SomeCopied (most : ℕ) (rows : List (List ℕ)) (flow slot : ℕ) (out out' : List ℕ) (n : ℕ) : Type 0 where
+  pub some : Copied rows flow slot out out' n
+  pub within : n ≤ most
+  pub ends : n < most → due_at rows n flow ≡ Some slot → ⊥
 
--- a whole run is copied to `to`
-pub record RunCopied (s : List ℕ) (flow slot from to : ℕ) (out out' : List ℕ) (next : ℕ) : Type 0 where
-  pub run : Run s flow slot from next
-  pub copied : out' ≡ sets out to (part s from (next - from))
+-- a whole run is copied
+pub record RunCopied (rows : List (List ℕ)) (flow slot : ℕ) (out out' : List ℕ) (n : ℕ) : Type 0 where
+  pub run : Run rows flow slot n
+  pub copied : out' ≡ sets out 0 (front rows n)

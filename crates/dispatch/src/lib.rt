@@ -3,83 +3,90 @@
 
 ghost use Rattle.std.specs.Prelude.{◌≡◌, ◌≤◌, ◌++◌, length, drop};
 ghost use Rattle.std.proofs.lemmas.List.Edits.{sets};
-ghost use Rattle.rules.specs.Answers.{list_refused};
 ghost use Rattle.rules.specs.Reading.{book_of};
 ghost use Rattle.rules.specs.Dispatch.{list_bytes, list_outcome, dispatch_call};
-ghost use Rattle.dispatch.specs.Merge.{Accepted, accepted_rows, InUse};
-ghost use Rattle.dispatch.specs.Call.{list_head_bytes, ListAsked, Leaves};
+ghost use Rattle.dispatch.specs.Accepted.{Accepted, accepted_rows};
+ghost use Rattle.dispatch.specs.Merge.{InUse};
+ghost use Rattle.dispatch.specs.Call.{list_head_bytes, ListAsked, answer_by, Leaves};
 
-use book::bytes;
-use rules::ListAnswer;
+use accepted::AcceptedTable;
+use book::Book;
+use book::bytes::{self, Field};
+use merge::Cursor;
+use rules::{Fault, ListAnswer, Refusal};
 
+pub mod accepted;
 pub mod merge;
 pub mod run;
 
-// A refusal's answer.
-pub fn refusal(number: u8, flow: u8, job: u8) -> ListAnswer
-    ensures { result ≡ list_refused number flow job }
-{
-    ListAnswer {
-        number,
-        flow,
-        job,
-        length: 0,
-    }
-}
+// The most flows of a book.
+pub const FLOWS: usize = Book::MOST_FLOWS as usize;
 
-// The head of a list: its whole length, version and processors.
+// The bytes of a list before its rows.
+pub const HEAD_BYTES: usize = 7;
+
+// The version of a list.
+pub const VERSION: u8 = 1;
+
+// The head of a list: its whole length, version and processors. The head of a table begins with such three fields too,
+// but its writer is no part of what this crate uses: a place for three stores that both could use would be longer.
 pub fn put_head(out: &mut [u8], size: u32, processors: u16)
     requires { 7 ≤ length out.old }
     ensures { out.new ≡ sets out.old 0 (list_head_bytes size processors) }
 {
-    bytes::write32(out, 0, size);
-    out[4] = 1;
-    bytes::write16(out, 5, processors);
+    size.write(out, 0);
+    out[4] = VERSION;
+    processors.write(out, 5);
 }
 
 // The list of an accepted table, whose work area is as the check leaves it.
-pub fn write_list(book: &[u8], table: &[u8], work: &[u8], out: &mut [u8], flows: usize, size: usize)
-    requires { ListAsked book.now table.now work.now flows size (length out.old) }
+pub fn write_list(book: &[u8], table: &[u8], work: &[u8], out: &mut [u8], size: usize)
+    requires { ListAsked book.now table.now work.now size (length out.old) }
     ensures { out.new ≡ list_bytes (book_of book.now) (accepted_rows book.now table.now) ++ drop size out.old }
 {
-    let x = book::index_of(book);
-    let deadlines = x.deadlines;
-    let jobs = x.jobs;
-    let mut ats = [0usize; 64];
-    let mut dues = [0u16; 64];
-    merge::start_cursors(
-        book,
-        table,
-        &deadlines,
-        &mut ats,
-        &mut dues,
-        flows,
-        (size - 7) / 6,
-    );
-    put_head(out, size as u32, x.processors);
-    merge::merge(
-        book, table, &jobs, work, out, &mut ats, &mut dues, flows, size,
-    );
+    let book = accepted::passing_book(book);
+    let accepted = AcceptedTable::new(&book, table);
+    let mut all = [Cursor::default(); FLOWS];
+    let cursors = &mut all[..book.flow_count()];
+    merge::start_cursors(&accepted, cursors);
+    put_head(out, size as u32, book.processors);
+    merge::merge(&accepted, work, &mut out[HEAD_BYTES..], cursors);
 }
 
-// 13 where the list of an accepted table is longer than the output; otherwise the list.
-pub fn list_accepted(book: &[u8], table: &[u8], output: &mut [u8], work: &mut [u8]) -> ListAnswer
+// 13 where the list of an accepted table is longer than the output; otherwise the list, and its length.
+// The work area stays a slice with a clause on its length, which `InUse` has too; book's WORK_BYTES says why.
+pub fn list_accepted(
+    book: &[u8],
+    table: &[u8],
+    output: &mut [u8],
+    work: &mut [u8],
+) -> Result<u32, Refusal>
     requires { Accepted book.now table.now × InUse book.now table.now work.old }
-    ensures { Leaves (list_outcome (book_of book.now) (accepted_rows book.now table.now) output.old work.old work.old) result output.new work.new }
+    ensures { Leaves (list_outcome (book_of book.now) (accepted_rows book.now table.now) output.old work.old work.old) (answer_by result) output.new work.new }
 {
-    let flows = bytes::wide(book[7]);
+    // A table has 8 bytes, 2 for each flow and 6 for each row, its list 7 and the same 6.
+    let flows = usize::from(book[7]);
     let size = table.len() - 2 * flows - 1;
     if output.len() < size {
         bytes::clear(work);
-        return refusal(13, 255, 255);
+        return Err(Fault::Output.nowhere());
     }
-    write_list(book, table, work, output, flows, size);
-    ListAnswer {
-        number: 0,
-        flow: 255,
-        job: 255,
-        length: size as u32,
-    }
+    write_list(book, table, work, output, size);
+    Ok(size as u32)
+}
+
+// The check first, and then the list of the table that it accepts; its length.
+pub fn checked_list(
+    book: &[u8],
+    calendar: &[u8],
+    table: &[u8],
+    output: &mut [u8],
+    work: &mut [u8],
+) -> Result<u32, Refusal>
+    ensures { Leaves (dispatch_call book.now calendar.now table.now output.old work.old) (answer_by result) output.new work.new }
+{
+    table_check::check(book, calendar, table, work)?;
+    list_accepted(book, table, output, work)
 }
 
 // The whole outcome of a call, for every book, calendar, table, output and work area: the check's refusals first.
@@ -92,9 +99,8 @@ pub fn dispatch_table(
 ) -> ListAnswer
     ensures { Leaves (dispatch_call book.now calendar.now table.now output.old work.old) result output.new work.new }
 {
-    let checked = table_check::check_table(book, calendar, table, work);
-    if checked.number != 0 {
-        return refusal(checked.number, checked.flow, checked.job);
+    match checked_list(book, calendar, table, output, work) {
+        Ok(length) => ListAnswer::accepted(length),
+        Err(refusal) => ListAnswer::from(refusal),
     }
-    list_accepted(book, table, output, work)
 }

@@ -1,127 +1,102 @@
 // Runs of rows: the rows of one flow in one slot stand together in a table, and are copied as they stand.
-ghost use Rattle.std.specs.Prelude.{◌≡◌, ◌+◌, ◌%◌, ◌<◌, ◌≤◌, length};
-ghost use Rattle.std.proofs.lemmas.List.Edits.{sets};
-ghost use Rattle.dispatch.specs.Runs.{part, due_at, WholeRows, RunAsked, BlocksCopied, SomeCopied, RunCopied};
+ghost use Rattle.std.specs.Prelude.{◌≡◌, length};
+ghost use Rattle.dispatch.specs.Runs.{due_of, due_at, RunAsked, BlocksCopied, SomeCopied, RunCopied};
 
-use book::bytes;
+use book::bytes::Field;
+use book::row::Row;
 
-// The slot of the row at `at`, where it is one of this flow; 65,535 where it is not, or where the table ends.
-pub fn due_at(table: &[u8], at: usize, flow: u8) -> u16
-    requires { WholeRows table.now at }
-    ensures { result ≡ due_at table.now at flow }
+// So many rows of a run are copied at once, where it has as many.
+pub const BLOCK: usize = 16;
+
+// So many rows are mostly all of a run.
+pub const FEW: usize = 8;
+
+// The slot of a row, where it is one of this flow.
+pub fn due_of(row: &[u8; Row::SIZE], flow: u8) -> Option<u16>
+    ensures { result ≡ due_of row.now flow }
 {
-    if table.len() <= at {
-        return 65535;
-    }
-    if table[at + 2] != flow {
-        return 65535;
-    }
-    bytes::read16(table, at)
-}
-
-// One row, copied as it stands: read whole before it is written, so that it is compiled to two loads and two stores.
-pub fn copy_row(table: &[u8], out: &mut [u8], from: usize, to: usize)
-    requires { (from + 6 ≤ length table.now) × (to + 6 ≤ length out.old) }
-    ensures { out.new ≡ sets out.old to (part table.now from 6) }
-{
-    let b0 = table[from];
-    let b1 = table[from + 1];
-    let b2 = table[from + 2];
-    let b3 = table[from + 3];
-    let b4 = table[from + 4];
-    let b5 = table[from + 5];
-    out[to] = b0;
-    out[to + 1] = b1;
-    out[to + 2] = b2;
-    out[to + 3] = b3;
-    out[to + 4] = b4;
-    out[to + 5] = b5;
-}
-
-// Bytes, copied as they stand.
-pub fn copy_bytes(table: &[u8], out: &mut [u8], from: usize, to: usize, count: usize)
-    requires { (from + count ≤ length table.now) × (to + count ≤ length out.old) }
-    ensures { out.new ≡ sets out.old to (part table.now from count) }
-{
-    let mut i: usize = 0;
-    while i < count {
-        out[to + i] = table[from + i];
-        i = i + 1;
+    if row[2] == flow {
+        Some(u16::read(row, 0))
+    } else {
+        None
     }
 }
 
-// The most of a run, sixteen rows at once: while the last of sixteen rows belongs to it, all of them do. The offset behind them in the table.
-pub fn copy_blocks(
-    table: &[u8],
-    out: &mut [u8],
-    from: usize,
-    to: usize,
-    flow: u8,
-    slot: u16,
-) -> usize
-    requires { RunAsked table.now flow slot from to (length out.old) }
-    ensures { BlocksCopied table.now flow slot from to out.old out.new result }
+// The slot of the row at `at`, where there is one and it is one of this flow.
+pub fn due_at(rows: &[[u8; Row::SIZE]], at: usize, flow: u8) -> Option<u16>
+    ensures { result ≡ due_at rows.now at flow }
 {
-    let mut done: usize = 0;
-    while due_at(table, from + done + 90, flow) == slot {
-        copy_bytes(table, out, from + done, to + done, 96);
-        done = done + 96;
-    }
-    from + done
+    due_of(rows.get(at)?, flow)
 }
 
-// Rows of a run, at most `most` bytes of them, each copied when it is seen to belong to it; the offset behind them in the table.
+// The most of a run, a block at a time: while the last row of a block belongs to it, all of them do. How many rows
+// they are.
+// What `RunAsked` says is of the output too, which is lent anew each time: no struct of the rows can keep it.
+pub fn copy_blocks(rows: &[[u8; Row::SIZE]], out: &mut [u8], flow: u8, slot: u16) -> usize
+    requires { RunAsked rows.now flow slot (length out.old) }
+    ensures { BlocksCopied rows.now flow slot out.old out.new result }
+{
+    let (blocks, _) = rows.as_chunks::<BLOCK>();
+    for (k, block) in blocks.iter().enumerate() {
+        if due_of(&block[BLOCK - 1], flow) != Some(slot) {
+            return BLOCK * k;
+        }
+        // Read whole before it is written, as a row below.
+        let block = *block;
+        let at = Row::SIZE * BLOCK * k;
+        out[at..at + Row::SIZE * BLOCK].copy_from_slice(block.as_flattened());
+    }
+    BLOCK * blocks.len()
+}
+
+// Rows of a run, at most so many of them, each copied when it is seen to belong to it. How many they are.
 pub fn copy_some(
-    table: &[u8],
+    rows: &[[u8; Row::SIZE]],
     out: &mut [u8],
-    from: usize,
-    to: usize,
     flow: u8,
     slot: u16,
     most: usize,
 ) -> usize
-    requires { RunAsked table.now flow slot from to (length out.old) × (most % 6 ≡ 0) }
-    ensures { SomeCopied most table.now flow slot from to out.old out.new result }
+    requires { RunAsked rows.now flow slot (length out.old) }
+    ensures { SomeCopied most rows.now flow slot out.old out.new result }
 {
-    let mut done: usize = 0;
-    while done < most {
-        if due_at(table, from + done, flow) != slot {
-            return from + done;
+    let most = most.min(rows.len());
+    for (k, row) in rows[..most].iter().enumerate() {
+        if due_of(row, flow) != Some(slot) {
+            return k;
         }
-        copy_row(table, out, from + done, to + done);
-        done = done + 6;
+        // Read whole before it is written: two loads and two stores, and no test of whether the two lie over each
+        // other.
+        let bytes = *row;
+        let at = Row::SIZE * k;
+        out[at..at + Row::SIZE].copy_from_slice(&bytes);
     }
-    from + most
+    most
 }
 
-// A run that may be long: its blocks, then the fewer than sixteen rows that are left; the offset behind it in the table.
-pub fn copy_long(table: &[u8], out: &mut [u8], from: usize, to: usize, flow: u8, slot: u16) -> usize
-    requires { RunAsked table.now flow slot from to (length out.old) }
-    ensures { RunCopied table.now flow slot from to out.old out.new result }
+// A run that may be long: its blocks, then the rows that are left, which are fewer than a block. How many rows it has.
+pub fn copy_long(rows: &[[u8; Row::SIZE]], out: &mut [u8], flow: u8, slot: u16) -> usize
+    requires { RunAsked rows.now flow slot (length out.old) }
+    ensures { RunCopied rows.now flow slot out.old out.new result }
 {
-    let at = copy_blocks(table, out, from, to, flow, slot);
-    copy_some(table, out, at, to + (at - from), flow, slot, 96)
+    let count = copy_blocks(rows, out, flow, slot);
+    let rest = &mut out[Row::SIZE * count..];
+    count + copy_some(&rows[count..], rest, flow, slot, BLOCK)
 }
 
-// A whole run; the offset behind it in the table. A flow of fewer than sixteen jobs has no block of sixteen rows, so none is looked for at once.
-pub fn copy_run(
-    table: &[u8],
-    out: &mut [u8],
-    from: usize,
-    to: usize,
-    flow: u8,
-    slot: u16,
-    jobs: u8,
-) -> usize
-    requires { RunAsked table.now flow slot from to (length out.old) }
-    ensures { RunCopied table.now flow slot from to out.old out.new result }
+// A whole run. How many rows it has. A flow of fewer jobs than a block has rows has no block, so none is looked for
+// at once.
+pub fn copy_run(rows: &[[u8; Row::SIZE]], out: &mut [u8], flow: u8, slot: u16, jobs: u8) -> usize
+    requires { RunAsked rows.now flow slot (length out.old) }
+    ensures { RunCopied rows.now flow slot out.old out.new result }
 {
-    if 16 <= jobs {
-        return copy_long(table, out, from, to, flow, slot);
+    if BLOCK <= usize::from(jobs) {
+        return copy_long(rows, out, flow, slot);
     }
-    let next = copy_some(table, out, from, to, flow, slot, 48);
-    if next < from + 48 {
-        return next;
+    let count = copy_some(rows, out, flow, slot, FEW);
+    if count < FEW {
+        return count;
     }
-    copy_long(table, out, next, to + 48, flow, slot)
+    let rest = &mut out[Row::SIZE * count..];
+    count + copy_long(&rows[count..], rest, flow, slot)
 }

@@ -1,6 +1,8 @@
--- What `advance` needs to lend a local: the cell of a local of type R becomes "h lies there", which is what can be lent, and the other way round once the lender has it back. Assumes `Logic`.
+-- What a function needs to lend a local: the cell of a local of type R becomes "h lies there", which is what can be
+-- lent, and the other way round once the lender has it back. Assumes `Logic`.
 --     lies_in      where P makes what R owns, and P h vs:   the cell with vs  ⊢  h lies there
---     lies_out     where what R owns shows P, and P tells the machine values:   h lies there  ⊢  the cell with `vals h`, and what R owns of h there
+--     lies_out     where what R owns shows P, and P tells the machine values:   h lies there  ⊢  the cell with
+--                  `vals h`, and what R owns of h there
 use Prim.Native.Nat.{ℕ}
 use mathlib.Core.List.{List, [], ◌∷◌}
 use seplogic.Ra.Ura.{Ura}

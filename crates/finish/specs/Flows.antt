@@ -1,13 +1,15 @@
 -- Flows placed one after the other without rows, beside the cluster's maintenance. Assumes nothing.
-use Rattle.std.specs.Prelude.{◌≡◌, ◌⊎◌, ℕ, suc, ◌<◌, ◌≤◌, List, length}
+use Rattle.std.specs.Prelude.{◌≡◌, ℕ, suc, ◌<◌, ◌≤◌, List, length, Result, Ok, Err}
+use Rattle.rules.specs.declared.Fault.{Fault}
+use Rattle.rules.specs.declared.Fault.TheVariants.{Infeasible}
+use Rattle.rules.specs.declared.Refusal.{Refusal}
+use Rattle.rules.specs.Answers.{none}
+use Rattle.rules.specs.Faults.{refusal_at}
 use Rattle.rules.specs.Limits.{slots, work_bytes}
-use Rattle.rules.specs.Calendar.{Calendar, CalendarInRange}
-use Rattle.rules.specs.Book.{Book, with_calendar, flow_count, flow_of}
-use Rattle.rules.specs.Reading.{book_of}
+use Rattle.rules.specs.Book.{Book, flow_count}
 use Rattle.rules.specs.Service.{served_at}
 use Rattle.rules.specs.Rows.{Row, used_in, finish_of, work_used}
-use Rattle.rules.specs.Placing.{slots_for, infeasible, place_first}
-use Rattle.book.specs.Promise.{FlowStands}
+use Rattle.rules.specs.Placing.{infeasible, place_first}
 use Rattle.place.specs.Order.{Stands}
 use Rattle.finish.specs.declared.Placement.{Placement}
 
@@ -23,47 +25,51 @@ pub record StopsAt (b : Book) (bytes area : List ℕ) (p : Placement) : Type 0 w
   pub others : List Row
   pub area_used : area ≡ work_used slots others bytes
 
--- what the placing of the next flow asks: the book in these bytes passes, the flow is the one at the state's position, and the area holds the use of rows
--- that leave room for it
-pub record NextAsked (s area : List ℕ) (p : Placement) (records f processors limit : ℕ) : Type 0 where
-  pub stands : FlowStands s f records
-  pub processors_of : processors ≡ (book_of s).processors
-  pub limit_most : limit ≤ slots
+-- what the placing of the next flow asks: there is one, and the area is long enough and holds the use of rows that
+-- leave room for it
+pub record NextAsked (b : Book) (area : List ℕ) (p : Placement) : Type 0 where
+  pub below : p.position < flow_count b
   pub long_enough : work_bytes ≤ length area
-  pub below : p.position < flow_count (book_of s)
-  pub served : (c : Calendar) → f ≡ served_at (with_calendar c (book_of s)) p.position
   pub bytes : List ℕ
-  pub held : List Row
-  pub area_used : area ≡ work_used slots held bytes
-  pub within : (t : ℕ) → used_in held t ≤ processors
+  pub rows : List Row
+  pub area_used : area ≡ work_used slots rows bytes
+  pub within : (t : ℕ) → used_in rows t ≤ b.processors
 
--- the next flow is placed, or it is infeasible and the state stays
+-- the next flow is placed, or it is infeasible
 pub record Moved (b : Book) (bytes area : List ℕ) (p r : Placement) : Type 0 where
   pub moves : r.position ≡ suc p.position
   pub so_far_lem : PlacedTo b bytes area r
 
-pub record Stayed (b : Book) (bytes area : List ℕ) (p r : Placement) : Type 0 where
-  pub stays : r ≡ p
+pub record Stayed (b : Book) (bytes area : List ℕ) (p : Placement) (e : Fault) : Type 0 where
+  pub infeasible_is : e ≡ Infeasible
   pub stopped : StopsAt b bytes area p
 
--- the limit is that of flow f of the book
-abbrev pub LimitOf : Book → ℕ → ℕ → Type 0
-LimitOf b f limit = limit ≡ slots_for b (flow_of b f)
+abbrev pub NextState : Book → List ℕ → List ℕ → Placement → Result Placement Fault → Type 0
+NextState b bytes area p (Ok r) = Moved b bytes area p r
+NextState b bytes area p (Err e) = Stayed b bytes area p e
 
--- .. whatever the calendar that the limit comes of
-unfoldable pub NextPlaced : List ℕ → ℕ → ℕ → Placement → List ℕ → List ℕ → Placement → Type 0
-NextPlaced s f limit p area area' r =
-    (c : Calendar) → CalendarInRange c → LimitOf (with_calendar c (book_of s)) f limit → (bytes : List ℕ) → PlacedTo (with_calendar c (book_of s)) bytes area p →
-    Moved (with_calendar c (book_of s)) bytes area' p r ⊎ Stayed (with_calendar c (book_of s)) bytes area' p r
+-- .. where those before it are placed
+unfoldable pub NextPlaced : Book → Placement → List ℕ → List ℕ → Result Placement Fault → Type 0
+NextPlaced b p area area' r = (bytes : List ℕ) → PlacedTo b bytes area p → NextState b bytes area' p r
 
--- the first k flows are placed, or one of them is infeasible and the state is at it
-pub record PlacedAll (b : Book) (k : ℕ) (area area' : List ℕ) (r : Placement) : Type 0 where
-  pub all : r.position ≡ k
-  pub so_far_lem : PlacedTo b area area' r
+-- what a step comes to that leaves a state behind: that state, or why it stays
+abbrev pub stepped : {T : Type 0} → Result T Fault → Placement → Result Placement Fault
+stepped (Ok _) p = Ok p
+stepped (Err e) p = Err e
 
-pub record PlacedSome (b : Book) (k : ℕ) (area area' : List ℕ) (r : Placement) : Type 0 where
-  pub some : r.position < k
-  pub stopped : StopsAt b area area' r
+-- the first k flows are placed, and this is the finish of the last, or one of them is infeasible and the state is at it
+pub record PlacedAll (b : Book) (k : ℕ) (area area' : List ℕ) (finish : ℕ) : Type 0 where
+  pub state : Placement
+  pub all : state.position ≡ k
+  pub so_far_lem : PlacedTo b area area' state
+  pub last : finish ≡ state.finish
 
-abbrev pub PlacedUpTo : Book → ℕ → List ℕ → List ℕ → Placement → Type 0
-PlacedUpTo b k area area' r = PlacedAll b k area area' r ⊎ PlacedSome b k area area' r
+pub record PlacedSome (b : Book) (k : ℕ) (area area' : List ℕ) (e : Refusal) : Type 0 where
+  pub state : Placement
+  pub some : state.position < k
+  pub refusal : e ≡ refusal_at Infeasible (served_at b state.position) none
+  pub stopped : StopsAt b area area' state
+
+abbrev pub PlacedUpTo : Book → ℕ → List ℕ → List ℕ → Result ℕ Refusal → Type 0
+PlacedUpTo b k area area' (Ok finish) = PlacedAll b k area area' finish
+PlacedUpTo b k area area' (Err e) = PlacedSome b k area area' e

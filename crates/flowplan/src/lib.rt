@@ -1,5 +1,5 @@
-// The calls that a dispatcher in C makes. Thin: each that takes slices hands them to the proved core and has the core's contract. None has
-// a `requires`: every sequence of bytes is taken.
+// The calls that a dispatcher in C makes. Thin: each that takes slices hands them to the proved core and has the core's
+// contract. None has a `requires`: every sequence of bytes is taken.
 #![tactic(auto)]
 
 ghost use Rattle.std.specs.Prelude.{◌≡◌};

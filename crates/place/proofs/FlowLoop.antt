@@ -1,17 +1,18 @@
--- One flow from cut to cut: what is kept when the runs before ideal slot t are placed, and what comes of it when the path is reached or the
--- limit of rule 6. Assumes nothing.
+-- One flow from cut to cut: what is kept when the runs before ideal slot t are placed, and what comes of it when the
+-- path is reached or the limit of rule 6. Assumes nothing.
 use mathlib.Core.Path.{◌≡◌, refl, sym, ap, subst, ◌∙◌}
 use Prim.Native.Nat.{ℕ, ◌+◌, ◌*◌, ◌-◌, ◌≤◌, ◌<◌}
 use native.Mathlib.Nat.{sub-zero, le_trans}
 use native.Mathlib.Omega.{arith}
 use mathlib.Core.Bool.{Bool}
 use mathlib.Core.List.{List, [], ◌∷◌, ◌++◌, append-nil}
-use lib.ListN.{length}
+use lib.ListN.{length, take}
+use lib.Seq.{length-take-le}
 use Rattle.rules.specs.Limits.{slots}
-use Rattle.rules.specs.declared.Verdict.TheVariants.{Pass}
+use Rattle.rules.specs.Verdicts.{Pass}
 use Rattle.rules.specs.Book.{Flow, Book, flow_count, job_count, flow_of, job_of, FlowInRange}
 use Rattle.rules.specs.Reading.{book_of, book_fault}
-use Rattle.rules.specs.Ideal.{path}
+use Rattle.rules.specs.Ideal.{path, take_of}
 use Rattle.rules.specs.PseudoJobs.{PseudoJob, runs, chain, rate, sum_over}
 use Rattle.rules.specs.Rows.{Row, used_in, finish_of, work_used}
 use Rattle.rules.specs.Placing.{Progress, progress, flow_rows, free_processors}
@@ -23,15 +24,19 @@ use Rattle.rules.proofs.Placing.Usable.{none-free-before, free-within}
 use Rattle.rules.proofs.Placing.Greedy.{not-begun}
 use Rattle.rules.proofs.Placing.PlannedRows.{no-rows_yet}
 use Rattle.rules.proofs.Rows.FlowRows.{used-append}
-use Rattle.book.specs.Promise.{FlowJobs, FlowStands, flow_from, Loaded}
+use Rattle.std.proofs.lemmas.List.{get_or-take, length-map, take-map}
+use Rattle.book.specs.declared.JobRecord.{JobRecord}
+use Rattle.chain.specs.declared.IdealJob.{IdealJob}
+use Rattle.chain.specs.declared.Part.{Part}
 use Rattle.chain.specs.declared.Run.{Run}
-use Rattle.chain.specs.Jobs.{ChainInput}
-use Rattle.chain.specs.Runs.{Ideal, IdealOf, RunInput, SomeFlow, RunAt}
-use Rattle.chain.proofs.Starts.{count_of, input_of, path_most}
-use Rattle.chain.proofs.Cuts.{run-input, parts-counted}
+use Rattle.chain.specs.Alone.{names_in, takes_in, JobsFit, JobsOf, ChainOf}
+use Rattle.chain.specs.Runs.{RunAt, PartsOf, parts_below}
+use Rattle.chain.proofs.Alone.{jobs-fit, path-most}
+use Rattle.chain.proofs.Parts.{part-before}
+use Rattle.chain.proofs.Cuts.{parts-counted}
 use Rattle.place.specs.declared.Current.{Current}
 use Rattle.place.specs.declared.Placed.{Placed}
-use Rattle.place.specs.declared.Placed.TheVariants.{To, Infeasible}
+use Rattle.std.specs.Prelude.{Option, Some, None}
 use Rattle.place.specs.Service.{PartsHeld, pseudo_job}
 use Rattle.place.specs.Flows.{standing, Beside, rows_up_to, Underway, UnderwayBy, WorkLeft, RunPlaced, OffsetIf, RunGoes, new_rows, FlowDone, FlowInfeasible, FlowPlaced, FlowHeld}
 use Rattle.place.proofs.Output.{put-none, put-same-length}
@@ -173,56 +178,40 @@ flow-not-begun s f limit passes flow_in_is l rows bytes out area used = record {
         not-begun w (free_processors (book_of s) f rows) (chain_live w (in-range-sized (flow_in-range s f passes flow_in_is))) limit
         (λ t h. none-free-before (book_of s) f rows t (omega arith))
 
-module _ (s : List ℕ) (f records : ℕ) (x : FlowJobs) (stands : FlowStands s f records) (loaded : Loaded s f x) where
-  pub chain-asked : ChainInput x
-  chain-asked =
-      input_of x (book_of s).processors (pass_in-range s stands.passes).processors_most
-      (rw loaded.values (flow_in-range s f stands.passes stands.flow_in_is))
+-- what the chain of a flow asks of its records
+pub records-fit : (s : List ℕ) (f : ℕ) (jobs : List JobRecord) → book_fault s ≡ Pass → f < flow_count (book_of s) → JobsOf (flow_of (book_of s) f) jobs →
+    JobsFit jobs
+records-fit s f jobs passes flow_in_is of =
+    jobs-fit (book_of s).processors (pass_in-range s passes).processors_most (flow_of (book_of s) f) jobs (flow_in-range s f passes flow_in_is) of
 
-  pub release-held : (d : ℕ) → d ≡ x.release → d ≡ (flow_of (book_of s) f).release
-  release-held d e = e ∙ (unfold flow_from in ap (λ (v : Flow). v.release) loaded.values)
-
-  pub flow-held : (y : Ideal) → IdealOf (flow_from x) y → length x.cap ≡ 64 → length y.starts ≡ 64 → length y.ends ≡ 64 → length y.lasts ≡ 64 →
-      length y.firsts ≡ 64 → FlowHeld s f x.cap y.starts y.ends y.lasts y.firsts x.count y.path
-  flow-held y ideal caps starts ends lasts firsts = record {
-    passes = stands.passes;
-    flow_in_is = stands.flow_in_is;
-    jobs = x;
-    ideal = y;
-    loaded = loaded;
-    held = run-input x y chain-asked ideal;
-    caps_whole = omega (arith, loaded.few);
-    starts_whole = omega (arith, loaded.few);
-    ends_whole = omega (arith, loaded.few);
-    lasts_whole = omega (arith, loaded.few);
-    firsts_whole = omega (arith, loaded.few);
-  }
+-- the first parts of a pseudo-job are its parts, in a list of their own
+parts-front : (taken : ℕ → ℕ) (n count : ℕ) (names takes : List ℕ) → count ≤ length names → PartsOf taken n names takes count →
+    PartsOf taken n (take count names) (take count takes) (length (take count names))
+parts-front taken n count names takes fits v = record {
+  count = length-take-le count names fits ∙ v.count;
+  name = λ i l some. get_or-take count names (parts_below taken i) 0 (omega (arith, v.count, part-before taken i n l some)) ∙ v.name i l some;
+  amount = λ i l some. get_or-take count takes (parts_below taken i) 0 (omega (arith, v.count, part-before taken i n l some)) ∙ v.amount i l some;
+}
 
 -- ---- the pseudo-job that begins at a cut, in service
-module _ {s : List ℕ} {f : ℕ} {caps starts ends lasts firsts : List ℕ} {count most : ℕ} (h : FlowHeld s f caps starts ends lasts firsts count most) where
+module _ {s : List ℕ} {f : ℕ} {jobs : List IdealJob} {most : ℕ} (h : FlowHeld s f jobs most) where
   in_range : FlowInRange (book_of s).processors (flow_of (book_of s) f)
   in_range = flow_in-range s f h.passes h.flow_in_is
 
   flow-sized : Sized (flow_of (book_of s) f)
   flow-sized = in-range-sized in_range
 
-  pub flow-few : f < 256
-  flow-few = omega (arith, h.flow_in_is, (pass_in-range s h.passes).flows_most)
-
   jobs-few : job_count (flow_of (book_of s) f) ≤ 64
   jobs-few = in_range.jobs_most
 
-  pub count-few : count ≤ 64
-  count-few = omega (arith, h.held.count_is, h.held.input.count_most)
-
-  counted : count ≡ job_count (flow_of (book_of s) f)
-  counted = h.held.count_is ∙ sym (count_of h.jobs) ∙ ap job_count h.loaded.values
-
-  pub path-fits : most ≤ 64000000
-  path-fits = omega (arith, h.held.path_is, h.held.ideal.path, path_most h.jobs h.held.input)
+  pub count-few : length jobs ≤ 64
+  count-few = omega (arith, h.held.count, jobs-few)
 
   pub path-held : most ≡ path (flow_of (book_of s) f)
-  path-held = h.held.path_is ∙ h.held.ideal.path ∙ ap path h.loaded.values
+  path-held = h.held.path
+
+  pub path-fits : most ≤ 64000000
+  path-fits = omega (arith, path-held, path-most (flow_of (book_of s) f) h.held.fits)
 
   -- the loop begins at the release, with no run placed
   pub flow-kept-first : {limit slot : ℕ} (listed : Bool) (at : ℕ) (out area : List ℕ) → (flow_of (book_of s) f).release ≤ limit →
@@ -238,40 +227,38 @@ module _ {s : List ℕ} {f : ℕ} {caps starts ends lasts firsts : List ℕ} {co
     so_far_lem = λ rows bytes used within. rw q (flow_begins (book_of s) f flow-sized rows bytes out area at used within);
   }
 
-  -- what `run_at` asks
-  pub some-flow : SomeFlow caps starts ends lasts firsts count most
-  some-flow = record { jobs = h.jobs; ideal = h.ideal; held = h.held }
-
   -- what the code holds of it
   abbrev pub current_at : ℕ → ℕ → Run → Current
-  current_at t P r = record { flow = f; parts = r.parts; processors = P; first = t; width = r.width; rate = r.rate }
+  current_at t P r = record { flow = f; processors = P; first = t; width = r.width; rate = r.rate }
 
   -- .. by what `run_at` answers
-  module _ {t : ℕ} {names takes : List ℕ} {r : Run}
-      (answer : (x : FlowJobs) (y : Ideal) → RunInput caps starts ends lasts firsts count most x y → RunAt (flow_from x) t names takes r) where
+  module _ {t : ℕ} {names takes : List ℕ} {r : Run} (answer : (w : Flow) → ChainOf w jobs most → RunAt w t names takes r) where
     pub run-here : RunAt (flow_of (book_of s) f) t names takes r
-    run-here = subst (λ (v : Flow). RunAt v t names takes r) h.loaded.values (answer h.jobs h.ideal h.held)
+    run-here = answer (flow_of (book_of s) f) h.held
 
     pub cut-within : t + r.width ≤ most
     cut-within = omega (arith, run-here.run.within, path-held)
 
-    pub parts_within : r.parts ≤ count
-    parts_within = omega (arith, parts-counted (flow_of (book_of s) f) t names takes r run-here, counted)
+    pub parts_within : r.parts ≤ length jobs
+    parts_within = omega (arith, parts-counted (flow_of (book_of s) f) t names takes r run-here, h.held.count)
 
-    pub held_at : {P : ℕ} → P ≡ (book_of s).processors → count ≤ length names → count ≤ length takes → PartsHeld s (current_at t P r) names takes
-    held_at e names_whole takes_whole = record {
-      in_service = record {
-        passes = h.passes;
-        flow_in_is = h.flow_in_is;
-        processors = e;
-        rate = run-here.rate;
-        rate_positive = rw run-here.rate positive;
-        width_positive = run-here.run.some;
-      };
-      parts = run-here.parts;
-      names_whole = omega (arith, parts_within);
-      takes_whole = omega (arith, parts_within);
-    }
+    pub held_at : {P : ℕ} (parts : List Part) → names ≡ names_in parts → takes ≡ takes_in parts → P ≡ (book_of s).processors →
+        length jobs ≤ length parts → PartsHeld s (current_at t P r) (names_in (take r.parts parts)) (takes_in (take r.parts parts))
+    held_at parts n k e whole =
+        let long : r.parts ≤ length (names_in parts) = rw (length-map parts (λ p. p.job)) (omega (arith, parts_within)) in
+        let here : PartsOf (λ i. take_of (flow_of (book_of s) f) i t) (job_count (flow_of (book_of s) f)) (names_in parts) (takes_in parts) r.parts =
+        rw (n, k) at run-here.parts in
+        record {
+          in_service = record {
+            passes = h.passes;
+            flow_in_is = h.flow_in_is;
+            processors = e;
+            rate = run-here.rate;
+            rate_positive = rw run-here.rate positive;
+            width_positive = run-here.run.some;
+          };
+          parts = simp take-map at (parts-front _ _ r.parts (names_in parts) (takes_in parts) long here);
+        }
       where
         positive : 0 < rate (flow_of (book_of s) f) (record { first = t; width = r.width })
         positive = unfold rate in slot-rate-positive (flow_of (book_of s) f) flow-sized t
@@ -293,14 +280,14 @@ module _ {s : List ℕ} {f : ℕ} {caps starts ends lasts firsts : List ℕ} {co
         let done = placed.finished y _ (at-cut-under P y slot out area at so_far_lem) in
         record { under = done.under; finish = λ l. done.finish }
 
-    pub flow-kept-next : {listed : Bool} {at limit : ℕ} {out₀ area₀ out area out' area' : List ℕ} {slot next slot' next' : ℕ} {q : Placed} (P : ℕ) →
+    pub flow-kept-next : {listed : Bool} {at limit : ℕ} {out₀ area₀ out area out' area' : List ℕ} {slot next : ℕ} {q : Option Placed} {p : Placed} (P : ℕ) →
         FlowKept listed (book_of s) f at limit out₀ area₀ out area t slot next →
-        RunGoes listed s (current_at t P r) slot next limit out area out' area' q → q ≡ To slot' next' →
+        RunGoes listed s (current_at t P r) slot next limit out area out' area' q → q ≡ Some p →
         length out' ≡ length out → length area' ≡ length area →
-        FlowKept listed (book_of s) f at limit out₀ area₀ out' area' (t + r.width) slot' next'
-    flow-kept-next {listed} {at} {limit} {out₀} {area₀} {out} {area} {out'} {area'} {slot} {next} {slot'} {next'} P k answer told same_out same_area =
-        let went : RunGoes listed s (current_at t P r) slot next limit out area out' area' (To slot' next') =
-        subst (λ (z : Placed). RunGoes listed s (current_at t P r) slot next limit out area out' area' z) told answer in
+        FlowKept listed (book_of s) f at limit out₀ area₀ out' area' (t + r.width) p.finish p.next
+    flow-kept-next {listed} {at} {limit} {out₀} {area₀} {out} {area} {out'} {area'} {slot} {next} {q} {p} P k answer told same_out same_area =
+        let went : RunGoes listed s (current_at t P r) slot next limit out area out' area' (Some p) =
+        subst (λ (z : Option Placed). RunGoes listed s (current_at t P r) slot next limit out area out' area' z) told answer in
         let goes = went k.offset k.offset_if in
         let placed = goes.2 in
         record {
@@ -311,18 +298,18 @@ module _ {s : List ℕ} {f : ℕ} {caps starts ends lasts firsts : List ℕ} {co
           slot_to = placed.slot_within;
           out_length = same_out ∙ k.out_length;
           area_length = same_area ∙ k.area_length;
-          so_far_lem = λ rows bytes e within. flow-goes_on P (beside rows bytes out₀ at) slot k.offset limit out area out' area' slot' goes.0
+          so_far_lem = λ rows bytes e within. flow-goes_on P (beside rows bytes out₀ at) slot k.offset limit out area out' area' p.finish goes.0
               (k.so_far_lem rows bytes e within) placed;
         }
 
-    pub flow-kept_stops : {listed : Bool} {at limit : ℕ} {out₀ area₀ out area out' area' : List ℕ} {slot next : ℕ} {q : Placed} (P : ℕ) →
+    pub flow-kept_stops : {listed : Bool} {at limit : ℕ} {out₀ area₀ out area out' area' : List ℕ} {slot next : ℕ} {q : Option Placed} (P : ℕ) →
         FlowKept listed (book_of s) f at limit out₀ area₀ out area t slot next →
-        RunGoes listed s (current_at t P r) slot next limit out area out' area' q → q ≡ Infeasible →
+        RunGoes listed s (current_at t P r) slot next limit out area out' area' q → q ≡ None →
         (rows : List Row) (bytes : List ℕ) → area₀ ≡ work_used slots rows bytes → ((u : ℕ) → used_in rows u ≤ (book_of s).processors) →
         FlowInfeasible (book_of s) f limit rows bytes out₀ out' area'
     flow-kept_stops {listed} {at} {limit} {out₀} {area₀} {out} {area} {out'} {area'} {slot} {next} P k answer told rows bytes used within =
-        let left : RunGoes listed s (current_at t P r) slot next limit out area out' area' Infeasible =
-        subst (λ (z : Placed). RunGoes listed s (current_at t P r) slot next limit out area out' area' z) told answer in
+        let left : RunGoes listed s (current_at t P r) slot next limit out area out' area' None =
+        subst (λ (z : Option Placed). RunGoes listed s (current_at t P r) slot next limit out area out' area' z) told answer in
         flow_stops (book_of s) f rows bytes out₀ out' area' at limit
         (left k.offset k.offset_if (beside rows bytes out₀ at) _
         (at-cut-under P (beside rows bytes out₀ at) slot out area k.offset (k.so_far_lem rows bytes used within)))
@@ -331,7 +318,7 @@ module _ {s : List ℕ} {f : ℕ} {caps starts ends lasts firsts : List ℕ} {co
       path (flow_of (book_of s) f) ≤ t →
       FlowKept listed (book_of s) f at limit out₀ area₀ out area t slot next →
       (rows : List Row) (bytes : List ℕ) → area₀ ≡ work_used slots rows bytes → ((u : ℕ) → used_in rows u ≤ (book_of s).processors) →
-      FlowPlaced listed (book_of s) f limit rows bytes out₀ at out area (To slot next)
+      FlowPlaced listed (book_of s) f limit rows bytes out₀ at out area (Some (record { finish = slot; next = next }))
   flow-kept-done {listed} {at} {limit} {out₀} {area₀} {out} {area} {t} {slot} {next} most over k rows bytes q within = (
     k.offset,
     k.offset_if,

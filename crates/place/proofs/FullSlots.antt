@@ -1,11 +1,11 @@
--- A slot that gives as many units as the rate is one whole slot of the run, wherever in a round it begins: each job has its take, and its rows
--- are the packed ones of the parts. Assumes nothing.
+-- A slot that gives as many units as the rate is one whole slot of the run, wherever in a round it begins: each job has
+-- its take, and its rows are the packed ones of the parts. Assumes nothing.
 use mathlib.Core.Path.{◌≡◌, refl, sym, ◌∙◌}
 use mathlib.Core.Logic.{◌⊎◌, inl, inr}
 use Prim.Native.Nat.{ℕ, zero, suc, ◌+◌, ◌≤◌, ◌<◌}
 use native.Mathlib.Omega.{arith}
 use mathlib.Core.List.{List, [], ◌∷◌, ◌++◌, append-nil}
-use lib.ListN.{get_or}
+use lib.ListN.{length, get_or}
 use Rattle.rules.specs.Book.{Flow, job_count}
 use Rattle.rules.specs.Ideal.{take_of}
 use Rattle.rules.specs.PseudoJobs.{PseudoJob, rate, work}
@@ -43,7 +43,7 @@ module _ {s : List ℕ} {c : Current} {names takes rows : List ℕ} (v : Serving
   row_packed : (j : ℕ) → j < job_count w → 0 < take j → packed_row t (get_or rows (parts_below take j) 0) ∷ [] ≡ row_for t c.flow j (take j)
   row_packed j l some =
       rw (
-        v.rows_are (parts_below take j) (omega (arith, v.held.parts.count, part-before take j (job_count w) l some)) t,
+        v.rows_are (parts_below take j) (omega (arith, v.rows_whole, v.held.parts.count, part-before take j (job_count w) l some)) t,
         v.held.parts.name j l some,
         v.held.parts.amount j l some,
       )
@@ -63,11 +63,11 @@ module _ {s : List ℕ} {c : Current} {names takes rows : List ℕ} (v : Serving
 
   -- each job has its take
   pub full-rows : (done give : ℕ) → done + give ≤ work w (pseudo_job c) → give ≡ c.rate →
-      packed_rows t rows c.parts ≡ job_rows w c.flow t (pseudo_job c) done give
+      packed_rows t rows (length rows) ≡ job_rows w c.flow t (pseudo_job c) done give
   full-rows done give fits whole =
       let p = pseudo_job c in
       let e : give ≡ rate w p = whole ∙ v.held.in_service.rate in
-      rw (v.held.parts.count, e)
+      rw (v.rows_whole, v.held.parts.count, e)
       (packed-below (job_count w) (omega arith)
       ∙ rows_same t c.flow take (λ i. share w p i done (rate w p)) (job_count w)
       (λ i l. sym (share_is-take w p i done (omega (arith, v.held.in_service.rate, v.held.in_service.rate_positive)) (omega arith) l))

@@ -1,4 +1,5 @@
--- One slot of the pseudo-job in service: what the code gives is what rule 4 gives, whether rows come of it or not. Assumes nothing.
+-- One slot of the pseudo-job in service: what the code gives is what rule 4 gives, whether rows come of it or not.
+-- Assumes nothing.
 use mathlib.Core.Path.{◌≡◌, refl, sym, ap, ◌∙◌}
 use Prim.Native.Nat.{ℕ, ◌+◌, ◌*◌, ◌-◌, ◌≤◌, ◌<◌, min}
 use native.Mathlib.Omega.{arith}
@@ -39,13 +40,20 @@ module _ {s : List ℕ} {c : Current} (v : InService s c) where
         jobs-within v,
       ))
 
-  module _ {total used : ℕ} (done slot : ℕ) (area : List ℕ) (all : total ≡ c.width * c.rate) (so_far : done ≤ work (current_flow s c) (pseudo_job c))
-      (inside : slot < slots) (read : used ≡ field 2 area (2 * slot)) where
+  -- one slot, before which `left` units are not given
+  module _ {used : ℕ} (left slot : ℕ) (area : List ℕ) (most : left ≤ work (current_flow s c) (pseudo_job c)) (inside : slot < slots)
+      (read : used ≡ field 2 area (2 * slot)) where
     abbrev give : ℕ
-    give = min c.rate (min (total - done) (c.processors - used))
+    give = min c.rate (min left (c.processors - used))
+
+    abbrev done : ℕ
+    done = work (current_flow s c) (pseudo_job c) - left
 
     few : (book_of s).processors < 65536
     few = omega (arith, v.processors, processors-within v)
+
+    rest : work (current_flow s c) (pseudo_job c) - done ≡ left
+    rest = omega arith
 
     module _ {at : ℕ} {out : List ℕ} (x : Beside) (ps : List PseudoJob) (u : UnderwayBy s c x slot (standing (pseudo_job c ∷ ps) done) out area at) where
       used_is : used ≡ used_in x.rows slot
@@ -53,50 +61,37 @@ module _ {s : List ℕ} {c : Current} (v : InService s c) where
 
       give_is : give ≡ given (current_flow s c) (pseudo_job c) done (free_processors (book_of s) c.flow x.rows slot)
       unfolding given
-      give_is = rw (all, ← work-held, v.rate, v.processors, used_is, free-from-release (book_of s) c.flow x.rows slot (calendar_of_book s) u.released) refl
+      give_is = rw (rest, v.rate, v.processors, used_is, free-from-release (book_of s) c.flow x.rows slot (calendar_of_book s) u.released) refl
 
-    -- a slot that gives nothing
-    pub served-nothing : {at : ℕ} {out : List ℕ} → give ≡ 0 → SlotServed s c at done slot out area out area (record { next = at; give = 0 })
-    served-nothing {at} {out} e = record {
-      give_within = omega arith;
-      next_within = omega arith;
-      gives = λ x ps u. sym e ∙ give_is x ps u;
-      serves = λ x ps u. slot-passed (book_of s) c.flow x slot (pseudo_job c) ps done out area at few inside u (sym (give_is x ps u) ∙ e);
-    }
+    module _ {n : ℕ} (e : n ≡ give) where
+      -- a slot that gives nothing
+      pub served-nothing : {at : ℕ} {out : List ℕ} → n ≡ 0 → SlotServed s c at done slot out area out area (record { next = at; give = n })
+      served-nothing {at} {out} none = record {
+        give_within = omega arith;
+        next_within = omega arith;
+        gives = λ x ps u. e ∙ give_is x ps u;
+        serves = λ x ps u. slot-passed (book_of s) c.flow x slot (pseudo_job c) ps done out area at few inside u (sym (give_is x ps u) ∙ sym e ∙ none);
+      }
 
-    -- a slot whose rows are put and counted in
-    pub served-some : {at n next : ℕ} {out out' area' : List ℕ} → n ≡ give →
-        Put out at (job_rows (current_flow s c) c.flow slot (pseudo_job c) done n) out' next → area' ≡ sets area (2 * slot)
-        (bytes_of 2 (used + n)) →
-        SlotServed s c at done slot out area out' area' (record { next = next; give = n })
-    served-some {at} {n} {next} {out} {out'} {area'} e put stored =
-        let within : done + n ≤ work (current_flow s c) (pseudo_job c) = omega (arith, work-held) in
-        record {
-          give_within = within;
-          next_within = omega (arith, put.offset, slot-rows-within slot done n);
-          gives = λ x ps u. e ∙ give_is x ps u;
-          serves = λ x ps u.
-              slot-served (book_of s) c.flow x slot (pseudo_job c) ps done out area at few inside u n out' area' next (e ∙ give_is x ps u)
-              (omega (arith, v.rate, v.rate_positive)) within put
-              (stored ∙ ap (λ (m : ℕ). sets area (2 * slot) (bytes_of 2 (m + n))) (used_is x ps u));
-        }
+      -- a slot whose rows are put and counted in
+      pub served-some : {at next : ℕ} {out out' area' : List ℕ} → Put out at (job_rows (current_flow s c) c.flow slot (pseudo_job c) done n) out' next →
+          area' ≡ sets area (2 * slot) (bytes_of 2 (used + n)) → SlotServed s c at done slot out area out' area' (record { next = next; give = n })
+      served-some {at} {next} {out} {out'} {area'} put stored =
+          let within : done + n ≤ work (current_flow s c) (pseudo_job c) = omega arith in
+          record {
+            give_within = within;
+            next_within = omega (arith, put.offset, slot-rows-within slot done n);
+            gives = λ x ps u. e ∙ give_is x ps u;
+            serves = λ x ps u.
+                slot-served (book_of s) c.flow x slot (pseudo_job c) ps done out area at few inside u n out' area' next (e ∙ give_is x ps u)
+                (omega (arith, v.rate, v.rate_positive)) within put
+                (stored ∙ ap (λ (m : ℕ). sets area (2 * slot) (bytes_of 2 (m + n))) (used_is x ps u));
+          }
 
-  -- ---- without rows, of whose units `left` are not given
-  module _ {used : ℕ} (left slot : ℕ) (area : List ℕ) (most : left ≤ work (current_flow s c) (pseudo_job c)) (inside : slot < slots)
-      (read : used ≡ field 2 area (2 * slot)) where
-    abbrev done : ℕ
-    done = work (current_flow s c) (pseudo_job c) - left
+      -- ---- without rows
+      pub used-nothing : n ≡ 0 → SlotUsed s c done slot area area n
+      used-nothing none at = (at, served-nothing none)
 
-    same-give : min c.rate (min left (c.processors - used)) ≡ min c.rate (min (c.width * c.rate - done) (c.processors - used))
-    same-give = let rest : c.width * c.rate - done ≡ left = omega (arith, work-held) in rw rest refl
-
-    pub used-nothing : min c.rate (min left (c.processors - used)) ≡ 0 → SlotUsed s c done slot area area 0
-    used-nothing e at = (at, served-nothing done slot area refl (omega arith) inside read (sym same-give ∙ e))
-
-    pub used-some : {n : ℕ} {area' : List ℕ} → n ≡ min c.rate (min left (c.processors - used)) → area' ≡ sets area (2 * slot) (bytes_of 2 (used + n)) →
-        SlotUsed s c done slot area area' n
-    used-some {n} e stored at = (
-      _,
-      served-some done slot area refl (omega arith) inside read (e ∙ same-give)
-          (put-rows_too_far [] at (job_rows (current_flow s c) c.flow slot (pseudo_job c) done n) (omega arith)) stored,
-    )
+      pub used-some : {area' : List ℕ} → area' ≡ sets area (2 * slot) (bytes_of 2 (used + n)) → SlotUsed s c done slot area area' n
+      used-some stored at =
+          (_, served-some (put-rows_too_far [] at (job_rows (current_flow s c) c.flow slot (pseudo_job c) done n) (omega arith)) stored)

@@ -14,3 +14,4 @@ pub mod Finishes
 -- the flows in service order beside the cluster's maintenance, for the crates above
 pub mod Maintenance
 pub mod FlowByFlow
+pub mod TurnByTurn

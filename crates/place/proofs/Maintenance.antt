@@ -1,6 +1,6 @@
--- Maintenance as rows beside those of the flows: in a shut slot it uses all processors, so that a flow of a book without a calendar finds free beside it
--- what the same flow of the book with the calendar finds free. The rows of the flows then use no shut slot, and the area without the maintenance holds
--- their use alone. Assumes nothing.
+-- Maintenance as rows beside those of the flows: in a shut slot it uses all processors, so that a flow of a book
+-- without a calendar finds free beside it what the same flow of the book with the calendar finds free. The rows of the
+-- flows then use no shut slot, and the area without the maintenance holds their use alone. Assumes nothing.
 use mathlib.Core.Path.{◌≡◌, refl, sym, ap, subst, ◌∙◌}
 use Prim.Native.Nat.{ℕ, ◌+◌, ◌*◌, ◌-◌, ◌≤◌, ◌<◌}
 use native.Mathlib.Omega.{arith}
@@ -89,8 +89,8 @@ pub record FlowAdded (b : Book) (f : ℕ) (rows : List Row) (area out : List ℕ
 
 -- work that is left makes the book infeasible
 work-left : (f : ℕ) (ps : List PseudoJob) (rows : List Row) → (ps ≡ [] → ⊥) → settled f ps rows ≡ infeasible f
-work-left f [] rows some = absurd (some refl)
-work-left f (p ∷ ps) rows some = refl
+work-left f [] _ some = absurd (some refl)
+work-left f (p ∷ ps) _ some = refl
 
 module _ (c : Calendar) (b : Book) (range : CalendarInRange c) (none : b.calendar ≡ []) (f : ℕ) where
   abbrev B : Book

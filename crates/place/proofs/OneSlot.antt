@@ -1,5 +1,5 @@
--- Rows that stand in one slot: one for each of the jobs below m that has processors there, g i of them for job i. They use the sum of g in
--- their slot and nothing in another, and the flow's finish is one slot later. Assumes nothing.
+-- Rows that stand in one slot: one for each of the jobs below m that has processors there, g i of them for job i. They
+-- use the sum of g in their slot and nothing in another, and the flow's finish is one slot later. Assumes nothing.
 use mathlib.Core.Path.{◌≡◌, refl, sym, ◌∙◌}
 use mathlib.Core.Logic.{◌⊎◌, inl, inr}
 use Prim.Native.Nat.{ℕ, zero, suc, ◌+◌, ◌≤◌, ◌<◌, max}

@@ -1,19 +1,17 @@
 -- Rows put into an output, one after the other. Assumes nothing.
-use mathlib.Core.Path.{◌≡◌, refl, sym, ap, ◌∙◌}
-use Prim.Native.Nat.{ℕ, zero, suc, ◌+◌, ◌*◌, ◌-◌, ◌≤◌, ◌<◌}
+use mathlib.Core.Path.{◌≡◌, refl, sym, ◌∙◌}
+use Prim.Native.Nat.{ℕ, zero, suc, ◌+◌, ◌*◌, ◌≤◌, ◌<◌}
 use native.Mathlib.Nat.{add-zero}
 use native.Mathlib.Omega.{arith}
 use mathlib.Core.Bool.{Bool, true, false}
-use mathlib.Core.List.{List, [], ◌∷◌, ◌++◌, append_assoc, append-nil}
-use lib.ListN.{length, length-append, length-drop, take, drop}
-use lib.Seq.{sets, sets-eq, length-sets, length-take-le, drop-drop}
+use mathlib.Core.List.{List, [], ◌∷◌, ◌++◌}
+use lib.ListN.{length, length-append}
+use lib.Seq.{sets, length-sets}
 use lib.Dec.{leb}
 use borrow.Author.Tests.{le-leb, lt-leb}
 use Rattle.std.specs.Prelude.{if◌then◌else◌}
 use Rattle.rules.specs.Rows.{Row, row_for}
 use Rattle.rules.specs.Table.{row_bytes}
-use Rattle.rules.proofs.Tables.TableBytes.{row-bytes-length}
-use Rattle.rules.proofs.Rows.WorkArea.{sets_between}
 use Rattle.place.specs.Output.{put_row, put_rows, Put}
 
 -- a row
@@ -94,30 +92,6 @@ put-more out out' out'' at next next' xs ys p q =
 
 pub put-same-length : (out out' : List ℕ) (at next : ℕ) (rows : List Row) → Put out at rows out' next → length out' ≡ length out
 put-same-length out out' at next rows p = rw p.output (put-length out at rows)
-
--- numbers set in a part of a list, which is put back
-pub set_in-part : (s w : List ℕ) (at n : ℕ) → length w ≡ n → at + n ≤ length s →
-    take at s ++ (sets (take n (drop at s)) 0 w ++ drop n (drop at s)) ≡ sets s at w
-set_in-part s w at n e h =
-    let v = take n (drop at s) in
-    let l : n ≤ length (drop at s) = rw length-drop (omega arith) in
-    let d : length v ≡ length w = length-take-le n (drop at s) l ∙ sym e in
-    let whole : sets v 0 w ≡ w = ap (λ x. sets x 0 w) (sym (append-nil v)) ∙ sets_between [] v w [] 0 refl d ∙ append-nil w in
-    rw (whole, drop-drop n at s, sets-eq w s at (omega arith), e) (sym (append_assoc (take at s) w (drop (at + n) s)))
-
--- a row written into a part of an output that is as long as a row
-row-part : (at : ℕ) → at + 6 - at ≡ 6
-row-part at = omega arith
-
-pub row-part-fits : (out : List ℕ) (at : ℕ) → at + 6 ≤ length out → 6 ≤ length (take (at + 6 - at) (drop at out))
-row-part-fits out at h =
-    let l : 6 ≤ length (drop at out) = rw length-drop (omega arith) in
-    rw (row-part at) (omega (arith, length-take-le 6 (drop at out) l))
-
-pub row_in-part : (out part : List ℕ) (at : ℕ) (r : Row) → at + 6 ≤ length out →
-    part ≡ sets (take (at + 6 - at) (drop at out)) 0 (row_bytes r) →
-    take at out ++ (part ++ drop (at + 6 - at) (drop at out)) ≡ sets out at (row_bytes r)
-row_in-part out part at r h e = rw (e, row-part at) (set_in-part out (row_bytes r) at 6 (row-bytes-length r) h)
 
 -- an output of no bytes
 pub no_bytes : (out : List ℕ) → length out ≡ 0 → out ≡ []

@@ -1,6 +1,6 @@
--- Rows packed in one number without their slot: what stands in the number is the row, also when stored byte by byte, and a list of such
--- numbers is as many rows. Assumes nothing.
-use mathlib.Core.Path.{◌≡◌, refl, sym, ◌∙◌}
+-- Rows packed in one number without their slot: what stands in the number is the row, also when stored byte by byte,
+-- and a list of such numbers is as many rows. Assumes nothing.
+use mathlib.Core.Path.{◌≡◌, refl, sym, ap, ◌∙◌}
 use Prim.Native.Nat.{ℕ, zero, suc, ◌+◌, ◌*◌, ◌/◌, ◌%◌, ◌≤◌, ◌<◌}
 use native.Mathlib.Nat.{div-one, mod-eq_of_lt}
 use native.Mathlib.Numerals.{towards_suc}
@@ -8,6 +8,7 @@ use native.Mathlib.Omega.{arith}
 use mathlib.Core.List.{List, [], ◌∷◌, ◌++◌}
 use lib.ListN.{length, length-append, get_or, set}
 use lib.Seq.{sets}
+use Rattle.std.specs.Int.{w32, to_le_bytes}
 use Rattle.rules.specs.Walks.{join_from}
 use Rattle.rules.specs.Fields.{bytes_of}
 use Rattle.rules.specs.Table.{row_bytes}
@@ -49,11 +50,23 @@ four_stores s at t v l =
     sym (two_stores _ at (v / 65536 % 256) (v / 16777216) (omega arith) (omega arith))
     ∙ row_stores s at t (v % 256) (v / 256 % 256) _ (omega arith) (omega arith)
 
+low_bytes : (v : ℕ) → v < 4294967296 → to_le_bytes w32 v ≡ v % 256 ∷ v / 256 % 256 ∷ v / 65536 % 256 ∷ v / 16777216 ∷ []
+low_bytes v l =
+    let top : v / 16777216 % 256 ≡ v / 16777216 = omega arith in
+    rw top refl
+
+stored_low : (s : List ℕ) (at a b c d : ℕ) → sets s (at + 2) (a ∷ b ∷ c ∷ d ∷ []) ≡ set (set (set (set s (at + 2) a) (at + 3) b) (at + 4) c) (at + 5) d
+stored_low s at a b c d = simp towards_suc
+
 -- it is put, where it fits, once its slot is written
-pub packed-put : (out out' : List ℕ) (at t v : ℕ) → v < 4294967296 → at + 6 ≤ length out → out' ≡ sets out at (bytes_of 2 t) →
-    Put out at (packed_row t v ∷ [])
-    (set (set (set (set out' (at + 2) (v % 256)) (at + 3) (v / 256 % 256)) (at + 4) (v / 65536 % 256)) (at + 5) (v / 16777216)) (at + 6)
-packed-put out out' at t v l h e = rw (e, four_stores out at t v l) (put_one out at (packed_row t v) h)
+pub packed-put : (out out' out'' low : List ℕ) (at t v : ℕ) → v < 4294967296 → at + 6 ≤ length out → out' ≡ sets out at (bytes_of 2 t) →
+    low ≡ to_le_bytes w32 v → out'' ≡ sets out' (at + 2) low → Put out at (packed_row t v ∷ []) out'' (at + 6)
+packed-put out out' out'' low at t v l h e q r =
+    let same : out'' ≡ sets out at (row_bytes (packed_row t v)) =
+    r ∙ ap (sets out' (at + 2)) (q ∙ low_bytes v l) ∙ stored_low out' at (v % 256) (v / 256 % 256) (v / 65536 % 256) (v / 16777216)
+    ∙ ap (λ (s : List ℕ). set (set (set (set s (at + 2) (v % 256)) (at + 3) (v / 256 % 256)) (at + 4) (v / 65536 % 256)) (at + 5) (v / 16777216)) e
+    ∙ four_stores out at t v l in
+    rw same (put_one out at (packed_row t v) h)
 
 -- ---- the first n of a list
 pub packed-rows-none : (t : ℕ) (a : List ℕ) → packed_rows t a 0 ≡ []

@@ -1,5 +1,5 @@
--- A pseudo-job on its way from slot to slot: while units are left it is the current one, and when the last are given it is done and the flow
--- goes on to the next in the slot after. Assumes nothing.
+-- A pseudo-job on its way from slot to slot: while units are left it is the current one, and when the last are given it
+-- is done and the flow goes on to the next in the slot after. Assumes nothing.
 use mathlib.Core.Path.{◌≡◌, refl, sym, ap, subst, ◌∙◌}
 use mathlib.Core.Logic.{◌⊎◌, inl, inr}
 use Prim.Native.Nat.{ℕ, suc, ◌+◌, ◌*◌, ◌-◌, ◌≤◌, ◌<◌}
@@ -14,7 +14,7 @@ use Rattle.rules.specs.PseudoJobs.{PseudoJob, work}
 use Rattle.rules.specs.Placing.{Progress, given, free_processors}
 use Rattle.place.specs.declared.Current.{Current}
 use Rattle.place.specs.declared.Placed.{Placed}
-use Rattle.place.specs.declared.Placed.TheVariants.{To, Infeasible}
+use Rattle.std.specs.Prelude.{Option, Some, None}
 use Rattle.place.specs.declared.Served.{Served}
 use Rattle.place.specs.Service.{InService, current_flow, pseudo_job}
 use Rattle.place.specs.Flows.{standing, Beside, UnderwayBy, SlotServed, RunDone, WorkLeft, RunPlaced, RunAnswer, SlotUsed, RunUsed, RunGoes}
@@ -79,7 +79,7 @@ pub record RunKept (s : List ℕ) (c : Current) (from limit at : ℕ) (out₀ ar
       RunSoFar s c x ps slot done out area next
 
 module _ {s : List ℕ} {c : Current} (v : InService s c) where
-  some-work : 0 < work (current_flow s c) (pseudo_job c)
+  pub some-work : 0 < work (current_flow s c) (pseudo_job c)
   some-work = omega (arith, work-held v, mul-le-mul_right {m = 1} {n = c.width} c.rate v.width_positive, v.rate_positive)
 
   pub run-kept-first : {from limit at done : ℕ} {out₀ area₀ : List ℕ} → from ≤ limit → done ≡ 0 →
@@ -139,20 +139,27 @@ module _ {s : List ℕ} {c : Current} (v : InService s c) {from limit done slot 
       let next = served here.0 in
       (next.0, run-kept-next v here.1 most inside left next.1 more refl same)
 
-  pub used-kept_stops : limit ≤ slot → done < work (current_flow s c) (pseudo_job c) → RunUsed s c from limit area₀ area Infeasible
+  pub used-kept_stops : limit ≤ slot → done < work (current_flow s c) (pseudo_job c) → RunUsed s c from limit area₀ area None
   used-kept_stops l left at = run-kept_stops v (k at).1 l left
 
-  pub used-kept-done : (held : ℕ) → work (current_flow s c) (pseudo_job c) ≤ done → RunUsed s c from limit area₀ area (To slot held)
+  pub used-kept-done : (held : ℕ) → work (current_flow s c) (pseudo_job c) ≤ done → RunUsed s c from limit area₀ area (Some (record { finish = slot; next = held }))
   used-kept-done held l at = ((k at).0, run-kept-done v (k at).1 l)
 
 -- ---- with rows or without
 module _ (s : List ℕ) (c : Current) (from held limit : ℕ) (out area out' area' : List ℕ) where
-  pub run-listed : (listed : Bool) → listed ≡ true → (q : Placed) → RunAnswer s c from held limit out area out' area' q →
+  pub run-listed : (listed : Bool) → listed ≡ true → (q : Option Placed) → RunAnswer s c from held limit out area out' area' q →
       RunGoes listed s c from held limit out area out' area' q
-  run-listed listed t (To slot next) answer = λ at e. (next, λ _. refl, rw (e t) answer)
-  run-listed listed t Infeasible answer = λ at e. rw (e t) answer
+  run-listed listed t (Some p) answer = λ at e. (p.next, λ _. refl, rw (e t) answer)
+  run-listed listed t None answer = λ at e. rw (e t) answer
 
-  pub run_unlisted : (listed : Bool) → listed ≡ false → out ≡ [] → out' ≡ [] → (q : Placed) → RunUsed s c from limit area area' q →
+  pub run_unlisted : (listed : Bool) → listed ≡ false → out ≡ [] → out' ≡ [] → (q : Option Placed) → RunUsed s c from limit area area' q →
       RunGoes listed s c from held limit out area out' area' q
-  run_unlisted listed t none none' (To slot next) answer = λ at e. ((answer at).0, λ u. absurd (false≢true (sym t ∙ u)), rw (none, none') (answer at).1)
-  run_unlisted listed t none none' Infeasible answer = λ at e. rw (none, none') (answer at)
+  run_unlisted listed t none none' (Some p) answer = λ at e. ((answer at).0, λ u. absurd (false≢true (sym t ∙ u)), rw (none, none') (answer at).1)
+  run_unlisted listed t none none' None answer = λ at e. rw (none, none') (answer at)
+
+  -- either way
+  pub run-goes : (listed : Bool) (q : Option Placed) → (listed ≡ true → RunAnswer s c from held limit out area out' area' q) →
+      (listed ≡ false → RunUsed s c from limit area area' q) → (listed ≡ false → out ≡ []) → (listed ≡ false → out' ≡ []) →
+      RunGoes listed s c from held limit out area out' area' q
+  run-goes true q answer used none none' = run-listed true refl q (answer refl)
+  run-goes false q answer used none none' = run_unlisted false refl (none refl) (none' refl) q (used refl)

@@ -3,8 +3,8 @@ use mathlib.Core.Path.{◌≡◌}
 use Prim.Native.Nat.{ℕ, ◌≤◌, ◌<◌}
 use native.Mathlib.Omega.{arith}
 use mathlib.Core.List.{List}
-use lib.ListN.{get_or}
-use Rattle.rules.specs.declared.Verdict.TheVariants.{Pass}
+use lib.ListN.{length, get_or}
+use Rattle.rules.specs.Verdicts.{Pass}
 use Rattle.rules.specs.Book.{flow_count, job_count, flow_of, InRange, FlowInRange}
 use Rattle.rules.specs.Ideal.{take_of}
 use Rattle.rules.specs.Reading.{book_of, book_fault}
@@ -55,7 +55,7 @@ module _ {s : List ℕ} {c : Current} (v : InService s c) where
       )
 
 module _ {s : List ℕ} {c : Current} {names takes : List ℕ} (h : PartsHeld s c names takes) where
-  pub parts_within : c.parts ≤ 64
+  pub parts_within : length names ≤ 64
   parts_within =
       omega (
         arith,
@@ -65,5 +65,5 @@ module _ {s : List ℕ} {c : Current} {names takes : List ℕ} (h : PartsHeld s 
       )
 
   -- what is asked to pack the parts
-  pub parts-fit : (q : ℕ) → q < c.parts → get_or takes q 0 ≤ 4096
-  parts-fit = amount-within (λ i. take_of (current_flow s c) i c.first) _ names takes c.parts 4096 h.parts (take_within h.in_service)
+  pub parts-fit : (q : ℕ) → q < length names → get_or takes q 0 ≤ 4096
+  parts-fit = amount-within (λ i. take_of (current_flow s c) i c.first) _ names takes (length names) 4096 h.parts (take_within h.in_service)

@@ -5,7 +5,7 @@ use native.Mathlib.Nat.{mod-lt}
 use native.Mathlib.Numerals.{add-one}
 use native.Mathlib.Omega.{arith}
 use mathlib.Core.List.{List, ◌++◌, append-nil}
-use lib.ListN.{get_or}
+use lib.ListN.{length, get_or}
 use Rattle.rules.specs.Walks.{sum_to}
 use Rattle.rules.specs.Book.{Flow, job_count}
 use Rattle.rules.specs.Ideal.{take_of}
@@ -13,10 +13,15 @@ use Rattle.rules.specs.PseudoJobs.{PseudoJob, rate, work}
 use Rattle.rules.specs.Rows.{Row, row_for}
 use Rattle.rules.specs.Placing.{share}
 use Rattle.rules.proofs.Chains.Shares.{units_before, units-within-rate, share-none, share-overlap}
+use Rattle.std.proofs.lemmas.List.{length-map}
+use Rattle.chain.specs.declared.Part.{Part}
+use Rattle.chain.specs.Alone.{no_part, names_in, takes_in}
 use Rattle.chain.specs.Runs.{parts_below}
+use Rattle.chain.proofs.Walked.{name-in, take-in}
 use Rattle.place.specs.declared.Current.{Current}
 use Rattle.place.specs.Output.{Put}
-use Rattle.place.specs.Service.{Serving, current_flow, pseudo_job, job_rows, overlaps}
+use Rattle.place.specs.declared.in_service.Service.{Service}
+use Rattle.place.specs.Service.{PartsHeld, current_flow, pseudo_job, job_rows, overlaps}
 use Rattle.place.proofs.Serving.{jobs-within, rate-within, take_within}
 use Rattle.place.proofs.OneSlot.{rows_of_slot, slot-rows-none, slot-rows_next, slot-rows-few}
 use Rattle.place.proofs.Output.{row_for-none, put-none, put-more}
@@ -72,12 +77,29 @@ slot-kept-first {w} {f} {t} {p} {done} {n} {out} {at} = record {
   so_far_lem = record { units = sym (units-none w p); put = rw (slot-rows-none t f (λ i. share w p i done n)) (put-none out at) };
 }
 
+-- the share of job j, without division
+share_is-overlaps : (w : Flow) (p : PseudoJob) (done give r j : ℕ) → r ≡ rate w p → 0 < rate w p → done + give ≤ work w p → give ≤ r → j < job_count w →
+    overlaps (done % r) give (units_before w p j) (take_of w j p.first) r ≡ share w p j done give
+share_is-overlaps w p done give r j e positive fits most l = rw e (sym (share-overlap w p j done give positive fits (omega arith) l))
+
 -- one turn, in a slot that uses `give` units of the pseudo-job in service after the first `done`
-module _ {s : List ℕ} {c : Current} {names takes rows : List ℕ} (v : Serving s c names takes rows) {done give t at next before q : ℕ}
-    {out out' : List ℕ} (fits : done + give ≤ work (current_flow s c) (pseudo_job c)) (most : give ≤ c.rate)
-    (k : SlotKept (current_flow s c) c.flow t (pseudo_job c) done give out at out' next before q) where
+module _ (x : Service) (v : PartsHeld x.book.now x.current (names_in x.parts.now) (takes_in x.parts.now)) {done give t at next before q : ℕ} {out out' : List ℕ}
+    (fits : done + give ≤ work (current_flow x.book.now x.current) (pseudo_job x.current)) (most : give ≤ x.current.rate)
+    (k : SlotKept (current_flow x.book.now x.current) x.current.flow t (pseudo_job x.current) done give out at out' next before q) where
+  abbrev c : Current
+  c = x.current
+
+  abbrev names : List ℕ
+  names = names_in x.parts.now
+
+  abbrev takes : List ℕ
+  takes = takes_in x.parts.now
+
+  abbrev here : Part
+  here = get_or x.parts.now q no_part
+
   abbrev w : Flow
-  w = current_flow s c
+  w = current_flow x.book.now c
 
   abbrev p : PseudoJob
   p = pseudo_job c
@@ -89,7 +111,7 @@ module _ {s : List ℕ} {c : Current} {names takes rows : List ℕ} (v : Serving
   PutBelow j = JobsPut w c.flow t p done give out at out' next before j
 
   positive : 0 < rate w p
-  positive = omega (arith, v.held.in_service.rate, v.held.in_service.rate_positive)
+  positive = omega (arith, v.in_service.rate, v.in_service.rate_positive)
 
   -- a job that takes nothing has no row
   pass : (i : ℕ) → i < job_count w → take i ≡ 0 → PutBelow i → PutBelow (i + 1)
@@ -98,53 +120,52 @@ module _ {s : List ℕ} {c : Current} {names takes rows : List ℕ} (v : Serving
     put = rw (rows-below_next w c.flow t p done give i, row_for-none t c.flow i _ (share-none w p i done give positive fits l e), append-nil) b.put;
   }
 
-  part : q < c.parts → PartAt take (job_count w) names takes q PutBelow
-  part l = part_at take (job_count w) names takes c.parts v.held.parts PutBelow pass k.job q k.job_to k.behind l k.so_far_lem
+  size : length names ≡ length x.parts.now
+  size = length-map x.parts.now (λ y. y.job)
+
+  part : q < length x.parts.now → PartAt take (job_count w) names takes q PutBelow
+  part l = part_at take (job_count w) names takes (length names) v.parts PutBelow pass k.job q k.job_to k.behind (omega (arith, size)) k.so_far_lem
 
   -- the units of part q in a slot of the run stand within the slot
-  pub units-within : q < c.parts → before + get_or takes q 0 ≤ c.rate
+  pub units-within : q < length x.parts.now → before + here.take ≤ c.rate
   units-within l =
       let j = part l in
-      omega (arith, j.holds.units, j.amount_is, v.held.in_service.rate, units-within-rate w p j.job j.job_in)
+      omega (arith, j.holds.units, j.amount_is, take-in x.parts.now q, v.in_service.rate, units-within-rate w p j.job j.job_in)
 
   -- what its row asks
-  pub row-asked : q < c.parts → at + 384 < 4294967296 →
-      (next < 4294967296) × (done % c.rate < c.rate) × (give ≤ c.rate) × (before + get_or takes q 0 ≤ c.rate) × (c.rate ≤ 262144) ×
-      (get_or takes q 0 ≤ 4096)
+  pub row-asked : q < length x.parts.now → at + 384 < 4294967296 →
+      (next < 4294967296) × (done % c.rate < c.rate) × (give ≤ c.rate) × (before + here.take ≤ c.rate) × (c.rate ≤ 262144) ×
+      (here.take ≤ 4096)
   row-asked l room =
       let j = part l in (
-        omega (arith, j.holds.put.offset, slot-rows-few t c.flow (λ i. share w p i done give) j.job, j.job_in, jobs-within v.held.in_service),
-        mod-lt done v.held.in_service.rate_positive,
+        omega (arith, j.holds.put.offset, slot-rows-few t c.flow (λ i. share w p i done give) j.job, j.job_in, jobs-within v.in_service),
+        mod-lt done v.in_service.rate_positive,
         most,
         units-within l,
-        rate-within v.held.in_service,
-        omega (arith, j.amount_is, take_within v.held.in_service j.job j.job_in),
+        rate-within v.in_service,
+        omega (arith, j.amount_is, take-in x.parts.now q, take_within v.in_service j.job j.job_in),
       )
 
-  -- the share of job j, without division
-  share_is-overlaps : (j : ℕ) → j < job_count w → overlaps (done % c.rate) give (units_before w p j) (take j) c.rate ≡ share w p j done give
-  share_is-overlaps j l = rw v.held.in_service.rate (sym (share-overlap w p j done give positive fits (omega (arith, v.held.in_service.rate)) l))
-
   -- its row after those of the parts before it
-  pub slot-kept-next : {out'' : List ℕ} {next' : ℕ} → q < c.parts →
-      Put out' next (row_for t c.flow (get_or names q 0) (overlaps (done % c.rate) give before (get_or takes q 0) c.rate)) out'' next' →
-      SlotKept w c.flow t p done give out at out'' next' (before + get_or takes q 0) (q + 1)
+  pub slot-kept-next : {out'' : List ℕ} {next' : ℕ} → q < length x.parts.now →
+      Put out' next (row_for t c.flow here.job (overlaps (done % c.rate) give before here.take c.rate)) out'' next' →
+      SlotKept w c.flow t p done give out at out'' next' (before + here.take) (q + 1)
   slot-kept-next {out''} {next'} l row =
       let j = part l in
       let its : Put out' next (row_for t c.flow j.job (share w p j.job done give)) out'' next' =
-      rw (← share_is-overlaps j.job j.job_in, ← j.holds.units, ← j.amount_is, ← j.name_is) row in
+      rw (← share_is-overlaps w p done give c.rate j.job v.in_service.rate positive fits most j.job_in, ← j.holds.units, ← j.amount_is, ← j.name_is, take-in x.parts.now q, name-in x.parts.now q) row in
       record {
         job = j.job + 1;
         job_to = omega (arith, j.job_in);
         behind = j.one_more;
         so_far_lem = record {
-          units = omega (arith, j.holds.units, j.amount_is, units-next w p j.job);
+          units = omega (arith, j.holds.units, j.amount_is, take-in x.parts.now q, units-next w p j.job);
           put = rw (rows-below_next w c.flow t p done give j.job) (put-more out out' out'' at next next' _ _ j.holds.put its);
         };
       }
 
   -- all parts are put
-  pub slot-kept-done : c.parts ≤ q → Put out at (job_rows w c.flow t p done give) out' next
+  pub slot-kept-done : length x.parts.now ≤ q → Put out at (job_rows w c.flow t p done give) out' next
   slot-kept-done l =
       rw (← rows-below-all w c.flow t p done give)
-      (past-parts take (job_count w) names takes c.parts v.held.parts PutBelow pass k.job k.job_to (omega (arith, k.behind)) k.so_far_lem).put
+      (past-parts take (job_count w) names takes (length names) v.parts PutBelow pass k.job k.job_to (omega (arith, k.behind, size)) k.so_far_lem).put

@@ -1,5 +1,5 @@
--- One slot of a flow's placing, as a loop over slots takes it: what the progress and the rows are after one slot more, what the rows of the
--- first slots use, how many they are and when they end. Assumes nothing.
+-- One slot of a flow's placing, as a loop over slots takes it: what the progress and the rows are after one slot more,
+-- what the rows of the first slots use, how many they are and when they end. Assumes nothing.
 use mathlib.Core.Path.{◌≡◌, refl, ap}
 use mathlib.Core.Logic.{◌⊎◌, inl, inr}
 use Prim.Native.Nat.{ℕ, zero, suc, ◌+◌, ◌*◌, ◌≤◌, ◌<◌}

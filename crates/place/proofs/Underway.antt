@@ -1,5 +1,5 @@
--- A flow on its way, one slot more: what the area holds in the slot is the use of the flows before, and after the slot's rows are put and
--- counted in, the flow stands where rule 4 says. Assumes nothing.
+-- A flow on its way, one slot more: what the area holds in the slot is the use of the flows before, and after the
+-- slot's rows are put and counted in, the flow stands where rule 4 says. Assumes nothing.
 use mathlib.Core.Path.{◌≡◌, refl, sym, ap, ◌∙◌}
 use Prim.Native.Nat.{ℕ, suc, ◌+◌, ◌*◌, ◌≤◌, ◌<◌}
 use native.Mathlib.Omega.{arith}

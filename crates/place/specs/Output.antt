@@ -1,8 +1,16 @@
 -- Rows put into an output where they fit. Assumes nothing.
 use Rattle.std.specs.Prelude.{◌≡◌, ℕ, ◌+◌, ◌*◌, List, [], ◌∷◌, length, leb, if◌then◌else◌}
 use Rattle.std.proofs.lemmas.List.Edits.{sets}
+use Rattle.rules.specs.Limits.{most_jobs, slots}
 use Rattle.rules.specs.Rows.{Row}
 use Rattle.rules.specs.Table.{row_length, row_bytes}
+
+-- the most bytes of one flow's rows, in one slot and in all
+abbrev pub slot_bytes : ℕ
+slot_bytes = row_length * most_jobs
+
+abbrev pub flow_bytes : ℕ
+flow_bytes = slot_bytes * slots
 
 -- a row put at an offset of the output, if it fits whole
 unfoldable pub put_row : List ℕ → ℕ → Row → List ℕ

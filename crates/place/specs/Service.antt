@@ -1,6 +1,6 @@
 -- The pseudo-job in service, as the code holds it, in the specification's values. Assumes nothing.
-use Rattle.std.specs.Prelude.{◌≡◌, ℕ, ◌+◌, ◌*◌, ◌-◌, ◌/◌, ◌%◌, ◌<◌, ◌≤◌, min, max, List, [], ◌∷◌, length, get_or}
-use Rattle.rules.specs.declared.Verdict.TheVariants.{Pass}
+use Rattle.std.specs.Prelude.{◌≡◌, ℕ, ◌+◌, ◌*◌, ◌-◌, ◌/◌, ◌%◌, ◌<◌, min, max, List, [], ◌∷◌, length, get_or}
+use Rattle.rules.specs.Verdicts.{Pass}
 use Rattle.rules.specs.Walks.{join_from}
 use Rattle.rules.specs.Book.{Flow, flow_count, job_count, flow_of}
 use Rattle.rules.specs.Reading.{book_of, book_fault}
@@ -8,7 +8,9 @@ use Rattle.rules.specs.Ideal.{take_of}
 use Rattle.rules.specs.PseudoJobs.{PseudoJob, rate}
 use Rattle.rules.specs.Rows.{Row, row_for}
 use Rattle.rules.specs.Placing.{share}
+use Rattle.chain.specs.declared.Part.{Part}
 use Rattle.chain.specs.Runs.{PartsOf}
+use Rattle.chain.specs.Alone.{names_in, takes_in}
 use Rattle.place.specs.declared.Current.{Current}
 
 -- its flow, and its pseudo-job
@@ -35,20 +37,23 @@ pub record InService (s : List ℕ) (c : Current) : Type 0 where
   pub rate_positive : 0 < c.rate
   pub width_positive : 0 < c.width
 
--- .. and so are its parts
+-- .. and so are its parts, all of them
 pub record PartsHeld (s : List ℕ) (c : Current) (names takes : List ℕ) : Type 0 where
   pub in_service : InService s c
-  pub parts : PartsOf (λ i. take_of (current_flow s c) i c.first) (job_count (current_flow s c)) names takes c.parts
-  pub names_whole : c.parts ≤ length names
-  pub takes_whole : c.parts ≤ length takes
+  pub parts : PartsOf (λ i. take_of (current_flow s c) i c.first) (job_count (current_flow s c)) names takes (length names)
 
--- .. and their rows in a slot that gives each its take
+-- packed rows are those of the first parts, in a slot that gives each its take
+abbrev pub PackedTo : ℕ → List Part → List ℕ → Type 0
+PackedTo f parts rows = (q : ℕ) → q < length rows → Packs (get_or rows q 0) f (get_or (names_in parts) q 0) (get_or (takes_in parts) q 0)
+
+-- .. and of all parts
 pub record Serving (s : List ℕ) (c : Current) (names takes rows : List ℕ) : Type 0 where
   pub held : PartsHeld s c names takes
-  pub rows_whole : c.parts ≤ length rows
-  pub rows_are : (q : ℕ) → q < c.parts → Packs (get_or rows q 0) c.flow (get_or names q 0) (get_or takes q 0)
+  pub rows_whole : length rows ≡ length names
+  pub rows_are : (q : ℕ) → q < length rows → Packs (get_or rows q 0) c.flow (get_or names q 0) (get_or takes q 0)
 
--- the units of one job among n units from the o-th of a slot on, where its own stand after the first `before` of each slot
+-- the units of one job among n units from the o-th of a slot on, where its own stand after the first `before` of each
+-- slot
 abbrev pub overlaps : ℕ → ℕ → ℕ → ℕ → ℕ → ℕ
 overlaps o n before a r = (min (o + n) (before + a) - max o before) + (min (o + n) (before + r + a) - max o (before + r))
 

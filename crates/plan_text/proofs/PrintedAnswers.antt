@@ -1,4 +1,5 @@
--- Every answer of the planner to an input is printed as the rules say: by cases on the reading, the plan and the table's length, where a
+-- Every answer of the planner to an input is printed as the rules say: by cases on the reading, the plan and the
+-- table's length, where a
 -- refusal is one line and an accepted table's lines are those of the plan. Assumes nothing.
 use mathlib.Core.Path.{◌≡◌, refl, sym, ap, ◌∙◌}
 use mathlib.Core.Logic.{◌⊎◌, inl, inr}

@@ -1,4 +1,5 @@
--- The lines read off a planned table, in words of the plan: the first line, one for each finish, one for each row. The numbers of the
+-- The lines read off a planned table, in words of the plan: the first line, one for each finish, one for each row. The
+-- numbers of the
 -- lines are cut into these three parts, and each part is what was written into the table. Assumes nothing.
 use mathlib.Core.Path.{◌≡◌, refl, sym, ap, ap₂, ◌∙◌}
 use Prim.Native.Nat.{ℕ, zero, suc, ◌+◌, ◌*◌, ◌-◌, ◌/◌, ◌<◌}

@@ -1,4 +1,4 @@
--- What is put into a buffer, and what the program prints.
+-- The pieces of a line, the lines of an answer, and what the program prints.
 pub mod Put
 pub mod Lines
 pub mod Printed

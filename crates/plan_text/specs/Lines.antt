@@ -1,10 +1,14 @@
--- The lines of an answer of the planner, numbered from 0: the one line of a refusal, or those of the table that stands in the output.
+-- The lines of an answer of the planner, numbered from 0: the one line of a refusal, or those of the table that stands
+-- in the output.
 -- Assumes nothing.
 use Rattle.std.specs.Prelude.{◌≡◌, ℕ, ◌+◌, ◌*◌, ◌-◌, ◌/◌, ◌≤◌, List, length, eqb, leb, if◌then◌else◌}
 use Rattle.rules.specs.declared.PlanAnswer.{PlanAnswer}
 use Rattle.rules.specs.Walks.{join_from}
 use Rattle.rules.specs.Fields.{byte, field}
 use Rattle.rules.specs.Table.{row_length, row_at}
+use Rattle.book.specs.Rows.{row_from}
+use Rattle.plan_text.specs.declared.lines.Line.{Line}
+use Rattle.plan_text.specs.declared.lines.Line.TheVariants.{Table, Finish, Row, Refusal}
 use Rattle.rules.specs.Text.{table_line, finish_line, row_line, refusal_line}
 
 -- the flows that a table's head states, and where its rows begin
@@ -35,6 +39,13 @@ line_count table a = if eqb a.number 0 then table_lines table a.length else 1
 
 unfoldable pub line_at : List ℕ → PlanAnswer → ℕ → List ℕ
 line_at table a n = if eqb a.number 0 then table_line_at table a.length a.late n else refusal_line a.number a.flow a.job
+
+-- the text of a line of the code
+abbrev pub line_text : Line → List ℕ
+line_text (Table bytes late) = table_line bytes late
+line_text (Finish flow finish) = finish_line flow finish
+line_text (Row row) = row_line (row_from row)
+line_text (Refusal number flow job) = refusal_line number flow job
 
 -- where the answer is a table, that table stands in the output
 abbrev pub AnswerStands : List ℕ → PlanAnswer → Type 0

@@ -1,4 +1,5 @@
--- What the program prints for an input, by the rules alone: `printed` names no buffer, table or work area. Assumes nothing.
+-- What the program prints for an input, by the rules alone: `printed` names no buffer, table or work area. Assumes
+-- nothing.
 use Rattle.std.specs.Prelude.{◌≡◌, ℕ, ◌*◌, ◌≤◌, List, [], ◌∷◌, ◌++◌, length, take, ltb, if◌then◌else◌}
 use Rattle.rules.specs.declared.PlanAnswer.{PlanAnswer}
 use Rattle.rules.specs.Walks.{join_from}
@@ -36,7 +37,8 @@ unfoldable pub reading_text : Reading → List ℕ
 reading_text (unread n f j) = refusal_line n f j
 reading_text (read b) = outcome_text b (plan b)
 
--- "an input longer than that is turned down by 1"; "the printing program plans with none" (02, Req 07), that is with no windows
+-- "an input longer than that is turned down by 1"; "the printing program plans with none" (02, Req 07), that is with no
+-- windows
 unfoldable pub printed : List ℕ → List ℕ
 printed input = if ltb lent_bytes (length input) then refusal_line 1 none none else reading_text (read_book input no_windows)
 
@@ -44,7 +46,8 @@ printed input = if ltb lent_bytes (length input) then refusal_line 1 none none e
 abbrev pub text_bytes : ℕ
 text_bytes = 720896
 
--- what an answer leaves to be printed as that text: its table stands at the start of the output, and the lines read off it are the text
+-- what an answer leaves to be printed as that text: its table stands at the start of the output, and the lines read off
+-- it are the text
 pub record Prints (text output : List ℕ) (a : PlanAnswer) : Type 0 where
   pub within : a.length ≤ length output
   pub stands : AnswerStands (take a.length output) a

@@ -1,136 +1,98 @@
-// The lines of a printed plan, put into a lent buffer. Each line equals its definition; the program only writes the buffer out.
+// The lines of a printed plan, put one after the other into a text of fixed room. Each line equals its definition.
+// Not by `write!`: its contract leaves open when it ends with an error, and what is put here has room and cannot fail.
 #![tactic(auto)]
 
 pub mod lines;
 
-ghost use Rattle.std.specs.Prelude.{◌+◌, ◌≤◌, ◌<◌, length, [], ◌∷◌, ◌++◌};
-ghost use Rattle.rules.specs.Text.{
-  digit,
-  digits_of,
-  decimal,
-  table_line,
-  finish_line,
-  row_line,
-  refusal_line,
-};
-ghost use Rattle.plan_text.specs.Put.{TextPut, pair_line, longest_line};
+ghost use Rattle.std.specs.Prelude.{◌≡◌, ◌+◌, ◌≤◌, ◌++◌, length};
+ghost use Rattle.arrayvec.specs.ArrayString.{array_string_len};
+ghost use Rattle.rules.specs.Text.{decimal, table_line, finish_line, row_line, refusal_line};
+ghost use Rattle.book.specs.Rows.{row_from};
+ghost use Rattle.plan_text.specs.Put.{pair_line, longest_line};
 
-// The last digit of a number.
-pub fn put_digit(out: &mut [u8], at: usize, x: u32) -> usize
-    requires { at < length out.old }
-    ensures { TextPut out.old at (digit x ∷ []) out.new result }
-{
-    out[at] = 48 + (x % 10) as u8;
-    at + 1
-}
-
-// A number in at most n + 1 digits.
-pub fn put_digits(out: &mut [u8], at: usize, n: u8, x: u32) -> usize
-    requires { at + n < length out.old }
-    ensures { TextPut out.old at (digits_of n x) out.new result }
-{
-    if n == 0 {
-        return put_digit(out, at, x);
-    }
-    if x < 10 {
-        return put_digit(out, at, x);
-    }
-    let next = put_digits(out, at, n - 1, x / 10);
-    put_digit(out, next, x)
-}
-
-// A word of a line.
-pub fn put_word(out: &mut [u8], at: usize, word: &[u8]) -> usize
-    requires { at + length word.now ≤ length out.old }
-    ensures { TextPut out.old at word.now out.new result }
-{
-    let mut i: usize = 0;
-    while i < word.len() {
-        out[at + i] = word[i];
-        i = i + 1;
-    }
-    at + i
-}
-
-// A number in decimal.
-pub fn put_decimal(out: &mut [u8], at: usize, x: u32) -> usize
-    requires { at + 10 ≤ length out.old }
-    ensures { TextPut out.old at (decimal x) out.new result }
-{
-    put_digits(out, at, 9, x)
-}
+use arrayvec::ArrayString;
+use book::row::Row;
+use itoa::Buffer;
 
 // A word and the number after it.
-pub fn put_number(out: &mut [u8], at: usize, word: &[u8], x: u32) -> usize
-    requires { at + (length word.now + 10) ≤ length out.old }
-    ensures { TextPut out.old at (word.now ++ decimal x) out.new result }
+#[inline(always)]
+#[tactic(auto, using(crate::proofs::Pieces::pieces))]
+pub fn put_number<const N: usize>(text: &mut ArrayString<N>, word: &str, x: u32)
+    requires { array_string_len text.old + (length word.now + 10) ≤ N }
+    ensures bytes { text.new.bytes ≡ text.old.bytes ++ (word.now ++ decimal x) }
+    ensures length { array_string_len text.new ≤ array_string_len text.old + (length word.now + 10) }
 {
-    let next = put_word(out, at, word);
-    put_decimal(out, next, x)
+    text.push_str(word);
+    let mut digits = Buffer::new();
+    text.push_str(digits.format(x));
 }
 
 // Two words, each with the number after it, and the end of the line.
-pub fn put_pair(out: &mut [u8], at: usize, first: &[u8], x: u32, second: &[u8], y: u32) -> usize
-    requires { at + (length first.now + (length second.now + 21)) ≤ length out.old }
-    ensures { TextPut out.old at (pair_line first.now x second.now y) out.new result }
+#[inline(always)]
+#[tactic(auto, using(crate::proofs::Pieces::pieces), unfolding(rules::specs::Fields::bytes_of))]
+pub fn put_pair<const N: usize>(
+    text: &mut ArrayString<N>,
+    first: &str,
+    x: u32,
+    second: &str,
+    y: u32,
+)
+    requires { array_string_len text.old + (length first.now + (length second.now + 21)) ≤ N }
+    ensures bytes { text.new.bytes ≡ text.old.bytes ++ pair_line first.now x second.now y }
+    ensures length { array_string_len text.new ≤ array_string_len text.old + (length first.now + (length second.now + 21)) }
 {
-    let after_first = put_number(out, at, first, x);
-    let after_second = put_number(out, after_first, second, y);
-    put_word(out, after_second, b"\n")
+    put_number(text, first, x);
+    put_number(text, second, y);
+    text.push_str("\n");
 }
 
+// Each line asks for room by itself: the type of a text says how much it holds, and not how much of that is left.
+
 // `table 66 late 2`
-pub fn put_table_line(out: &mut [u8], at: usize, bytes: u32, late: u8) -> usize
-    requires { at + longest_line ≤ length out.old }
-    ensures { TextPut out.old at (table_line bytes late) out.new result }
+#[tactic(auto, unfolding(rules::specs::Text::table_line, rules::specs::Fields::bytes_of))]
+pub fn put_table_line<const N: usize>(text: &mut ArrayString<N>, bytes: u32, late: u8)
+    requires { array_string_len text.old + longest_line ≤ N }
+    ensures bytes { text.new.bytes ≡ text.old.bytes ++ table_line bytes late }
+    ensures length { array_string_len text.new ≤ array_string_len text.old + longest_line }
 {
-    put_pair(out, at, b"table ", bytes, b" late ", late as u32)
+    put_pair(text, "table ", bytes, " late ", u32::from(late));
 }
 
 // `finish 0 6`
-pub fn put_finish_line(out: &mut [u8], at: usize, flow: u8, finish: u16) -> usize
-    requires { at + longest_line ≤ length out.old }
-    ensures { TextPut out.old at (finish_line flow finish) out.new result }
+#[tactic(auto, unfolding(rules::specs::Text::finish_line, rules::specs::Fields::bytes_of))]
+pub fn put_finish_line<const N: usize>(text: &mut ArrayString<N>, flow: u8, finish: u16)
+    requires { array_string_len text.old + longest_line ≤ N }
+    ensures bytes { text.new.bytes ≡ text.old.bytes ++ finish_line flow finish }
+    ensures length { array_string_len text.new ≤ array_string_len text.old + longest_line }
 {
-    put_pair(out, at, b"finish ", flow as u32, b" ", finish as u32)
+    put_pair(text, "finish ", u32::from(flow), " ", u32::from(finish));
 }
 
 // `slot 0 flow 1 job 0 take 2`
-pub fn put_row_line(
-    out: &mut [u8],
-    at: usize,
-    slot: u16,
-    flow: u8,
-    job: u8,
-    processors: u16,
-) -> usize
-    requires { at + longest_line ≤ length out.old }
-    ensures { TextPut out.old at (row_line (record { slot = slot; flow = flow; job = job; processors = processors })) out.new result }
+#[tactic(auto, unfolding(rules::specs::Text::row_line, rules::specs::Fields::bytes_of))]
+pub fn put_row_line<const N: usize>(text: &mut ArrayString<N>, row: Row)
+    requires { array_string_len text.old + longest_line ≤ N }
+    ensures bytes { text.new.bytes ≡ text.old.bytes ++ row_line (row_from row) }
+    ensures length { array_string_len text.new ≤ array_string_len text.old + longest_line }
 {
-    let after_slot = put_number(out, at, b"slot ", slot as u32);
-    let after_flow = put_number(out, after_slot, b" flow ", flow as u32);
+    put_number(text, "slot ", u32::from(row.slot));
+    put_number(text, " flow ", u32::from(row.flow));
     put_pair(
-        out,
-        after_flow,
-        b" job ",
-        job as u32,
-        b" take ",
-        processors as u32,
-    )
+        text,
+        " job ",
+        u32::from(row.job),
+        " take ",
+        u32::from(row.processors),
+    );
 }
 
 // `refused 12 flow 0 job 255`
-pub fn put_refusal_line(out: &mut [u8], at: usize, number: u8, flow: u8, job: u8) -> usize
-    requires { at + longest_line ≤ length out.old }
-    ensures { TextPut out.old at (refusal_line number flow job) out.new result }
+#[tactic(auto, unfolding(rules::specs::Text::refusal_line, rules::specs::Fields::bytes_of))]
+pub fn put_refusal_line<const N: usize>(text: &mut ArrayString<N>, number: u8, flow: u8, job: u8)
+    requires { array_string_len text.old + longest_line ≤ N }
+    ensures bytes { text.new.bytes ≡ text.old.bytes ++ refusal_line number flow job }
+    ensures length { array_string_len text.new ≤ array_string_len text.old + longest_line }
 {
-    let after_number = put_number(out, at, b"refused ", number as u32);
-    put_pair(
-        out,
-        after_number,
-        b" flow ",
-        flow as u32,
-        b" job ",
-        job as u32,
-    )
+    put_number(text, "refused ", u32::from(number));
+    put_pair(text, " flow ", u32::from(flow), " job ", u32::from(job));
 }

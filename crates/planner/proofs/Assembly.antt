@@ -1,5 +1,7 @@
--- A table put together in an output that has room for it: the rows behind the bytes of head and finishes, then the finishes, then the head.
--- Each store replaces a part of the output by one as long, so that in the end the parts stand one after the other. Assumes nothing.
+-- A table put together in an output that has room for it: the rows behind the bytes of head and finishes, then the
+-- finishes, then the head.
+-- Each store replaces a part of the output by one as long, so that in the end the parts stand one after the other.
+-- Assumes nothing.
 use mathlib.Core.Path.{◌≡◌, refl, sym, ap, ◌∙◌}
 use Prim.Native.Nat.{ℕ, suc, ◌+◌, ◌*◌, ◌≤◌, ◌<◌}
 use native.Mathlib.Nat.{div-one, mod-eq_of_lt}
@@ -7,6 +9,7 @@ use native.Mathlib.Numerals.{towards_suc, add-one}
 use native.Mathlib.Omega.{arith}
 use mathlib.Core.List.{List, [], ◌∷◌, ◌++◌, append_assoc}
 use lib.ListN.{length, take, drop, set, get_or, length-drop}
+use Rattle.std.proofs.lemmas.List.{get_or-take}
 use lib.Seq.{sets, sets-eq, length-sets, length-take-le, take-add}
 use borrow.Author.Tests.{le-leb}
 use Rattle.rules.specs.Walks.{join_from}
@@ -64,6 +67,16 @@ finishes-next s finishes n =
     ap (λ m. sets (sets s 8 (finish_bytes finishes n)) (8 + m) (bytes_of 2 (get_or finishes n 0))) (sym (finishes-length finishes n))
     ∙ sets-append s 8 (finish_bytes finishes n) (bytes_of 2 (get_or finishes n 0))
     ∙ ap (sets s 8) (sym more))
+
+pub ruleset finishes = (finishes-none, finishes-next)
+
+-- those of a part of an array
+pub finishes-taken : (finishes : List ℕ) (n : ℕ) → n ≤ length finishes → finish_bytes (take n finishes) (length (take n finishes)) ≡ finish_bytes finishes n
+unfolding finish_bytes
+finishes-taken finishes n l =
+    let e : length (take n finishes) ≡ n = length-take-le n finishes l in
+    rw e (
+    join-ext _ _ n 0 (λ k h. let z : 0 + k ≡ k = omega arith in rw z (ap (bytes_of 2) (get_or-take n finishes k 0 h))))
 
 -- ---- the whole table
 -- three parts and what is behind them, stored from the last to the first

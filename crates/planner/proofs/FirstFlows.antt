@@ -1,13 +1,17 @@
--- The first flows in service order with their rows: a flow is put behind the rows of those before it, and its finish is stored. How that starts, goes on, and
--- ends. Assumes nothing.
+-- The first flows in service order with their rows: a flow is put behind the rows of those before it, and its finish is
+-- stored. How that starts, goes on, and ends. Assumes nothing.
 use mathlib.Core.Path.{◌≡◌, refl, sym, ap, subst, ◌∙◌}
 use Prim.Native.Nat.{ℕ, zero, suc, ◌+◌, ◌*◌, ◌≤◌, ◌<◌}
 use native.Mathlib.Omega.{arith}
-use mathlib.Core.Bool.{true}
 use mathlib.Core.List.{List, [], ◌++◌}
 use mathlib.Core.Logic.{◌⊎◌, inl, inr}
 use lib.ListN.{length, get_or, set, replicate, length-append, length-replicate, length-set}
 use lib.Seq.{get_or-set_same, get_or-set_other}
+use Rattle.std.specs.Prelude.{Result, Ok, Err}
+use Rattle.rules.specs.declared.Fault.TheVariants as fault
+use Rattle.rules.specs.declared.Refusal.{Refusal}
+use Rattle.rules.specs.Answers.{none}
+use Rattle.rules.specs.Faults.{refusal_at}
 use Rattle.rules.specs.Limits.{slots}
 use Rattle.rules.specs.Calendar.{CalendarInRange}
 use Rattle.rules.specs.Book.{Book, flow_count}
@@ -17,22 +21,13 @@ use Rattle.rules.specs.Placing.{infeasible, place_first}
 use Rattle.rules.specs.Table.{table_head, table_length}
 use Rattle.rules.proofs.Laws.Division.{lt-or_ge}
 use Rattle.rules.proofs.Reading.ServiceOrder.{service-below}
-use Rattle.place.specs.declared.Placed.TheVariants.{To}
 use Rattle.place.specs.Output.{put_rows}
-use Rattle.place.specs.Flows.{FlowDone, FlowPlaced}
 use Rattle.place.specs.Order.{shut_rows, Stands}
+use Rattle.place.specs.Turns.{turn_rows, TurnTaken, TakenOut}
 use Rattle.place.proofs.Output.{put-more}
-use Rattle.place.proofs.Maintenance.{added_rows, FlowAdded, ShutTo}
-use Rattle.place.proofs.FlowByFlow.{stands-none, other-finish, stands-next, own-finish, flows-left, nothing_left}
-use Rattle.planner.specs.declared.Ended.TheVariants.{Planned, Infeasible}
+use Rattle.place.proofs.FlowByFlow.{stands-none}
 use Rattle.planner.specs.declared.Whole.{Whole}
 use Rattle.planner.specs.Whole.{RowsPut, ended_of, FlowsPlaced, FirstPlaced}
-
--- a flow whose rows are put is done at the offset that the code holds
-pub listed-done : {b : Book} {f limit : ℕ} {rows : List Row} {area out out' area' : List ℕ} {at finish next : ℕ} →
-    FlowPlaced true b f limit rows area out at out' area' (To finish next) → FlowDone b f limit rows area out at out' area' finish next
-listed-done {b} {f} {limit} {rows} {area} {out} {out'} {area'} {at} {finish} p =
-    subst (λ (n : ℕ). FlowDone b f limit rows area out at out' area' finish n) (p.1 refl) p.2
 
 -- ---- where the planner is after k flows
 pub record PutSoFar (b : Book) (k : ℕ) (rows : List Row) (out area out' area' finishes : List ℕ) (next : ℕ) : Type 0 where
@@ -60,13 +55,13 @@ put-none_yet b out area next n range holds e whole = record {
   size = length-replicate n 0 ∙ whole;
 }
 
--- ---- one flow more: flow f, which is served at position k
-pub goes_on : {b : Book} {k f : ℕ} {rows : List Row} {out area out' area' finishes : List ℕ} {next : ℕ} →
-    PutSoFar b k rows out area out' area' finishes next → k < flow_count b → f ≡ served_at b k → flow_count b ≤ 64 →
-    {out'' area'' : List ℕ} {finish next'' : ℕ} → FlowAdded b f rows area out' next out'' area'' finish next'' →
-    PutSoFar b (k + 1) (rows ++ added_rows b f rows) out area out'' area'' (set finishes f finish) next''
-goes_on {b} {k} {f} {rows} {out} {area} {out'} {area'} {finishes} {next} s l q few_flows {out''} {area''} {finish} {next''} d = record {
-  stands = stands-next s.stands l q d;
+-- ---- one flow more: the one that is served at position k
+pub goes_on : {b : Book} {k : ℕ} {rows : List Row} {out area out' area' finishes : List ℕ} {next : ℕ} →
+    PutSoFar b k rows out area out' area' finishes next → k < flow_count b → flow_count b ≤ 64 →
+    {out'' area'' : List ℕ} {finish next'' : ℕ} → TurnTaken b k rows area out' next out'' area'' finish next'' →
+    PutSoFar b (k + 1) (rows ++ turn_rows b k rows) out area out'' area'' (set finishes (served_at b k) finish) next''
+goes_on {b} {k} {rows} {out} {area} {out'} {area'} {finishes} {next} s l few_flows {out''} {area''} {finish} {next''} d = record {
+  stands = d.stands;
   rows_put = record {
     put = put-more out out' out'' (table_head b) next next'' rows new s.rows_put.put d.put;
     finish = each;
@@ -75,8 +70,11 @@ goes_on {b} {k} {f} {rows} {out} {area} {out'} {area'} {finishes} {next} s l q f
   size = length-set finishes f finish ∙ s.size;
 }
   where
+    f : ℕ
+    f = served_at b k
+
     new : List Row
-    new = added_rows b f rows
+    new = turn_rows b k rows
 
     room : f < length finishes
     room = omega (arith, service-below b k l, s.size)
@@ -85,10 +83,10 @@ goes_on {b} {k} {f} {rows} {out} {area} {out'} {area'} {finishes} {next} s l q f
     each g h = go (lt-or_ge g f) (lt-or_ge f g)
       where
         own : g ≡ f → get_or (set finishes f finish) g 0 ≡ finish_of (rows ++ new) g
-        own e = rw e (get_or-set_same finishes f finish 0 room ∙ own-finish s.stands l q d)
+        own e = rw e (get_or-set_same finishes f finish 0 room ∙ d.ends)
 
         other : (g ≡ f → ⊥) → get_or (set finishes f finish) g 0 ≡ finish_of (rows ++ new) g
-        other ne = get_or-set_other finishes f g finish 0 ne ∙ s.rows_put.finish g h ∙ sym (other-finish s.stands l q g ne)
+        other ne = get_or-set_other finishes f g finish 0 ne ∙ s.rows_put.finish g h ∙ sym (d.others_stay g ne)
 
         go : (g < f) ⊎ (f ≤ g) → (f < g) ⊎ (g ≤ f) → get_or (set finishes f finish) g 0 ≡ finish_of (rows ++ new) g
         go (inl m) y = other (λ e. omega arith)
@@ -96,13 +94,13 @@ goes_on {b} {k} {f} {rows} {out} {area} {out'} {area'} {finishes} {next} s l q f
         go (inr m) (inr o) = own (omega arith)
 
 -- ---- the end
-module _ (b : Book) (k : ℕ) (out area out' area' : List ℕ) (r : Whole) where
+module _ (b : Book) (k : ℕ) (out area out' area' : List ℕ) where
   -- all are placed
-  pub ends-planned : (j : ℕ) (rows : List Row) (next : ℕ) → PutSoFar b j rows out area out' area' r.finish next → j ≡ k → r.ended ≡ Planned next →
-      FlowsPlaced b k out area out' area' r
+  pub ends-planned : (j : ℕ) (rows : List Row) (w : Whole) → PutSoFar b j rows out area out' area' w.finishes w.end → j ≡ k →
+      FlowsPlaced b k out area out' area' (Ok w)
   unfolding table_length
-  ends-planned j rows next stood q e = let s : PutSoFar b k rows out area out' area' r.finish next = rw q at stood in record {
-    ends = e ∙ ap Planned s.rows_put.put.offset ∙ ap (ended_of b) (sym s.stands.placed);
+  ends-planned j rows w stood q = let s : PutSoFar b k rows out area out' area' w.finishes w.end = rw q at stood in record {
+    ends = ap (λ (n : ℕ). Ok n) s.rows_put.put.offset ∙ ap (ended_of b) (sym s.stands.placed);
     rows_put = λ others d. let p = s.stands.placed in let e : others ≡ rows = cc in rw (e, ← s.rows_put.put.offset) s.rows_put;
     stands = λ others d. let p = s.stands.placed in let e : others ≡ rows = cc in rw e s.stands;
     others = shut_rows b ++ rows;
@@ -110,22 +108,22 @@ module _ (b : Book) (k : ℕ) (out area out' area' : List ℕ) (r : Whole) where
   }
 
   -- one of them is infeasible
-  pub ends-infeasible : (f : ℕ) (others : List Row) → place_first b k ≡ infeasible f → area' ≡ work_used slots others area → r.ended ≡ Infeasible f →
-      FlowsPlaced b k out area out' area' r
-  ends-infeasible f others p a e = record {
-    ends = e ∙ ap (ended_of b) (sym p);
-    rows_put = λ rows d. absurd (let z : ◌≡◌ {A = ℕ} 0 1 = cc in omega arith);
-    stands = λ rows d. absurd (let z : ◌≡◌ {A = ℕ} 0 1 = cc in omega arith);
+  pub ends-infeasible : (f : ℕ) (others : List Row) → place_first b k ≡ infeasible f → area' ≡ work_used slots others area →
+      FlowsPlaced b k out area out' area' (Err (refusal_at fault.Infeasible f none))
+  ends-infeasible f others p a = record {
+    ends = ap (ended_of b) (sym p);
+    rows_put = λ rows d. cc;
+    stands = λ rows d. cc;
     others = others;
     area_used = a;
   }
 
   -- the maintenance is taken out of the area again
-  pub first-placed : (area₁ area₂ : List ℕ) → CalendarInRange b.calendar → area₁ ≡ work_used slots (shut_rows b) area → FlowsPlaced b k out area₁ out' area₂ r →
-      ShutTo b.calendar 0 area₂ area' → FirstPlaced b k out area out' area' r
-  first-placed area₁ area₂ range e p set = record {
+  pub first-placed : (r : Result Whole Refusal) (area₁ area₂ : List ℕ) → area₁ ≡ work_used slots (shut_rows b) area →
+      FlowsPlaced b k out area₁ out' area₂ r → TakenOut b area area₂ area' → FirstPlaced b k out area out' area' r
+  first-placed r area₁ area₂ e p taken = record {
     ends = p.ends;
     rows_put = p.rows_put;
-    area_used = λ rows d. flows-left b area area₁ area₂ area' range e set (p.stands rows d);
-    cleared = nothing_left b area area₁ area₂ area' range e set p.others p.area_used;
+    area_used = λ rows d. taken.flows_left k rows (subst (λ (a : List ℕ). Stands b k rows a area₂) e (p.stands rows d));
+    cleared = taken.cleared p.others (p.area_used ∙ ap (work_used slots p.others) e);
   }

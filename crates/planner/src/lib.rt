@@ -2,204 +2,147 @@
 #![tactic(auto)]
 
 ghost use Rattle.std.specs.Prelude.{◌≡◌, ◌≤◌, length, []};
-ghost use Rattle.rules.specs.declared.Verdict.TheVariants.{Pass};
-ghost use Rattle.rules.specs.Answers.{plan_refused};
-ghost use Rattle.rules.specs.Limits.{work_bytes};
-ghost use Rattle.rules.specs.Calendar.{CalendarInRange};
-ghost use Rattle.rules.specs.Book.{with_calendar};
-ghost use Rattle.rules.specs.Reading.{book_of, book_fault};
+ghost use Rattle.rules.specs.Limits.{slots, work_bytes};
+ghost use Rattle.rules.specs.Book.{flow_count};
+ghost use Rattle.rules.specs.Rows.{work_used};
 ghost use Rattle.rules.specs.Planner.{plan_call};
-ghost use Rattle.book.specs.Promise.{Indexed};
-ghost use Rattle.calendar.specs.Held.{held_windows};
-ghost use Rattle.planner.specs.Call.{Leaves, plan_of, Counted, Sized};
-ghost use Rattle.place.specs.Order.{InOrder, shut_rows, Asked};
-ghost use Rattle.planner.specs.Whole.{FlowsPlaced, FirstPlaced};
+ghost use Rattle.place.specs.Order.{shut_rows};
+ghost use Rattle.place.specs.Turns.{whole_book};
+ghost use Rattle.planner.specs.Call.{Leaves, plan_of, answer_by, Counted, Sized};
+ghost use Rattle.planner.specs.Whole.{planned_book, FlowsPlaced, FirstPlaced};
 
-use book::{Index, bytes};
+use book::Book;
+use book::bytes::{self, WORK_BYTES};
 use calendar::Calendar;
-use place::Placed;
-use rules::{PlanAnswer, Verdict};
+use place::Turns;
+use rules::{Fault, PlanAnswer, Refusal};
 
 pub mod table;
 
-// How the placing of flows ends: with the offset after the last row, or with a flow that makes the book infeasible.
-#[derive(Clone, Copy)]
-pub enum Ended {
-    Planned(usize),
-    Infeasible(u8),
-}
-
-// The end of placing, and the finish of each flow, 0 where it is not placed.
+// Flows that are placed: the offset after the last row, and the finish of each flow; 0, as the rules have it of a flow
+// without rows, where it is not among them. An array, since flows are stored in service order.
 #[derive(Clone, Copy)]
 pub struct Whole {
-    pub ended: Ended,
-    pub finish: [u16; 64],
+    pub end: usize,
+    pub finishes: [u16; 64],
 }
 
-// The first `count` flows in service order, each from its release on beside those before it and the maintenance, which the work area holds.
+// The first `count` flows in service order, each from its release on beside those before it and the maintenance, which
+// the work area holds. Output and work area stay two slices, as the C interface lends them; book's `WORK_BYTES` says why
+// each asks for its length. No `ok_or` in the loop: the proof did not close.
 pub fn place_flows(
-    book: &[u8],
+    turns: &Turns,
     out: &mut [u8],
     work: &mut [u8],
-    x: Index,
-    calendar: Calendar,
-    order: [u8; 64],
     count: usize,
-) -> Whole
-    requires { Asked book.now (held_windows calendar) x order count (shut_rows (with_calendar (held_windows calendar) (book_of book.now))) work.old }
-    ensures { FlowsPlaced (with_calendar (held_windows calendar) (book_of book.now)) count out.old work.old out.new work.new result }
+) -> Result<Whole, Refusal>
+    requires { (count ≤ flow_count (planned_book turns.now)) × (work_bytes ≤ length work.old) × (work.old ≡ work_used slots (shut_rows (planned_book turns.now)) work.old) }
+    ensures { FlowsPlaced (planned_book turns.now) count out.old work.old out.new work.new result }
 {
-    let processors = x.processors;
-    let mut finish = [0u16; 64];
-    let mut next = 8 + 2 * x.flows;
-    let mut k: usize = 0;
-    while k < count {
-        let flow = order[k];
-        let f = bytes::wide(flow);
-        let records = x.records[f];
-        let limit = calendar::limit_of(calendar, x.deadlines[f]);
-        let Placed::To(end, after) = place::place_flow(
-            true,
-            book,
-            out,
-            work,
-            next,
-            records,
-            f,
-            processors,
-            limit as u16,
-        ) else {
-            return Whole {
-                ended: Ended::Infeasible(flow),
-                finish,
-            };
+    let mut finishes = [0u16; 64];
+    let mut end = table::rows_at(turns.book.flow_count());
+    for k in 0..count {
+        let flow = turns.flow(k);
+        let Some(placed) = turns.place::<true>(k, out, work, end) else {
+            return Err(Fault::Infeasible.at_flow(flow));
         };
-        finish[f] = end as u16;
-        next = after;
-        k = k + 1;
+        finishes[usize::from(flow)] = placed.finish as u16;
+        end = placed.next;
     }
-    Whole {
-        ended: Ended::Planned(next),
-        finish,
-    }
+    Ok(Whole { end, finishes })
 }
 
-// The first `count` flows in service order in open slots: all processors of the shut ones are in use until they are placed.
+// The first `count` flows in service order in open slots: all processors of the shut ones are in use until they are
+// placed.
 pub fn place_first(
-    book: &[u8],
+    turns: &Turns,
     out: &mut [u8],
     work: &mut [u8],
-    x: Index,
-    calendar: Calendar,
-    order: [u8; 64],
     count: usize,
-) -> Whole
-    requires { Asked book.now (held_windows calendar) x order count [] work.old }
-    ensures { FirstPlaced (with_calendar (held_windows calendar) (book_of book.now)) count out.old work.old out.new work.new result }
+) -> Result<Whole, Refusal>
+    requires { (count ≤ flow_count (planned_book turns.now)) × (work_bytes ≤ length work.old) × (work.old ≡ work_used slots [] work.old) }
+    ensures { FirstPlaced (planned_book turns.now) count out.old work.old out.new work.new result }
 {
-    calendar::set_shut(work, calendar, x.processors);
-    let whole = place_flows(book, out, work, x, calendar, order, count);
-    calendar::set_shut(work, calendar, 0);
+    turns.shut(work);
+    let whole = place_flows(turns, out, work, count);
+    turns.open(work);
     whole
 }
 
-// The answer that turns a call down by a number of the list, at a place.
-pub fn refusal(number: u8, flow: u8, job: u8) -> PlanAnswer
-    ensures { result ≡ plan_refused number flow job }
-{
-    PlanAnswer {
-        number,
-        flow,
-        job,
-        late: 0,
-        length: 0,
-    }
-}
-
-// 13 where the table is longer than the output; otherwise the rows once more, now into the output, then finishes and head.
+// 13 where the table is longer than the output; otherwise the rows once more, now into the output, then finishes and
+// head.
 pub fn write_table(
-    book: &[u8],
+    turns: &Turns,
     output: &mut [u8],
     work: &mut [u8],
-    x: Index,
-    calendar: Calendar,
-    order: [u8; 64],
     size: usize,
-) -> PlanAnswer
-    requires { Asked book.now (held_windows calendar) x order x.flows [] work.old × Sized (with_calendar (held_windows calendar) (book_of book.now)) size }
-    ensures { Leaves (plan_of (held_windows calendar) book.now output.old work.old) result output.new work.new }
+) -> Result<PlanAnswer, Refusal>
+    requires { (work_bytes ≤ length work.old) × (work.old ≡ work_used slots [] work.old) × Sized (planned_book turns.now) size }
+    ensures { Leaves (plan_of (planned_book turns.now) output.old work.old) (answer_by result) output.new work.new }
 {
     if output.len() < size {
-        return refusal(13, 255, 255);
+        return Err(Fault::Output.nowhere());
     }
-    let flows = x.flows;
-    let processors = x.processors;
-    let deadlines = x.deadlines;
-    let second = place_first(book, output, work, x, calendar, order, flows);
-    let finish = second.finish;
-    table::put_finishes(output, finish, flows);
-    table::put_head(output, size as u32, processors, flows as u8);
-    PlanAnswer {
-        number: 0,
-        flow: 255,
-        job: 255,
-        late: book::late::late_flows(deadlines, finish, flows),
-        length: size as u32,
-    }
+    let book = turns.book;
+    let flows = book.flow_count();
+    let whole = place_first(turns, output, work, flows)?;
+    table::put_finishes(output, &whole.finishes[..flows]);
+    table::put_head(output, size as u32, book.processors, flows as u8);
+    let late = book.late_flows(&whole.finishes);
+    Ok(PlanAnswer::accepted(late, size as u32))
 }
 
-// How the placing of all flows ends: they are placed once, with no output, and the work area is zero before and after.
-pub fn count_rows(
-    book: &[u8],
-    output: &mut [u8],
-    work: &mut [u8],
-    x: Index,
-    calendar: Calendar,
-    order: [u8; 64],
-) -> Ended
-    requires { Indexed book.now x × CalendarInRange (held_windows calendar) × InOrder book.now order × (work_bytes ≤ length work.old) }
-    ensures { Counted (with_calendar (held_windows calendar) (book_of book.now)) output.old work.old output.new work.new result }
+// How many bytes the table of all flows is long: they are placed once, with no output, and the work area is zero before
+// and after.
+pub fn count_rows(turns: &Turns, output: &mut [u8], work: &mut [u8]) -> Result<usize, Refusal>
+    requires { work_bytes ≤ length work.old }
+    ensures { Counted (planned_book turns.now) output.old work.old output.new work.new result }
 {
-    let flows = x.flows;
     bytes::clear(work);
-    let first = place_first(book, &mut output[..0], work, x, calendar, order, flows);
+    let first = place_first(turns, &mut output[..0], work, turns.book.flow_count());
     bytes::clear(work);
-    first.ended
+    Ok(first?.end)
 }
 
-// The plan of a book and a calendar that pass, with a work area that is long enough: 12 by the first placing, before the output is touched.
+// The plan of a book by its calendar, with a work area that is long enough: 12 by the first placing, before the output
+// is touched.
 pub fn plan_passing(
-    book: &[u8],
-    calendar: Calendar,
+    book: &Book,
+    calendar: &Calendar,
     output: &mut [u8],
     work: &mut [u8],
-) -> PlanAnswer
-    requires { (book_fault book.now ≡ Pass) × CalendarInRange (held_windows calendar) × (work_bytes ≤ length work.old) }
-    ensures { Leaves (plan_of (held_windows calendar) book.now output.old work.old) result output.new work.new }
+) -> Result<PlanAnswer, Refusal>
+    requires { work_bytes ≤ length work.old }
+    ensures { Leaves (plan_of (whole_book book.now calendar.now) output.old work.old) (answer_by result) output.new work.new }
 {
-    let x = book::index_of(book);
-    let order = book::service_order(book, x);
-    let ended = count_rows(book, output, work, x, calendar, order);
-    match ended {
-        Ended::Infeasible(f) => refusal(12, f, 255),
-        Ended::Planned(size) => write_table(book, output, work, x, calendar, order, size),
+    let turns = Turns::of(book, calendar);
+    let size = count_rows(&turns, output, work)?;
+    write_table(&turns, output, work, size)
+}
+
+// The planner with its refusals as errors: the first fault met ends the call. Its Ok is the C interface's own struct.
+pub fn plan(
+    book: &[u8],
+    calendar: &[u8],
+    output: &mut [u8],
+    work: &mut [u8],
+) -> Result<PlanAnswer, Refusal>
+    ensures { Leaves (plan_call book.now calendar.now output.old work.old) (answer_by result) output.new work.new }
+{
+    let book = Book::read(book)?;
+    let calendar = Calendar::read(calendar)?;
+    if work.len() < WORK_BYTES {
+        return Err(Fault::WorkArea.nowhere());
     }
+    plan_passing(&book, &calendar, output, work)
 }
 
 // The planner: the whole outcome of a call, for every book, calendar, output and work area.
 pub fn plan_book(book: &[u8], calendar: &[u8], output: &mut [u8], work: &mut [u8]) -> PlanAnswer
     ensures { Leaves (plan_call book.now calendar.now output.old work.old) result output.new work.new }
 {
-    let v = book::verdict_of(book);
-    if let Verdict::Refused { number, flow, job } = v {
-        return refusal(number, flow, job);
+    match plan(book, calendar, output, work) {
+        Ok(answer) => answer,
+        Err(refusal) => refusal.into(),
     }
-    let w = calendar::verdict_of(calendar);
-    if let Verdict::Refused { number, flow, job } = w {
-        return refusal(number, flow, job);
-    }
-    if work.len() < 16384 {
-        return refusal(11, 255, 255);
-    }
-    plan_passing(book, calendar::calendar_of(calendar), output, work)
 }

@@ -1,7 +1,6 @@
 -- Verdicts and answers: this paper's number and place for each case. Assumes nothing.
 use Rattle.std.specs.Prelude.{ℕ, zero, suc}
-use Rattle.rules.specs.declared.Verdict.{Verdict}
-use Rattle.rules.specs.declared.Verdict.TheVariants.{Pass, Refused}
+use Rattle.rules.specs.Verdicts.{Verdict, Pass, Refused}
 use Rattle.rules.specs.declared.PlanAnswer.{PlanAnswer}
 use Rattle.rules.specs.declared.CheckAnswer.{CheckAnswer}
 use Rattle.rules.specs.declared.ListAnswer.{ListAnswer}

@@ -1,8 +1,7 @@
 -- The calendar of the cluster (document 02, Req 07; "calendar" and "window" are its words): the windows in which maintenance shuts it, which slots are
 -- open, and the bytes of a calendar with their fault, 24. Assumes nothing.
 use Rattle.std.specs.Prelude.{ℕ, zero, suc, ◌+◌, ◌*◌, ◌<◌, ◌≤◌, Bool, true, false, not, ◌&&◌, ◌||◌, List, [], ◌∷◌, ◌++◌, length, get_or, ltb, leb, eqb, if◌then◌else◌}
-use Rattle.rules.specs.declared.Verdict.{Verdict}
-use Rattle.rules.specs.declared.Verdict.TheVariants.{Pass, Refused}
+use Rattle.rules.specs.Verdicts.{Verdict, Pass, Refused}
 use Rattle.rules.specs.Walks.{count_to, any_to, list_from, join_from}
 use Rattle.rules.specs.Fields.{byte, field, bytes_of}
 use Rattle.rules.specs.Answers.{none}

@@ -1,8 +1,7 @@
 -- The finish of one flow (document 02, Req 05): a call's answer and the work area that it leaves, for every book, calendar, flow number and work
 -- area. Assumes nothing.
 use Rattle.std.specs.Prelude.{ℕ, suc, List, length, ltb, leb, if◌then◌else◌}
-use Rattle.rules.specs.declared.Verdict.{Verdict}
-use Rattle.rules.specs.declared.Verdict.TheVariants.{Pass, Refused}
+use Rattle.rules.specs.Verdicts.{Verdict, Pass, Refused}
 use Rattle.rules.specs.declared.FinishAnswer.{FinishAnswer}
 use Rattle.rules.specs.Answers.{none, ◌and_then◌, finish_accepted, finish_refused}
 use Rattle.rules.specs.Limits.{slots, work_bytes}

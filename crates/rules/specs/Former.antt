@@ -1,8 +1,7 @@
 -- The calls as they were before Req 07, without a calendar: document 01's rules and check with releases (02, Req 01), lowered caps (Req 02) and late flows by
 -- Req 06, and the calls of Req 03 and 05. Only what spoke of slots is said again: rules 4 and 6, the table's faults, the calls. Assumes nothing.
 use Rattle.std.specs.Prelude.{ℕ, zero, suc, ◌*◌, ◌-◌, true, List, [], ◌++◌, length, ltb, leb, if◌then◌else◌}
-use Rattle.rules.specs.declared.Verdict.{Verdict}
-use Rattle.rules.specs.declared.Verdict.TheVariants.{Pass, Refused}
+use Rattle.rules.specs.Verdicts.{Verdict, Pass, Refused}
 use Rattle.rules.specs.Answers.{none, ◌and_then◌, first_fault, finish_refused, plan_refused, check_refused}
 use Rattle.rules.specs.Limits.{work_bytes}
 use Rattle.rules.specs.Book.{Book, flow_count, flow_of, job_count}

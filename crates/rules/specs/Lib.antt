@@ -1,7 +1,9 @@
 -- The specification, each file after those that it builds on. `Demands`, the last, says what is owed, and is read first.
 pub mod Walks
 pub mod Fields
+pub mod Verdicts
 pub mod Answers
+pub mod Faults
 pub mod Limits
 pub mod Calendar
 pub mod Book

@@ -2,8 +2,7 @@
 -- together with a calendar.
 -- Assumes nothing.
 use Rattle.std.specs.Prelude.{ℕ, zero, suc, ◌+◌, ◌*◌, ◌^◌, not, ◌||◌, List, [], ◌++◌, length, ltb, leb, eqb, if◌then◌else◌}
-use Rattle.rules.specs.declared.Verdict.{Verdict}
-use Rattle.rules.specs.declared.Verdict.TheVariants.{Pass, Refused}
+use Rattle.rules.specs.Verdicts.{Verdict, Pass, Refused}
 use Rattle.rules.specs.Walks.{list_from, join_from}
 use Rattle.rules.specs.Fields.{byte, field, bytes_of}
 use Rattle.rules.specs.Answers.{none, ◌and_then◌, first_fault}

@@ -1,44 +1,92 @@
--- The jobs of a flow as they are read out, one more at a time. Assumes nothing.
-use mathlib.Core.Path.{◌≡◌, ap, ◌∙◌}
-use Prim.Native.Nat.{ℕ, ◌+◌, ◌≤◌, ◌<◌}
+-- The jobs of a flow as they are held, read out one more at a time, and as a row is counted. Assumes nothing.
+use mathlib.Core.Path.{◌≡◌, refl, sym, ap, ◌∙◌}
+use Prim.Native.Nat.{ℕ, ◌+◌, ◌*◌, ◌<◌}
 use mathlib.Core.List.{List}
+use Rattle.std.specs.Prelude.{None}
 use native.Mathlib.Omega.{arith}
-use lib.ListN.{length, get_or, set, length-set}
-use lib.Seq.{get_or-set_same, get_or-set_other}
-use Rattle.rules.specs.Book.{Book, Job, flow_of, job_of}
-use Rattle.rules.proofs.Laws.Walks.{last_or}
-use Rattle.book.specs.declared.JobRecord.{JobRecord}
+use lib.ListN.{length, get_or, set}
+use lib.Seq.{sets, map-set_same, ext_get_or, get_or-set_same, get_or-set_other}
+use lib.Dec.{eqb}
+use borrow.Author.Tests.{eqb-true, eqb-false}
+use mathlib.Core.Bool.{Bool, true, false}
+use Rattle.std.proofs.lemmas.List.{length-map, map-set}
+use Rattle.std.proofs.Math.ListN.{get_or-map}
+use Rattle.rules.specs.Fields.{bytes_of}
+use Rattle.rules.specs.Book.{Book, Job, no_job, job_count, flow_of, job_of}
+use Rattle.rules.specs.Rows.{Row}
 use Rattle.book.specs.Promise.{job_from}
-use Rattle.table_check.specs.Tally.{JobsHeld}
+use Rattle.table_check.specs.declared.row.JobState.{JobState}
+use Rattle.table_check.specs.Tests.{ready_after}
+use Rattle.table_check.specs.Tally.{records_of, totals_of, readies_of, JobsHeld, JobsLoaded, Countable, RowCounted}
 
-pub held_none : (b : Book) (f : ℕ) (sizes caps : List ℕ) → length sizes ≡ 64 → length caps ≡ 64 → JobsHeld b f 0 sizes caps
-held_none b f sizes caps s-long c-long = record {
-  sizes_long = s-long;
-  caps_long = c-long;
-  size_of = λ i h. absurd (omega arith);
-  cap_of = λ i h. absurd (omega arith);
+-- past the last job
+abbrev pub blank : JobState
+blank = record { job = record { size = 0; cap = 0; predecessors = 0 }; total = 0; ready = None }
+
+-- what is held of job i
+pub record_at : (jobs : List JobState) (i : ℕ) → get_or (records_of jobs) i no_job ≡ job_from (get_or jobs i blank).job
+record_at jobs i = get_or-map (λ (j : JobState). job_from j.job) jobs i blank
+
+pub total_at : (jobs : List JobState) (i : ℕ) → get_or (totals_of jobs) i 0 ≡ (get_or jobs i blank).total
+total_at jobs i = get_or-map (λ (j : JobState). j.total) jobs i blank
+
+pub ready_at : (jobs : List JobState) (i : ℕ) → get_or (readies_of jobs) i None ≡ (get_or jobs i blank).ready
+ready_at jobs i = get_or-map (λ (j : JobState). j.ready) jobs i blank
+
+module _ {b : Book} {f : ℕ} {jobs : List JobState} (held : JobsHeld b f jobs) where
+  pub held_count : length jobs ≡ job_count (flow_of b f)
+  held_count = sym (length-map jobs (λ (j : JobState). job_from j.job)) ∙ ap length held.same
+
+  pub held_job : (i : ℕ) → get_or (records_of jobs) i no_job ≡ job_of (flow_of b f) i
+  unfolding job_of
+  held_job i = ap (λ (l : List Job). get_or l i no_job) held.same
+
+  pub held_record : (i : ℕ) → job_from (get_or jobs i blank).job ≡ job_of (flow_of b f) i
+  held_record i = sym (record_at jobs i) ∙ held_job i
+
+-- what holds of the value that is stored at index n, and of the values before at the other ones, holds of each value
+-- after
+pub after_stored : {A : Type 0} (X : ℕ → A → Type 0) (l : List A) (n : ℕ) (v d : A) → n < length l → X n v → ((i : ℕ) → (i ≡ n → ⊥) → X i (get_or l i d)) →
+    (i : ℕ) → X i (get_or (set l n v) i d)
+after_stored X l n v d room here others i = go (eqb i n) refl
+  where
+    go : (t : Bool) → eqb i n ≡ t → X i (get_or (set l n v) i d)
+    go true e = rw (eqb-true i n e, get_or-set_same l n v d room) here
+    go false e = let other = eqb-false i n e in rw (get_or-set_other l n i v d other) (others i other)
+
+-- ---- jobs read out, one more at a time
+pub record JobLoaded (b : Book) (f i : ℕ) (j : JobState) : Type 0 where
+  pub as_in_book : job_from j.job ≡ job_of (flow_of b f) i
+  pub no_total : j.total ≡ 0
+  pub not_complete : j.ready ≡ None
+
+pub loaded_next : (b : Book) (f n : ℕ) (jobs : List JobState) (v : JobState) → n < length jobs → JobLoaded b f n v →
+    ((k : ℕ) → k < n → JobLoaded b f k (get_or jobs k blank)) → (k : ℕ) → k < n + 1 → JobLoaded b f k (get_or (set jobs n v) k blank)
+loaded_next b f n jobs v room here so_far =
+    after_stored (λ k j. k < n + 1 → JobLoaded b f k j) jobs n v blank room (λ h. here) (λ k other h. so_far k (omega arith))
+
+pub loaded_all : (b : Book) (f : ℕ) (jobs : List JobState) → length jobs ≡ job_count (flow_of b f) →
+    ((k : ℕ) → k < length jobs → JobLoaded b f k (get_or jobs k blank)) → JobsLoaded b f jobs
+unfolding job_of
+loaded_all b f jobs count each = record {
+  held = record {
+    same = ext_get_or no_job (records_of jobs) (flow_of b f).jobs (length-map jobs (λ (j : JobState). job_from j.job) ∙ count)
+        (λ k h. record_at jobs k ∙ (each k (omega (arith, length-map jobs (λ (j : JobState). job_from j.job)))).as_in_book);
+  };
+  no_total = λ i h. total_at jobs i ∙ (each i (omega (arith, count))).no_total;
+  not_complete = λ i h. ready_at jobs i ∙ (each i (omega (arith, count))).not_complete;
 }
 
--- what holds of each value so far, and of the one that is stored, holds of each up to it
-stored_next : (g : ℕ → ℕ) (values : List ℕ) (n v : ℕ) → n < length values → v ≡ g n → ((i : ℕ) → i < n → get_or values i 0 ≡ g i) →
-    (i : ℕ) → i < n + 1 → get_or (set values n v) i 0 ≡ g i
-stored_next g values n v l v-is so_far i h =
-    last_or i n (omega arith) (λ e. rw e (get_or-set_same values n v 0 l ∙ v-is))
-    (λ m. get_or-set_other values n i v 0 (λ e. omega arith) ∙ so_far i m)
-
-pub held_next : (b : Book) (f n : ℕ) (sizes caps : List ℕ) (job : JobRecord) → JobsHeld b f n sizes caps → n < 64 → job_from job ≡ job_of (flow_of b f) n →
-    JobsHeld b f (n + 1) (set sizes n job.size) (set caps n job.cap)
-held_next b f n sizes caps job held few job_is = record {
-  sizes_long = length-set sizes n job.size ∙ held.sizes_long;
-  caps_long = length-set caps n job.cap ∙ held.caps_long;
-  size_of = stored_next (λ i. (job_of (flow_of b f) i).size) sizes n job.size (omega (arith, held.sizes_long)) (ap (λ (j : Job). j.size) job_is) held.size_of;
-  cap_of = stored_next (λ i. (job_of (flow_of b f) i).cap) caps n job.cap (omega (arith, held.caps_long)) (ap (λ (j : Job). j.cap) job_is) held.cap_of;
-}
-
-pub held_all : (b : Book) (f n jobs : ℕ) (sizes caps : List ℕ) → jobs ≤ n → JobsHeld b f n sizes caps → JobsHeld b f jobs sizes caps
-held_all b f n jobs sizes caps h held = record {
-  sizes_long = held.sizes_long;
-  caps_long = held.caps_long;
-  size_of = λ i l. held.size_of i (omega arith);
-  cap_of = λ i l. held.cap_of i (omega arith);
+-- a row is counted in the total of its job, and completes it or not
+pub row-counted : {used i p : ℕ} {r : Row} {jobs : List JobState} {work work' : List ℕ} {after : JobState} → Countable jobs work used r → i ≡ r.job → p ≡ r.processors →
+    after ≡ record {
+      job = (get_or jobs i blank).job;
+      total = (get_or jobs i blank).total + p;
+      ready = ready_after (get_or jobs i blank).ready (get_or jobs i blank).total ((get_or jobs i blank).total + p) (get_or jobs i blank).job.size r.slot;
+    } → work' ≡ sets work (2 * r.slot) (bytes_of 2 (used + r.processors)) → RowCounted used r jobs work (set jobs i after) work'
+row-counted {i = i} {r = r} {jobs = jobs} {after = after} room i-is p-is is in_use = record {
+  records = map-set_same (λ (j : JobState). job_from j.job) jobs i after blank (ap (λ (j : JobState). job_from j.job) is);
+  total = rw (map-set (λ (j : JobState). j.total) jobs i after, is, i-is, p-is, total_at jobs r.job) refl;
+  complete = rw (map-set (λ (j : JobState). j.ready) jobs i after, is, i-is, p-is, total_at jobs r.job, ready_at jobs r.job, record_at jobs r.job) refl;
+  in_use = in_use;
 }

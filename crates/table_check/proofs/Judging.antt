@@ -1,15 +1,19 @@
--- The stages of a table's judgement put together: 14, the walk over the rows, 20, 21. A stage counts where those before it pass, and the first
--- fault is the table's; where all pass, the work area and the late flows are those of the rows. Assumes nothing.
-use mathlib.Core.Path.{◌≡◌, refl, sym, ap, ◌∙◌, subst}
+-- The stages of a table's judgement put together: 14, the walk over the rows, 20, 21. A stage counts where those before
+-- it pass, and the first fault is the table's; where all pass, the work area and the late flows are those of the rows.
+-- Assumes nothing.
+use mathlib.Core.Path.{◌≡◌, refl, sym, ap, ◌∙◌}
 use Prim.Native.Nat.{ℕ, ◌+◌, ◌*◌, ◌≤◌, ◌<◌}
-use mathlib.Core.Bool.{Bool}
+use mathlib.Core.Bool.{Bool, true, false, false≢true}
+use Rattle.std.specs.Result.{is_err}
 use mathlib.Core.List.{List}
 use native.Mathlib.Omega.{arith}
-use lib.ListN.{length}
+use lib.ListN.{length, take}
 use borrow.Author.Tests.{lt-ltb, le-ltb}
-use Rattle.rules.specs.declared.Verdict.{Verdict}
-use Rattle.rules.specs.declared.Verdict.TheVariants.{Pass, Refused}
+use Rattle.std.specs.Prelude.{Result, Ok, Err}
+use Rattle.rules.specs.declared.Refusal.{Refusal}
+use Rattle.rules.specs.Verdicts.{Verdict, Pass, Refused}
 use Rattle.rules.specs.Answers.{◌and_then◌, first_fault, check_accepted, check_refused}
+use Rattle.rules.specs.Faults.{fault_number, verdict_by}
 use Rattle.rules.specs.Limits.{slots, work_bytes}
 use Rattle.rules.specs.Book.{Book, flow_count, job_count, flow_of, InRange}
 use Rattle.rules.specs.Calendar.{is_open, calendar_of, calendar_fault}
@@ -20,14 +24,11 @@ use Rattle.rules.proofs.Laws.Faults.{not-pass, fault-stands}
 use Rattle.rules.proofs.Reading.Passing.{pass_in-range, pass-reads}
 use Rattle.rules.proofs.Reading.SameUse.{with-same, faults-same, judged-same}
 use Rattle.rules.proofs.Tables.TableBytes.{head_passes}
-use Rattle.book.specs.declared.Index.{Index}
-use Rattle.book.specs.Promise.{Indexed}
-use Rattle.table_check.specs.declared.walk.Walked.{Walked}
-use Rattle.table_check.specs.declared.Judged.{Judged}
+use Rattle.table_check.specs.declared.walk.FlowEnd.{FlowEnd}
 use Rattle.table_check.specs.Tests.{head_fault}
-use Rattle.table_check.specs.Walk.{rows_fault, flow_totals, Ready, Closed, TableWalked, mismatches_fault, finish_fault_by, fault_by, TableJudged}
-use Rattle.book.specs.Late.{late_count}
-use Rattle.table_check.proofs.Heads.{head_of_book}
+use Rattle.table_check.specs.Walk.{rows_fault, flow_totals, Ready, TableWalked, mismatches_of, finishes_of, mismatches_fault, finish_fault_by, fault_by, TableJudged, answer_by}
+use Rattle.book.specs.declared.passing.Book.{Book as Passing}
+use Rattle.book.specs.Late.{late_among}
 use Rattle.table_check.proofs.Finals.{mismatches-same, finishes-same, late-same}
 
 -- ---- stages
@@ -49,96 +50,93 @@ by_stages : (b : Book) (opened : ℕ → Bool) (table : List ℕ) →
 unfolding fault_by flow_totals totals_fault finishes_fault
 by_stages b opened table = refl
 
--- ---- 20 and 21 in the values of the code
-pub totals_stop : {t totals : Verdict} {n f j : ℕ} (v : Verdict) → t ≡ totals → t ≡ Refused n f j → t ≡ (totals and_then v)
-totals_stop {t} {totals} {n} {f} {j} v e d = sym (stop-here totals v n f j (sym e ∙ d) ∙ sym e)
-
-pub totals-pass : {t totals v w : Verdict} → t ≡ totals → t ≡ Pass → w ≡ v → w ≡ (totals and_then v)
-totals-pass {t} {totals} {v} e d h = h ∙ sym (go_on totals v (sym e ∙ d))
-
 -- ---- the stages in the values of the code
-module _ {book : List ℕ} {x : Index} (indexed : Indexed book x) (table : List ℕ) {head : Verdict}
-    (head_is : head ≡ head_fault x.processors x.flows table) where
+-- 14 by P and the number of flows is the book's
+head_of_book : (b : Book) (s : List ℕ) → head_fault b.processors (flow_count b) s ≡ table_head_fault b s
+unfolding head_fault table_head_fault
+head_of_book b s = refl
+
+module _ (k : Passing) {flows : ℕ} (flows-are : flows ≡ flow_count (book_of k.bytes.now)) (table : List ℕ) where
   abbrev b : Book
-  b = book_of book
+  b = book_of k.bytes.now
 
   abbrev rest : (ℕ → Bool) → Verdict
-  rest opened = rows_fault (book_of book) opened table and_then totals_fault (book_of book) table and_then finishes_fault (book_of book) table
+  rest opened = rows_fault (book_of k.bytes.now) opened table and_then totals_fault (book_of k.bytes.now) table and_then finishes_fault (book_of k.bytes.now) table
 
-  head_right : head ≡ table_head_fault (book_of book) table
-  head_right = head_is ∙ rw (indexed.processors, indexed.flows) (head_of_book b table)
+  head_right : head_fault k.processors flows table ≡ table_head_fault (book_of k.bytes.now) table
+  head_right = rw (k.processors_are, flows-are) (head_of_book b table)
 
   -- 14
-  pub head_stops : {opened : ℕ → Bool} {work : List ℕ} {n f j : ℕ} → head ≡ Refused n f j →
-      TableJudged (book_of book) opened table work work (record { verdict = head; late = 0 })
-  head_stops {opened} {work} {n} {f} {j} e = record {
-    verdict = sym (by_stages b opened table ∙ ap (λ (u : Verdict). u and_then rest opened) (sym head_right) ∙ stop-here head (rest opened) n f j e);
+  pub head_stops : {opened : ℕ → Bool} {work : List ℕ} {e : Refusal} → Refused (fault_number e.fault) e.flow e.job ≡ head_fault k.processors flows table →
+      TableJudged (book_of k.bytes.now) opened table work work (Err e)
+  head_stops {opened} {work} {e} is = record {
+    verdict = sym (by_stages b opened table
+        ∙ ap (λ (u : Verdict). u and_then rest opened) (sym (is ∙ head_right)) ∙ stop-here _ (rest opened) (fault_number e.fault) e.flow e.job refl);
     cleared = refl;
-    area = λ p. not-pass n f j (sym e ∙ p);
-    late = λ p. not-pass n f j (sym e ∙ p);
+    area = tt;
+    late = tt;
   }
 
-  module _ (head-pass : head ≡ Pass) where
-    headed : table_head_fault (book_of book) table ≡ Pass
-    headed = sym head_right ∙ head-pass
+  module _ (head-pass : Pass ≡ head_fault k.processors flows table) where
+    headed : table_head_fault (book_of k.bytes.now) table ≡ Pass
+    headed = sym (head-pass ∙ head_right)
 
-    pub walk_ready : {work : List ℕ} → work_bytes ≤ length work → Ready book table work x
-    walk_ready h = record { indexed = indexed; headed = headed; room = h }
+    pub walk_ready : {work : List ℕ} → work_bytes ≤ length work → Ready k.bytes.now table work
+    walk_ready h = record { headed = headed; room = h }
 
-    pub finishes-inside : 8 + 2 * x.flows ≤ length table
-    finishes-inside = omega (arith, indexed.flows, (head_passes b table headed).head_whole)
+    pub finishes-inside : 8 + 2 * flows ≤ length table
+    finishes-inside = omega (arith, flows-are, (head_passes b table headed).head_whole)
 
-    module _ {opened : ℕ → Bool} {before after : List ℕ} {w : Walked} (walked : TableWalked (book_of book) opened table before after w) where
-      after-head : fault_by (book_of book) opened table ≡ (w.verdict and_then totals_fault (book_of book) table and_then finishes_fault (book_of book) table)
-      after-head =
-          by_stages b opened table ∙ go_on (table_head_fault b table) (rest opened) headed
-          ∙ ap (λ (u : Verdict). u and_then totals_fault b table and_then finishes_fault b table) (sym walked.verdict)
+    after-head : (opened : ℕ → Bool) (v : Verdict) → v ≡ rows_fault (book_of k.bytes.now) opened table →
+        fault_by (book_of k.bytes.now) opened table ≡ (v and_then totals_fault (book_of k.bytes.now) table and_then finishes_fault (book_of k.bytes.now) table)
+    after-head opened v is =
+        by_stages b opened table ∙ go_on (table_head_fault b table) (rest opened) headed
+        ∙ ap (λ (u : Verdict). u and_then totals_fault b table and_then finishes_fault b table) (sym is)
 
+    module _ {opened : ℕ → Bool} {before after : List ℕ} where
       -- 15 to 19 and 25
-      pub rows_stop : {n f j : ℕ} → w.verdict ≡ Refused n f j →
-          TableJudged (book_of book) opened table before after (record { verdict = w.verdict; late = 0 })
-      rows_stop {n} {f} {j} e = record {
-        verdict = sym (after-head ∙ stop-here w.verdict (totals_fault b table and_then finishes_fault b table) n f j e);
+      pub rows_stop : {e : Refusal} → TableWalked (book_of k.bytes.now) opened table before after (Err e) →
+          TableJudged (book_of k.bytes.now) opened table before after (Err e)
+      rows_stop {e} walked = record {
+        verdict = sym (after-head opened _ walked.verdict ∙ stop-here _ (totals_fault b table and_then finishes_fault b table) (fault_number e.fault) e.flow e.job refl);
         cleared = walked.cleared;
-        area = λ p. not-pass n f j (sym e ∙ p);
-        late = λ p. not-pass n f j (sym e ∙ p);
+        area = tt;
+        late = tt;
       }
 
       -- 20 and 21
-      module _ (rows_pass : w.verdict ≡ Pass) where
-        closed : Closed (book_of book) (table_rows (book_of book) table) w.mismatch w.finish
-        closed = walked.closed rows_pass
+      module _ {ends : List FlowEnd} (walked : TableWalked (book_of k.bytes.now) opened table before after (Ok ends)) where
+        range : InRange (book_of k.bytes.now)
+        range = pass_in-range k.bytes.now k.passes
 
-        range : InRange (book_of book)
-        range = pass_in-range book indexed.passes
+        pub ends_enough : flows ≤ length ends
+        ends_enough = omega (arith, walked.long, flows-are, range.flows_most)
 
-        totals_right : mismatches_fault w.mismatch x.flows ≡ totals_fault (book_of book) table
-        unfolding totals_fault
-        totals_right = ap (mismatches_fault w.mismatch) indexed.flows ∙ mismatches-same b range (table_rows b table) w.mismatch w.finish closed
+        -- what 20 and 21 find in the flows that are kept
+        abbrev found : Verdict
+        found = mismatches_fault (mismatches_of (take flows ends)) (length (take flows ends))
+            and_then first_fault (finish_fault_by table (finishes_of (take flows ends))) (length (take flows ends))
 
-        finishes_right : first_fault (finish_fault_by table w.finish) x.flows ≡ finishes_fault (book_of book) table
-        unfolding finishes_fault
-        finishes_right =
-            ap (first_fault (finish_fault_by table w.finish)) indexed.flows ∙ finishes-same b range (table_rows b table) w.mismatch w.finish closed table
+        found_right : fault_by (book_of k.bytes.now) opened table ≡ found
+        unfolding totals_fault finishes_fault
+        found_right =
+            after-head opened Pass walked.verdict
+            ∙ rw (
+              mismatches-same b range (table_rows b table) ends walked.closed flows flows-are ends_enough,
+              finishes-same b range (table_rows b table) ends walked.closed flows flows-are ends_enough table,
+            ) refl
 
-        pub judgement-ends : {v : Verdict} {late : ℕ} →
-            v ≡ (mismatches_fault w.mismatch x.flows and_then first_fault (finish_fault_by table w.finish) x.flows) →
-            late ≡ late_count x.deadlines w.finish x.flows →
-            TableJudged (book_of book) opened table before after (record { verdict = v; late = late })
-        judgement-ends {v} v-is late_is = record {
-          verdict = v-is ∙ rw (totals_right, finishes_right) (sym (after-head ∙ go_on w.verdict (totals_fault b table and_then finishes_fault b table) rows_pass));
+        pub ends_stop : {e : Refusal} → Refused (fault_number e.fault) e.flow e.job ≡ found → TableJudged (book_of k.bytes.now) opened table before after (Err e)
+        ends_stop is = record { verdict = is ∙ sym found_right; cleared = walked.cleared; area = tt; late = tt }
+
+        pub ends_pass : {late : ℕ} → Pass ≡ found → late ≡ late_among (book_of k.bytes.now) (finishes_of ends) →
+            TableJudged (book_of k.bytes.now) opened table before after (Ok late)
+        ends_pass is late_is = record {
+          verdict = is ∙ sym found_right;
           cleared = walked.cleared;
-          area = λ p. walked.area rows_pass;
-          late = λ p. late_is ∙ ap (late_count x.deadlines w.finish) indexed.flows
-              ∙ late-same b range (table_rows b table) w.mismatch w.finish closed x.deadlines indexed.deadlines;
+          area = walked.area;
+          late = late_is ∙ late-same b range (table_rows b table) ends walked.closed flows flows-are ends_enough;
         }
-
--- tests of the open slots that agree judge alike
-pub judged_by : {b : Book} {opened other : ℕ → Bool} {table before after : List ℕ} {j : Judged} → ((t : ℕ) → opened t ≡ other t) →
-    TableJudged b opened table before after j → TableJudged b other table before after j
-judged_by {b} {opened} {other} {table} {before} {after} {j} same judged =
-    let e : opened ≡ other = λ x t. same t x in
-    subst (λ (o : ℕ → Bool). TableJudged b o table before after j) e judged
 
 -- ---- a call
 -- the table's first fault, by the book with its calendar
@@ -165,20 +163,33 @@ module _ (book calendar table area : List ℕ) where
       unfolding check_call check_reading
       call-short h = rw (pass-reads book calendar passes kept, lt-ltb (length area) work_bytes h) refl
 
-      module _ (room : work_bytes ≤ length area) {after : List ℕ} {j : Judged}
+      module _ (room : work_bytes ≤ length area) {after : List ℕ} {j : Result ℕ Refusal}
           (judged : TableJudged (book_of book) (is_open (calendar_of calendar)) table area after j) where
-        call-read : check_call book calendar table area ≡ check_outcome (book_of book) table area j.verdict
+        call-read : check_call book calendar table area ≡ check_outcome (book_of book) table area (verdict_by j)
         unfolding check_call check_reading
         call-read =
             rw (pass-reads book calendar passes kept, le-ltb (length area) work_bytes room, judged.verdict ∙ fault_with book calendar table)
             (judged-same (book_with book calendar) (book_of book) (with-same (calendar_of calendar) (book_of book)) table area
             (table_fault (book_with book calendar) table))
 
-        pub call-refused : {n f k : ℕ} → j.verdict ≡ Refused n f k →
-            check_call book calendar table area ≡ record { answer = check_refused n f k; area = work_zero slots after }
+      module _ (room : work_bytes ≤ length area) {after : List ℕ} where
+        call-refused : {e : Refusal} → TableJudged (book_of book) (is_open (calendar_of calendar)) table area after (Err e) →
+            check_call book calendar table area ≡ record { answer = check_refused (fault_number e.fault) e.flow e.job; area = work_zero slots after }
         unfolding check_outcome
-        call-refused e = call-read ∙ rw (e, judged.cleared) refl
+        call-refused judged = call-read room judged ∙ rw judged.cleared refl
 
-        pub call-accepted : j.verdict ≡ Pass → check_call book calendar table area ≡ record { answer = check_accepted j.late; area = after }
+        call-accepted : {late : ℕ} → TableJudged (book_of book) (is_open (calendar_of calendar)) table area after (Ok late) →
+            check_call book calendar table area ≡ record { answer = check_accepted late; area = after }
         unfolding check_outcome
-        call-accepted e = call-read ∙ rw (e, judged.area e, judged.late e) refl
+        call-accepted judged = call-read room judged ∙ rw (judged.area, judged.late) refl
+
+        -- the check's own refusals and the table that it accepts
+        pub call-failed : (j : Result ℕ Refusal) → is_err j ≡ true → TableJudged (book_of book) (is_open (calendar_of calendar)) table area after j →
+            check_call book calendar table area ≡ record { answer = answer_by j; area = work_zero slots after }
+        call-failed (Ok late) e judged = absurd (false≢true e)
+        call-failed (Err r) e judged = call-refused judged
+
+        pub call-passed : (j : Result ℕ Refusal) → is_err j ≡ false → TableJudged (book_of book) (is_open (calendar_of calendar)) table area after j →
+            check_call book calendar table area ≡ record { answer = answer_by j; area = after }
+        call-passed (Ok late) e judged = call-accepted judged
+        call-passed (Err r) e judged = absurd (false≢true (sym e))

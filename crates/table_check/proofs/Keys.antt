@@ -1,5 +1,5 @@
--- Rows in range stand in their order by one number. The number is built from pairs: of two pairs the lesser is that with the lesser first part,
--- or with the same first part and the lesser second part. Assumes nothing.
+-- Rows in range stand in their order by one number. The number is built from pairs: of two pairs the lesser is that
+-- with the lesser first part, or with the same first part and the lesser second part. Assumes nothing.
 use mathlib.Core.Path.{◌≡◌, refl, sym, ap, ◌∙◌}
 use Prim.Native.Nat.{ℕ, zero, suc, ◌+◌, ◌*◌, ◌≤◌, ◌<◌}
 use mathlib.Core.Bool.{Bool, true, false, ◌&&◌, ◌||◌, and-false}

@@ -1,9 +1,9 @@
 -- Laws of the check.
-pub mod Heads
 pub mod TableRows
 pub mod Jobs
 pub mod TestNumbers
 pub mod Keys
+pub mod Mapped
 pub mod SoFar
 pub mod Tallies
 pub mod RowFaults

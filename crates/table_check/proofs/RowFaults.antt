@@ -1,5 +1,6 @@
--- A row's verdict, test by test: what the tests in the walk say of it. The tests of 15, 25 and 16, of 17 and 18, of 19 by the release and of 19 by the
--- predecessors stand one after the other, each group counting where those before it pass. Assumes nothing.
+-- A row's verdict, test by test: what the tests in the walk say of it. The tests of 15, 25 and 16, of 17 and 18, of 19
+-- by the release and of 19 by the predecessors stand one after the other, each group counting where those before it
+-- pass. Assumes nothing.
 use mathlib.Core.Path.{◌≡◌, refl, sym, ap, ◌∙◌, subst}
 use Prim.Native.Nat.{ℕ, ◌+◌, ◌≤◌, ◌<◌}
 use mathlib.Core.Bool.{Bool, true, false, not, ◌&&◌, ◌||◌, or-true, or-false}
@@ -8,9 +9,8 @@ use native.Mathlib.Omega.{arith}
 use lib.ListN.{get_or, take}
 use lib.Dec.{ltb, leb, eqb}
 use borrow.Author.Tests.{le-leb, lt-leb, ltb-true, ltb-false, leb-true}
-use Rattle.rules.specs.declared.Verdict.{Verdict}
-use Rattle.rules.specs.declared.Verdict.TheVariants.{Pass, Refused}
-use Rattle.std.specs.Prelude.{if◌then◌else◌}
+use Rattle.rules.specs.Verdicts.{Verdict, Pass, Refused}
+use Rattle.std.specs.Prelude.{if◌then◌else◌, Option, None}
 use Rattle.rules.specs.Walks.{any_to}
 use Rattle.rules.specs.Limits.{slots}
 use Rattle.rules.specs.Answers.{first_fault}
@@ -21,7 +21,7 @@ use Rattle.rules.proofs.Laws.Walks.{any_ext}
 use Rattle.rules.proofs.Laws.Faults.{fault-pass}
 use Rattle.rules.proofs.Reading.Passing.{test-passed}
 use Rattle.rules.proofs.Tables.TablePasses.{in-book_of}
-use Rattle.table_check.specs.Tests.{row_key, least_key, standing_number, amount_number, lacks_at}
+use Rattle.table_check.specs.Tests.{row_key, least_key, standing_number, amount_number, not_yet, lacks_at}
 use Rattle.table_check.specs.Tally.{FlowTally}
 use Rattle.table_check.proofs.Keys.{KeyFits, key_fits, rises_key}
 
@@ -177,13 +177,13 @@ module _ (b : Book) (opened : ℕ → Bool) (rows : List Row) (k : ℕ) (r : Row
       row-passes e = tests ∙ rw (standing.inside, standing.in_open, standing.rising, amount.cap_kept, amount.room_kept, released, e) refl
 
 -- 19 as the walk tests it: by the slots from which jobs are complete
-pub lacks_by_ready : (b : Book) (f : ℕ) (so_far : List Row) (totals ready : List ℕ) (r : Row) → FlowTally b f so_far totals ready → r.flow ≡ f →
+pub lacks_by_ready : (b : Book) (f : ℕ) (so_far : List Row) (totals : List ℕ) (ready : List (Option ℕ)) (r : Row) → FlowTally b f so_far totals ready → r.flow ≡ f →
     r.job < job_count (flow_of b f) → r.slot < slots → finish_of so_far f ≤ r.slot + 1 →
-    lacks_predecessor b so_far r ≡ any_to (λ m. lacks_at (job_of (flow_of b f) r.job).predecessors m r.slot (get_or ready m 0)) r.job
+    lacks_predecessor b so_far r ≡ any_to (λ m. lacks_at (job_of (flow_of b f) r.job).predecessors m r.slot (get_or ready m None)) r.job
 unfolding lacks_predecessor lacks_at
 lacks_by_ready b f so_far totals ready r tally own job_in slot_in latest =
     let p = (job_of (flow_of b f) r.job).predecessors in
     rw own
     (any_ext (λ m. has_bit p m && ltb (done_before so_far f m r.slot) (job_of (flow_of b f) m).size)
-    (λ m. has_bit p m && ltb r.slot (get_or ready m 0)) r.job
+    (λ m. has_bit p m && not_yet r.slot (get_or ready m None)) r.job
     (λ m h. ap (λ (t : Bool). has_bit p m && t) (tally.complete m r.slot (omega arith) latest slot_in)))

@@ -1,5 +1,6 @@
--- What is known of rows that pass: no slot is used beyond P, a job has at most 4,096 in each slot, and the order tells of a row that may come next
--- that its flow has no row in a later slot and its job none in its slot, and of a flow all of whose rows may come next that it has none yet. One row more at a time. Assumes nothing.
+-- What is known of rows that pass: no slot is used beyond P, a job has at most 4,096 in each slot, and the order tells
+-- of a row that may come next that its flow has no row in a later slot and its job none in its slot, and of a flow all
+-- of whose rows may come next that it has none yet. One row more at a time. Assumes nothing.
 use mathlib.Core.Path.{◌≡◌, refl, sym, ap, ◌∙◌, subst}
 use Prim.Native.Nat.{ℕ, zero, suc, ◌+◌, ◌*◌, ◌≤◌, ◌<◌}
 use mathlib.Core.Bool.{Bool, true, false, ◌&&◌, and-eq-true_iff}
@@ -9,7 +10,7 @@ use lib.ListN.{length, get_or, take}
 use lib.Seq.{take-suc}
 use lib.Dec.{ltb, eqb}
 use borrow.Author.Tests.{lt-ltb, eq-eqb, ne_eqb, ltb-true, eqb-true, eqb-false, leb-true}
-use Rattle.rules.specs.declared.Verdict.TheVariants.{Pass}
+use Rattle.rules.specs.Verdicts.{Pass}
 use Rattle.std.specs.Prelude.{if◌then◌else◌}
 use Rattle.rules.specs.Answers.{first_fault}
 use Rattle.rules.specs.Book.{Book, InRange}

@@ -1,5 +1,6 @@
--- A job that has a row already is released and lacks no predecessor: its first row passed 19, and what a predecessor has in earlier slots does not
--- shrink as rows are added and slots go on. So release and predecessors are asked at a job's first row alone. Assumes nothing.
+-- A job that has a row already is released and lacks no predecessor: its first row passed 19, and what a predecessor
+-- has in earlier slots does not shrink as rows are added and slots go on. So release and predecessors are asked at a
+-- job's first row alone. Assumes nothing.
 use mathlib.Core.Path.{◌≡◌, refl, sym, ap, ◌∙◌}
 use mathlib.Core.Bool.{Bool, true, false, ◌&&◌, and-eq-true_iff}
 use Prim.Native.Nat.{ℕ, ◌+◌, ◌≤◌, ◌<◌}
@@ -9,7 +10,7 @@ use lib.ListN.{length, get_or, take, length-take}
 use lib.Seq.{get_or-take, take-take}
 use lib.Dec.{ltb, eqb}
 use borrow.Author.Tests.{eqb-true, ltb-true, lt-ltb, le-ltb}
-use Rattle.rules.specs.declared.Verdict.TheVariants.{Pass}
+use Rattle.rules.specs.Verdicts.{Pass}
 use Rattle.std.specs.Prelude.{if◌then◌else◌}
 use Rattle.rules.specs.Answers.{first_fault}
 use Rattle.rules.specs.Book.{Book, flow_of, job_of, precedes}

@@ -1,6 +1,7 @@
--- The tally of a flow that has no rows yet, and the tally as one row of the flow more is counted. A total grows by the row's processors.
--- A job is complete from the slot after the one in which its total reaches its size: rows of a flow stand in no falling order of slots, so
--- before a later slot it has its total, and in the slot itself it still had less. Assumes nothing.
+-- The tally of a flow that has no rows yet, and the tally as one row of the flow more is counted. A total grows by the
+-- row's processors. A job is complete from the slot after the one in which its total reaches its size: rows of a flow
+-- stand in no falling order of slots, so before a later slot it has its total, and in the slot itself it still had
+-- less. Assumes nothing.
 use mathlib.Core.Path.{◌≡◌, refl, sym, ap, ◌∙◌}
 use Prim.Native.Nat.{ℕ, ◌+◌, ◌≤◌, ◌<◌}
 use mathlib.Core.Bool.{Bool, true, false}
@@ -8,10 +9,11 @@ use mathlib.Core.Logic.{◌⊎◌, inl, inr}
 use mathlib.Core.List.{List, [], ◌∷◌, ◌++◌}
 use native.Mathlib.Nat.{add-zero}
 use native.Mathlib.Omega.{arith}
-use lib.ListN.{get_or, set, replicate, length-set, length-replicate, get_or-replicate}
+use lib.ListN.{get_or, set, length-set}
+use Rattle.std.proofs.lemmas.List.{length-map}
 use lib.Dec.{ltb, leb}
 use borrow.Author.Tests.{lt-ltb, le-ltb, eq-eqb, ne_eqb, ltb-true, ltb-false, leb-true, leb-false}
-use Rattle.std.specs.Prelude.{if◌then◌else◌}
+use Rattle.std.specs.Prelude.{if◌then◌else◌, Option, Some, None}
 use Rattle.rules.specs.Walks.{sum_to}
 use Rattle.rules.specs.Limits.{slots}
 use Rattle.rules.specs.Book.{Book, flow_count, job_count, flow_of, job_of, InRange}
@@ -21,8 +23,10 @@ use Rattle.rules.proofs.Laws.Division.{lt-or_ge}
 use Rattle.rules.proofs.Laws.Walks.{after-set}
 use Rattle.rules.proofs.Rows.RowsSoFar.{total-last, done-last, finish-last, done_is-total}
 use Rattle.rules.proofs.Rows.RowSums.{done-le-total, sum-schedule}
-use Rattle.table_check.specs.Tests.{ready_after}
-use Rattle.table_check.specs.Tally.{FlowTally}
+use Rattle.table_check.specs.Tests.{not_yet, ready_after}
+use Rattle.table_check.specs.declared.row.JobState.{JobState}
+use Rattle.table_check.proofs.Jobs.{held_count, after_stored}
+use Rattle.table_check.specs.Tally.{totals_of, readies_of, JobsLoaded, FlowTally}
 use Rattle.table_check.proofs.SoFar.{finish-here}
 
 -- ---- no row of the flow
@@ -33,30 +37,30 @@ done-at_start so_far f i = sym (sum-schedule so_far f i 0)
 pub total-none : (so_far : List Row) (f i : ℕ) → finish_of so_far f ≡ 0 → total_of so_far f i ≡ 0
 total-none so_far f i e = sym (done_is-total so_far f i 0 (omega arith)) ∙ done-at_start so_far f i
 
-pub tally-none : (b : Book) (f : ℕ) (so_far : List Row) → InRange b → f < flow_count b → finish_of so_far f ≡ 0 →
-    FlowTally b f so_far (replicate 64 0) (replicate 64 65535)
-tally-none b f so_far range h e = record {
-  totals_long = length-replicate {A = ℕ} 64 0;
-  ready_long = length-replicate {A = ℕ} 64 65535;
-  total = λ i l. get_or-replicate {A = ℕ} 64 i 0 0 l ∙ sym (total-none so_far f i e);
+pub tally-none : (b : Book) (f : ℕ) (so_far : List Row) → InRange b → f < flow_count b → finish_of so_far f ≡ 0 → {jobs : List JobState} →
+    JobsLoaded b f jobs → FlowTally b f so_far (totals_of jobs) (readies_of jobs)
+tally-none b f so_far range h e {jobs = jobs} loaded = record {
+  totals_long = length-map jobs _ ∙ held_count loaded.held;
+  ready_long = length-map jobs _ ∙ held_count loaded.held;
+  total = λ i l. loaded.no_total i l ∙ sym (total-none so_far f i e);
   complete = λ i t l m n.
-      let full : get_or {A = ℕ} (replicate 64 65535) i 0 ≡ 65535 = get_or-replicate {A = ℕ} 64 i 65535 0 (omega (arith, (used_in-range range f h).jobs_most)) in
       lt-ltb (done_before so_far f i t) (job_of (flow_of b f) i).size
       (omega (arith, ((used_in-range range f h).each_job i l).size_least, done-le-total so_far f i t, total-none so_far f i e))
-      ∙ sym (lt-ltb t (get_or {A = ℕ} (replicate 64 65535) i 0) (omega arith));
+      ∙ sym (ap (not_yet t) (loaded.not_complete i l));
 }
 
 -- ---- one row of the flow more
--- a job's completeness before slot t, where its total goes from `before` to `before + p` by a row in a slot at or before t
-ready_decides : (ready before p size slot t done later : ℕ) → slot ≤ t → done ≤ before →
-    (t ≤ slot → later ≡ done) → (slot < t → later ≡ before + p) → (slot < t → done ≡ before) → ltb done size ≡ ltb t ready →
-    ltb later size ≡ ltb t (ready_after ready before (before + p) size slot)
+-- a job's completeness before slot t, where its total goes from `before` to `before + p` by a row in a slot at or
+-- before t
+ready_decides : (ready : Option ℕ) (before p size slot t done later : ℕ) → slot ≤ t → done ≤ before →
+    (t ≤ slot → later ≡ done) → (slot < t → later ≡ before + p) → (slot < t → done ≡ before) → ltb done size ≡ not_yet t ready →
+    ltb later size ≡ not_yet t (ready_after ready before (before + p) size slot)
 unfolding ready_after
 ready_decides ready before p size slot t done later h m in-it past was now =
     go (ltb (before + p) size) refl (leb size before) refl (lt-or_ge slot t)
   where
     go : (u : Bool) → ltb (before + p) size ≡ u → (v : Bool) → leb size before ≡ v → (slot < t) ⊎ (t ≤ slot) →
-        ltb later size ≡ ltb t (if ltb (before + p) size then ready else if leb size before then ready else slot + 1)
+        ltb later size ≡ not_yet t (if ltb (before + p) size then ready else if leb size before then ready else Some (slot + 1))
     go true e v d (inl k) =
         let short = ltb-true (before + p) size e in
         rw e (lt-ltb later size (omega (arith, past k)) ∙ sym (lt-ltb done size (omega (arith, was k))) ∙ now)
@@ -93,38 +97,38 @@ module _ (b : Book) (f : ℕ) (so_far : List Row) (r : Row) (own : r.flow ≡ f)
     done-past : (t : ℕ) → r.slot < t → done_before (so_far ++ r ∷ []) f r.job t ≡ total_of so_far f r.job + r.processors
     done-past t h = done_is-total (so_far ++ r ∷ []) f r.job t (omega (arith, finish-here so_far r f own latest)) ∙ total_here
 
-    module _ (totals ready : List ℕ) (tally : FlowTally b f so_far totals ready) (few : r.job < 64) (job_in : r.job < job_count (flow_of b f))
+    module _ (totals : List ℕ) (ready : List (Option ℕ)) (tally : FlowTally b f so_far totals ready) (few : r.job < 64) (job_in : r.job < job_count (flow_of b f))
         (size : ℕ) (size_is : size ≡ (job_of (flow_of b f) r.job).size) where
       abbrev totals' : List ℕ
       totals' = set totals r.job (get_or totals r.job 0 + r.processors)
 
-      abbrev ready_from : ℕ
-      ready_from = ready_after (get_or ready r.job 0) (get_or totals r.job 0) (get_or totals r.job 0 + r.processors) size r.slot
+      abbrev ready_from : Option ℕ
+      ready_from = ready_after (get_or ready r.job None) (get_or totals r.job 0) (get_or totals r.job 0 + r.processors) size r.slot
 
-      abbrev ready' : List ℕ
+      abbrev ready' : List (Option ℕ)
       ready' = set ready r.job ready_from
 
-      total-next : (i : ℕ) → i < 64 → get_or totals' i 0 ≡ total_of (so_far ++ r ∷ []) f i
+      total-next : (i : ℕ) → i < job_count (flow_of b f) → get_or totals' i 0 ≡ total_of (so_far ++ r ∷ []) f i
       total-next =
-          after-set (λ i v. i < 64 → v ≡ total_of (so_far ++ r ∷ []) f i) totals r.job _ (omega (arith, tally.totals_long))
-          (λ h. ap (λ (n : ℕ). n + r.processors) (tally.total r.job few) ∙ sym total_here)
+          after-set (λ i v. i < job_count (flow_of b f) → v ≡ total_of (so_far ++ r ∷ []) f i) totals r.job _ (omega (arith, tally.totals_long))
+          (λ h. ap (λ (n : ℕ). n + r.processors) (tally.total r.job job_in) ∙ sym total_here)
           (λ i other h. tally.total i h ∙ sym (total-there i (λ e. other (sym e))))
 
       complete-here : (t : ℕ) → r.slot ≤ t → t < slots →
-          ltb (done_before (so_far ++ r ∷ []) f r.job t) (job_of (flow_of b f) r.job).size ≡ ltb t ready_from
+          ltb (done_before (so_far ++ r ∷ []) f r.job t) (job_of (flow_of b f) r.job).size ≡ not_yet t ready_from
       complete-here t h l =
-          rw (tally.total r.job few, size_is)
-          (ready_decides (get_or ready r.job 0) (total_of so_far f r.job) r.processors (job_of (flow_of b f) r.job).size r.slot t
+          rw (tally.total r.job job_in, size_is)
+          (ready_decides (get_or ready r.job None) (total_of so_far f r.job) r.processors (job_of (flow_of b f) r.job).size r.slot t
           (done_before so_far f r.job t) (done_before (so_far ++ r ∷ []) f r.job t) h (done-le-total so_far f r.job t)
           (done_in_it t) (done-past t) (λ k. done_is-total so_far f r.job t (omega arith))
           (tally.complete r.job t job_in (omega arith) l))
 
       complete-next : (i t : ℕ) → i < job_count (flow_of b f) → finish_of (so_far ++ r ∷ []) f ≤ t + 1 → t < slots →
-          ltb (done_before (so_far ++ r ∷ []) f i t) (job_of (flow_of b f) i).size ≡ ltb t (get_or ready' i 0)
+          ltb (done_before (so_far ++ r ∷ []) f i t) (job_of (flow_of b f) i).size ≡ not_yet t (get_or ready' i None)
       complete-next =
-          after-set
+          after_stored
           (λ i v. (t : ℕ) → i < job_count (flow_of b f) → finish_of (so_far ++ r ∷ []) f ≤ t + 1 → t < slots →
-          ltb (done_before (so_far ++ r ∷ []) f i t) (job_of (flow_of b f) i).size ≡ ltb t v) ready r.job ready_from (omega (arith, tally.ready_long))
+          ltb (done_before (so_far ++ r ∷ []) f i t) (job_of (flow_of b f) i).size ≡ not_yet t v) ready r.job ready_from None (omega (arith, tally.ready_long))
           (λ t h m l. complete-here t (omega (arith, finish-here so_far r f own latest)) l)
           (λ i other t h m l. rw (done-there i t (λ e. other (sym e))) (tally.complete i t h (omega (arith, finish-last so_far r f)) l))
 

@@ -1,19 +1,28 @@
--- Laws of the tests of a row as numbers: the first that is not 0 counts; and of what 19 asks. Assumes nothing.
-use mathlib.Core.Path.{◌≡◌, refl, sym, ◌∙◌}
-use Prim.Native.Nat.{ℕ, ◌*◌, ◌≤◌, ◌<◌}
-use mathlib.Core.Bool.{Bool, true, false, not, or-true}
+-- Laws of the tests of a row as numbers: the first that is not 0 counts. Assumes nothing.
+use mathlib.Core.Path.{◌≡◌, refl, sym, ap, ◌∙◌}
+use Prim.Native.Nat.{ℕ, ◌*◌, ◌<◌}
+use mathlib.Core.Bool.{Bool, true, false, not}
 use mathlib.Core.List.{List}
 use native.Mathlib.Omega.{arith}
 use lib.ListN.{get_or}
 use lib.Dec.{ltb, leb, eqb}
-use borrow.Author.Tests.{lt-ltb, le-ltb, le-leb, lt-leb, eq-eqb, ne_eqb, eqb-true, eqb-false, leb-false}
-use Rattle.std.specs.Prelude.{if◌then◌else◌}
+use borrow.Author.Tests.{lt-leb, eq-eqb, ne_eqb, eqb-true, eqb-false, leb-false}
+use Rattle.std.specs.Prelude.{if◌then◌else◌, Result, Ok, Err}
+use Rattle.rules.specs.declared.Fault.{Fault}
+use Rattle.rules.specs.declared.Fault.TheVariants as fault
+use Rattle.rules.specs.Faults.{fault_number}
 use Rattle.rules.specs.Limits.{slots}
 use Rattle.rules.specs.Fields.{field}
-use Rattle.rules.specs.Book.{Book, job_count, flow_of, job_of}
+use Rattle.rules.specs.Book.{Book, Job, job_count, flow_of}
 use Rattle.rules.specs.Rows.{Row}
-use Rattle.table_check.specs.Tests.{rank_of, ranks, standing_number, amount_number, first_number, test_number, asked_release, asked}
-use Rattle.table_check.specs.Tally.{JobsHeld, RowTested, AskedAt}
+use Rattle.rules.specs.Reading.{book_of}
+use Rattle.calendar.specs.Area.{open_by}
+use Rattle.table_check.specs.declared.current.Current.{Current}
+use Rattle.table_check.specs.declared.row.JobState.{JobState}
+use Rattle.book.specs.Records.{number_by}
+use Rattle.table_check.specs.Tests.{rank_of, standing_number, amount_number, first_number, test_number}
+use Rattle.table_check.specs.Tally.{JobsHeld, RowTested}
+use Rattle.table_check.proofs.Jobs.{blank, held_record}
 
 pub first-stands : (m n : ℕ) → (m ≡ 0 → ⊥) → first_number m n ≡ m
 unfolding first_number
@@ -32,28 +41,8 @@ first-none m n e = go (eqb m 0) refl
     go true d = let m-none : m ≡ 0 = eqb-true m 0 d in (m-none, rw d at e)
     go false d = absurd (eqb-false m 0 d (rw d at e))
 
--- 15 by the job, and by the slot
-pub standing_by-job : (jobs : ℕ) (opened : Bool) (least key : ℕ) (r : Row) → jobs ≤ r.job → 15 ≡ standing_number jobs opened least key r
-unfolding standing_number
-standing_by-job jobs opened least key r h = rw (le-leb jobs r.job h, or-true (leb slots r.slot)) refl
-
-pub standing_by-slot : (jobs : ℕ) (opened : Bool) (least key : ℕ) (r : Row) → slots ≤ r.slot → 15 ≡ standing_number jobs opened least key r
-unfolding standing_number
-standing_by-slot jobs opened least key r h = rw (le-leb slots r.slot h) refl
-
--- the rank of a row whose job is in range tells whether its slot is
-pub rank-outside : (r : Row) {jobs rank : ℕ} → jobs ≤ 64 → r.job < jobs → rank ≡ rank_of r → ranks ≤ rank → slots ≤ r.slot
-rank-outside r few job_in rank_is past = omega arith
-
-pub rank-inside : (r : Row) {rank : ℕ} → rank ≡ rank_of r → rank < ranks → r.slot < slots
-rank-inside r rank_is below = omega arith
-
--- past these, 15 by the processors, then 25, then 16
+-- 25, past the range
 module _ (jobs : ℕ) (opened : Bool) (least key : ℕ) (r : Row) (slot_in : r.slot < slots) (job_in : r.job < jobs) where
-  pub standing_by-processors : r.processors ≡ 0 → 15 ≡ standing_number jobs opened least key r
-  unfolding standing_number
-  standing_by-processors e = rw (lt-leb slots r.slot slot_in, lt-leb jobs r.job job_in, eq-eqb r.processors 0 e) refl
-
   module _ (takes : r.processors ≡ 0 → ⊥) where
     past-range : standing_number jobs opened least key r ≡ (if not opened then 25 else if ltb key least then 16 else 0)
     unfolding standing_number
@@ -61,12 +50,6 @@ module _ (jobs : ℕ) (opened : Bool) (least key : ℕ) (r : Row) (slot_in : r.s
 
     pub standing_by-shut : opened ≡ false → 25 ≡ standing_number jobs opened least key r
     standing_by-shut e = sym (past-range ∙ rw e refl)
-
-    pub standing_by-order : opened ≡ true → key < least → 16 ≡ standing_number jobs opened least key r
-    standing_by-order e h = sym (past-range ∙ rw (e, lt-ltb key least h) refl)
-
-    pub standing_by-none : opened ≡ true → least ≤ key → 0 ≡ standing_number jobs opened least key r
-    standing_by-none e h = sym (past-range ∙ rw (e, le-ltb key least h) refl)
 
 -- a row that passes these stands in a slot and is one of the flow's jobs
 pub standing-inside : (jobs : ℕ) (opened : Bool) (least key : ℕ) (r : Row) → standing_number jobs opened least key r ≡ 0 → (r.slot < slots) × (r.job < jobs)
@@ -79,48 +62,73 @@ standing-inside jobs opened least key r e = go (leb slots r.slot) refl (leb jobs
     go false d false k = (leb-false slots r.slot d, leb-false jobs r.job k)
 
 -- ---- what the tests of a row of flow f find
-module _ (b : Book) (opened : ℕ → Bool) (f least jobs key standing : ℕ) (r : Row) (jobs-are : jobs ≡ job_count (flow_of b f)) (key_is : key ≡ rank_of r)
-    (standing-is : standing ≡ standing_number jobs (opened r.slot) least key r) where
-  standing_right : standing ≡ standing_number (job_count (flow_of b f)) (opened r.slot) least (rank_of r) r
-  standing_right = rw (← jobs-are, ← key_is) standing-is
+-- no fault has the number 0
+pub fault_some : (e : Fault) → fault_number e ≡ 0 → ⊥
+fault_some fault.BookLength h = absurd (omega arith)
+fault_some fault.BookVersion h = absurd (omega arith)
+fault_some fault.Processors h = absurd (omega arith)
+fault_some fault.Flows h = absurd (omega arith)
+fault_some fault.CutShort h = absurd (omega arith)
+fault_some fault.Deadline h = absurd (omega arith)
+fault_some fault.Jobs h = absurd (omega arith)
+fault_some fault.Size h = absurd (omega arith)
+fault_some fault.Cap h = absurd (omega arith)
+fault_some fault.Predecessor h = absurd (omega arith)
+fault_some fault.WorkArea h = absurd (omega arith)
+fault_some fault.Infeasible h = absurd (omega arith)
+fault_some fault.Output h = absurd (omega arith)
+fault_some fault.TableHead h = absurd (omega arith)
+fault_some fault.RowRange h = absurd (omega arith)
+fault_some fault.RowOrder h = absurd (omega arith)
+fault_some fault.RowCap h = absurd (omega arith)
+fault_some fault.SlotFull h = absurd (omega arith)
+fault_some fault.Precedence h = absurd (omega arith)
+fault_some fault.Total h = absurd (omega arith)
+fault_some fault.Finish h = absurd (omega arith)
+fault_some fault.Release h = absurd (omega arith)
+fault_some fault.NoSuchFlow h = absurd (omega arith)
+fault_some fault.Calendar h = absurd (omega arith)
+fault_some fault.RowShut h = absurd (omega arith)
+
+module _ (current : Current) (least : ℕ) (r : Row) {key : ℕ} (key_is : key ≡ rank_of r) {T : Type 0} (standing : Result T Fault)
+    (standing-is : number_by standing ≡ standing_number current.head.jobs (open_by current.shut.now r.slot) least key r) where
+  abbrev b : Book
+  b = book_of current.book.now.bytes.now
+
+  abbrev f : ℕ
+  f = current.flow
+
+  abbrev opened : ℕ → Bool
+  opened = open_by current.shut.now
+
+  standing_right : number_by standing ≡ standing_number (job_count (flow_of (book_of current.book.now.bytes.now) current.flow)) (open_by current.shut.now r.slot) least (rank_of r) r
+  standing_right = rw (← current.head_is.jobs, ← key_is) standing-is
 
   -- 15, 25 or 16
-  pub tested-standing : (work : List ℕ) → (standing ≡ 0 → ⊥) → RowTested b opened f work least r (record { number = standing; used = 0; size = 0 })
+  pub tested-standing : (work : List ℕ) {e : Fault} → standing ≡ Err e → RowTested (book_of current.book.now.bytes.now) (open_by current.shut.now) current.flow work least r (Err e)
   unfolding test_number
-  tested-standing work n = record {
-    number = standing_right ∙ sym (first-stands _ _ (λ e. n (standing_right ∙ e)));
-    used = λ e. absurd (n e);
-    size = λ e. absurd (n e);
-  }
+  tested-standing work {e} is =
+      let number_is : fault_number e ≡ standing_number (job_count (flow_of b f)) (opened r.slot) least (rank_of r) r = sym (ap number_by is) ∙ standing_right in
+      record { number = number_is ∙ sym (first-stands _ _ (λ z. fault_some e (number_is ∙ z))); used = tt }
 
-  module _ (none : standing ≡ 0) where
-    pub tested-inside : (r.slot < slots) × (r.job < job_count (flow_of b f))
+  module _ {x : T} (passes : standing ≡ Ok x) where
+    none : number_by standing ≡ 0
+    none = ap number_by passes
+
+    pub tested-inside : (r.slot < slots) × (r.job < job_count (flow_of (book_of current.book.now.bytes.now) current.flow))
     tested-inside = standing-inside (job_count (flow_of b f)) (opened r.slot) least (rank_of r) r (sym standing_right ∙ none)
 
     -- 17 and 18
-    pub tested-amount : (work sizes caps : List ℕ) (used amount processors i at : ℕ) → JobsHeld b f jobs sizes caps → processors ≡ b.processors → i ≡ r.job →
-        at ≡ r.slot → used ≡ field 2 work (2 * at) → amount ≡ amount_number (get_or caps i 0) used processors r →
-        RowTested b opened f work least r (record { number = amount; used = used; size = get_or sizes i 0 })
-    unfolding test_number
-    tested-amount work sizes caps used amount processors i at held p-is i-is at_is used_is amount_is =
-        let used_right : used ≡ field 2 work (2 * r.slot) = rw at_is at used_is in
-        let inside : r.job < jobs = rw jobs-are tested-inside.1 in
-        record {
-          number = amount_is ∙ rw (i-is, held.cap_of r.job inside, p-is, used_right)
-              (sym (first_passes (standing_number (job_count (flow_of b f)) (opened r.slot) least (rank_of r) r) _ (sym standing_right ∙ none)));
-          used = λ e. used_right;
-          size = λ e. rw i-is (held.size_of r.job inside);
-        }
+    module _ (work : List ℕ) {held : List JobState} {used cap : ℕ} (jobs_held : JobsHeld (book_of current.book.now.bytes.now) current.flow held) (used_is : used ≡ field 2 work (2 * r.slot)) (cap_is : cap ≡ (get_or held r.job blank).job.cap)
+        {U : Type 0} (amount : Result U Fault) (amount_is : number_by amount ≡ amount_number cap used current.book.now.processors r) where
+      amount_right : number_by amount ≡ test_number (book_of current.book.now.bytes.now) (open_by current.shut.now) current.flow (field 2 work (2 * r.slot)) least r
+      unfolding test_number
+      amount_right =
+          amount_is ∙ rw (cap_is ∙ ap (λ (j : Job). j.cap) (held_record jobs_held r.job), current.book.now.processors_are, used_is)
+          (sym (first_passes (standing_number (job_count (flow_of b f)) (opened r.slot) least (rank_of r) r) _ (sym standing_right ∙ none)))
 
--- ---- what 19 asks at a row of flow f: nothing once its job has a total, else all
-pub asked-nothing : (b : Book) (f total : ℕ) (r : Row) → 0 < total → AskedAt b f total r (record { unreleased = false; bits = 0 })
-unfolding asked_release asked
-asked-nothing b f total r some = record { unreleased = rw (lt-ltb 0 total some) refl; bits = rw (lt-ltb 0 total some) refl }
+      pub tested-amount : {e : Fault} → amount ≡ Err e → RowTested (book_of current.book.now.bytes.now) (open_by current.shut.now) current.flow work least r (Err e)
+      tested-amount is = record { number = sym (ap number_by is) ∙ amount_right; used = tt }
 
-pub asked-whole : (b : Book) (f total : ℕ) (r : Row) (release bits : ℕ) → total ≤ 0 → release ≡ (flow_of b f).release →
-    bits ≡ (job_of (flow_of b f) r.job).predecessors → AskedAt b f total r (record { unreleased = ltb r.slot release; bits = bits })
-unfolding asked_release asked
-asked-whole b f total r release bits none release-is bits_are = record {
-  unreleased = rw (le-ltb 0 total none, release-is) refl;
-  bits = rw (le-ltb 0 total none) bits_are;
-}
+      pub tested-passes : {y : U} → amount ≡ Ok y → RowTested (book_of current.book.now.bytes.now) (open_by current.shut.now) current.flow work least r (Ok used)
+      tested-passes is = record { number = sym (ap number_by is) ∙ amount_right; used = used_is }

@@ -1,65 +1,71 @@
--- What the walk over a table's rows keeps of the rows so far, and how it is read off them: of the flow whose rows are walked each job's total and
--- the slot from which it is complete; the use of each slot in the work area. Assumes nothing.
-use Rattle.std.specs.Prelude.{◌≡◌, ℕ, ◌+◌, ◌*◌, ◌-◌, ◌/◌, ◌≤◌, ◌<◌, Bool, List, length, get_or, take, set, ltb}
+-- What the walk over a table's rows keeps of the rows so far, and how it is read off them: of the flow whose rows are
+-- walked each job's total and the slot from which it is complete; the use of each slot in the work area. Assumes
+-- nothing.
+use Rattle.std.specs.Prelude.{◌≡◌, ℕ, ◌+◌, ◌*◌, ◌-◌, ◌/◌, ◌≤◌, ◌<◌, Bool, true, false, List, length, get_or, take, set, map, ltb, Option, None, Result, IfOk, MatchOption}
 use Rattle.std.proofs.lemmas.List.Edits.{sets}
-use Rattle.rules.specs.declared.Verdict.TheVariants.{Pass}
+use Rattle.rules.specs.declared.Fault.{Fault}
+use Rattle.rules.specs.Verdicts.{Pass}
 use Rattle.rules.specs.Fields.{field, bytes_of}
 use Rattle.rules.specs.Answers.{first_fault}
 use Rattle.rules.specs.Limits.{slots, work_bytes}
-use Rattle.rules.specs.Book.{Book, job_count, flow_of, job_of}
-use Rattle.rules.specs.Reading.{book_of}
+use Rattle.rules.specs.Book.{Book, Job, no_job, job_count, flow_of, job_of}
 use Rattle.rules.specs.Rows as rules
 use Rattle.rules.specs.Rows.{total_of, done_before, finish_of, work_used}
 use Rattle.rules.specs.Table.{table_head, row_length}
 use Rattle.rules.specs.Check.{table_rows, row_fault}
-use Rattle.book.specs.Promise.{FlowStands}
-use Rattle.table_check.specs.declared.row.Current.{Current}
-use Rattle.table_check.specs.declared.row.Tested.{Tested}
-use Rattle.table_check.specs.declared.row.Asks.{Asks}
-use Rattle.table_check.specs.Tests.{test_number, asked_release, asked, ready_after}
+use Rattle.book.specs.Promise.{job_from}
+use Rattle.table_check.specs.declared.row.JobState.{JobState}
+use Rattle.book.specs.Records.{number_by}
+use Rattle.table_check.specs.Tests.{not_yet, test_number, asked_release, asked, ready_after}
 
--- what the code holds of the flow whose rows are walked
-pub record CurrentFlow (book : List ℕ) (c : Current) : Type 0 where
-  pub stands : FlowStands book c.flow c.records
-  pub jobs : c.jobs ≡ job_count (flow_of (book_of book) c.flow)
-  pub release : c.release ≡ (flow_of (book_of book) c.flow).release
-  pub processors : c.processors ≡ (book_of book).processors
+-- ---- the jobs of a flow, by what the book says of each, and by each one's total and the slot from which it is complete
+abbrev pub records_of : List JobState → List Job
+records_of jobs = map (λ (j : JobState). job_from j.job) jobs
 
--- size and cap of each of the first n jobs of flow f, read out
-pub record JobsHeld (b : Book) (f n : ℕ) (sizes caps : List ℕ) : Type 0 where
-  pub sizes_long : length sizes ≡ 64
-  pub caps_long : length caps ≡ 64
-  pub size_of : (i : ℕ) → i < n → get_or sizes i 0 ≡ (job_of (flow_of b f) i).size
-  pub cap_of : (i : ℕ) → i < n → get_or caps i 0 ≡ (job_of (flow_of b f) i).cap
+abbrev pub totals_of : List JobState → List ℕ
+totals_of jobs = map (λ (j : JobState). j.total) jobs
+
+abbrev pub readies_of : List JobState → List (Option ℕ)
+readies_of jobs = map (λ (j : JobState). j.ready) jobs
+
+-- the jobs are those of flow f, in order
+pub record JobsHeld (b : Book) (f : ℕ) (jobs : List JobState) : Type 0 where
+  pub same : records_of jobs ≡ (flow_of b f).jobs
+
+-- the same before any row
+pub record JobsLoaded (b : Book) (f : ℕ) (jobs : List JobState) : Type 0 where
+  pub held : JobsHeld b f jobs
+  pub no_total : (i : ℕ) → i < job_count (flow_of b f) → get_or (totals_of jobs) i 0 ≡ 0
+  pub not_complete : (i : ℕ) → i < job_count (flow_of b f) → get_or (readies_of jobs) i None ≡ None
 
 -- ---- one row
 -- 15 to 18 and 25 of a row of flow f, and what counting it needs
-pub record RowTested (b : Book) (opened : ℕ → Bool) (f : ℕ) (work : List ℕ) (least : ℕ) (r : rules.Row) (t : Tested) : Type 0 where
-  pub number : t.number ≡ test_number b opened f (field 2 work (2 * r.slot)) least r
-  pub used : t.number ≡ 0 → t.used ≡ field 2 work (2 * r.slot)
-  pub size : t.number ≡ 0 → t.size ≡ (job_of (flow_of b f) r.job).size
+pub record RowTested (b : Book) (opened : ℕ → Bool) (f : ℕ) (work : List ℕ) (least : ℕ) (r : rules.Row) (t : Result ℕ Fault) : Type 0 where
+  pub number : number_by t ≡ test_number b opened f (field 2 work (2 * r.slot)) least r
+  pub used : IfOk t (λ used. used ≡ field 2 work (2 * r.slot))
 
--- what 19 asks at a row of flow f whose job has this total so far
-pub record AskedAt (b : Book) (f total : ℕ) (r : rules.Row) (a : Asks) : Type 0 where
-  pub unreleased : a.unreleased ≡ asked_release total (flow_of b f).release r.slot
-  pub bits : a.bits ≡ asked total (job_of (flow_of b f) r.job).predecessors
+-- what 19 asks at a row of a job: none where it stands before the release
+abbrev pub AskedAt : JobState → ℕ → ℕ → Option ℕ → Type 0
+AskedAt j release slot a =
+    MatchOption a (asked_release j.total release slot ≡ true)
+    (λ bits. (asked_release j.total release slot ≡ false) × (bits ≡ asked j.total j.job.predecessors))
 
 -- there is room to count the row
-pub record Countable (totals ready work : List ℕ) (t : Tested) (r : rules.Row) : Type 0 where
-  pub job_few : r.job < 64
+pub record Countable (jobs : List JobState) (work : List ℕ) (used : ℕ) (r : rules.Row) : Type 0 where
+  pub job_in : r.job < length jobs
   pub slot_in : r.slot < slots
-  pub totals_long : length totals ≡ 64
-  pub ready_long : length ready ≡ 64
   pub room : work_bytes ≤ length work
-  pub use_fits : t.used + r.processors < 65536
-  pub total_fits : get_or totals r.job 0 + r.processors < 4294967296
+  pub use_fits : used + r.processors < 65536
+  pub total_fits : get_or (totals_of jobs) r.job 0 + r.processors < 4294967296
 
--- the row is counted
-pub record RowCounted (t : Tested) (r : rules.Row) (totals ready work totals' ready' work' : List ℕ) : Type 0 where
-  pub total : totals' ≡ set totals r.job (get_or totals r.job 0 + r.processors)
-  pub complete : ready' ≡ set ready r.job
-      (ready_after (get_or ready r.job 0) (get_or totals r.job 0) (get_or totals r.job 0 + r.processors) t.size r.slot)
-  pub used : work' ≡ sets work (2 * r.slot) (bytes_of 2 (t.used + r.processors))
+-- the row is counted: in its job's total, and where that completes the job; what the book says of the jobs stays
+pub record RowCounted (used : ℕ) (r : rules.Row) (jobs : List JobState) (work : List ℕ) (jobs' : List JobState) (work' : List ℕ) : Type 0 where
+  pub records : records_of jobs' ≡ records_of jobs
+  pub total : totals_of jobs' ≡ set (totals_of jobs) r.job (get_or (totals_of jobs) r.job 0 + r.processors)
+  pub complete : readies_of jobs' ≡ set (readies_of jobs) r.job
+      (ready_after (get_or (readies_of jobs) r.job None) (get_or (totals_of jobs) r.job 0) (get_or (totals_of jobs) r.job 0 + r.processors)
+      (get_or (records_of jobs) r.job no_job).size r.slot)
+  pub in_use : work' ≡ sets work (2 * r.slot) (bytes_of 2 (used + r.processors))
 
 -- ---- the rows so far
 -- how many rows stand before `at` in a table
@@ -74,9 +80,9 @@ pub record Reached (b : Book) (opened : ℕ → Bool) (table : List ℕ) (k at :
   pub use_of : work ≡ work_used slots (take k (table_rows b table)) work
 
 -- each job's total, and whether it is complete before a slot that the flow's rows have not passed
-pub record FlowTally (b : Book) (f : ℕ) (so_far : List rules.Row) (totals ready : List ℕ) : Type 0 where
-  pub totals_long : length totals ≡ 64
-  pub ready_long : length ready ≡ 64
-  pub total : (i : ℕ) → i < 64 → get_or totals i 0 ≡ total_of so_far f i
+pub record FlowTally (b : Book) (f : ℕ) (so_far : List rules.Row) (totals : List ℕ) (ready : List (Option ℕ)) : Type 0 where
+  pub totals_long : length totals ≡ job_count (flow_of b f)
+  pub ready_long : length ready ≡ job_count (flow_of b f)
+  pub total : (i : ℕ) → i < job_count (flow_of b f) → get_or totals i 0 ≡ total_of so_far f i
   pub complete : (i t : ℕ) → i < job_count (flow_of b f) → finish_of so_far f ≤ t + 1 → t < slots →
-      ltb (done_before so_far f i t) (job_of (flow_of b f) i).size ≡ ltb t (get_or ready i 0)
+      ltb (done_before so_far f i t) (job_of (flow_of b f) i).size ≡ not_yet t (get_or ready i None)

@@ -1,19 +1,13 @@
--- What the code tests of a row, in the numbers that it holds: where the row stands in the order, the tests 15 to 18 and 25 by their number, and 19 by
--- the release and by the slot from which a predecessor is complete. Assumes nothing.
-use Rattle.std.specs.Prelude.{ℕ, zero, suc, ◌+◌, ◌*◌, ◌-◌, ◌%◌, Bool, false, not, ◌&&◌, ◌||◌, List, length, get_or, ltb, leb, eqb, if◌then◌else◌}
-use Rattle.rules.specs.declared.Verdict.{Verdict}
-use Rattle.rules.specs.declared.Verdict.TheVariants.{Pass, Refused}
+-- What the code tests of a row, in the numbers that it holds: where the row stands in the order, the tests 15 to 18 and
+-- 25 by their number, and 19 by the release and by the slot from which a predecessor is complete. Assumes nothing.
+use Rattle.std.specs.Prelude.{ℕ, zero, suc, ◌+◌, ◌*◌, ◌-◌, ◌%◌, Bool, true, false, not, ◌&&◌, ◌||◌, List, length, get_or, ltb, leb, eqb, if◌then◌else◌, Option, Some, None}
+use Rattle.rules.specs.Verdicts.{Verdict, Pass, Refused}
 use Rattle.rules.specs.Fields.{byte, field}
 use Rattle.rules.specs.Answers.{none}
 use Rattle.rules.specs.Limits.{slots}
 use Rattle.rules.specs.Book.{Book, job_count, flow_of, job_of, has_bit}
 use Rattle.rules.specs.Rows as rules
 use Rattle.rules.specs.Check.{no_row}
-use Rattle.table_check.specs.declared.row.Row.{Row}
-
--- a row of the code as the specification's row
-abbrev pub row_from : Row → rules.Row
-row_from r = record { slot = r.slot; flow = r.flow; job = r.job; processors = r.processors }
 
 -- ---- the order of rows by numbers
 -- flows stand in service order by this number: deadline, then flow
@@ -49,7 +43,8 @@ head_fault processors flows s =
     then Refused 14 none none else Pass
 
 -- ---- a row, by numbers; 0 where it passes
--- 15, 25 and 16 of a row whose flow is in the book, by the flow's count of jobs, whether the row's slot is open, a key of the row and the least one
+-- 15, 25 and 16 of a row whose flow is in the book, by the flow's count of jobs, whether the row's slot is open, a key
+-- of the row and the least one
 unfoldable pub standing_number : ℕ → Bool → ℕ → ℕ → rules.Row → ℕ
 standing_number jobs opened least key r =
     if leb slots r.slot || leb jobs r.job || eqb r.processors 0 then 15
@@ -66,18 +61,24 @@ amount_number cap used processors r =
 unfoldable pub first_number : ℕ → ℕ → ℕ
 first_number m n = if eqb m 0 then n else m
 
--- 15 to 18 and 25 of a row of flow f, by a test of the open slots, the processors in use in the row's slot, and the least rank that it may have
+-- 15 to 18 and 25 of a row of flow f, by a test of the open slots, the processors in use in the row's slot, and the
+-- least rank that it may have
 unfoldable pub test_number : Book → (ℕ → Bool) → ℕ → ℕ → ℕ → rules.Row → ℕ
 test_number b opened f used least r =
     first_number (standing_number (job_count (flow_of b f)) (opened r.slot) least (rank_of r) r)
     (amount_number (job_of (flow_of b f) r.job).cap used b.processors r)
 
--- 19 at one job k: it is a predecessor, and it is complete only from a later slot on
-unfoldable pub lacks_at : ℕ → ℕ → ℕ → ℕ → Bool
-lacks_at predecessors k slot ready = has_bit predecessors k && ltb slot ready
+-- whether a job that is complete from a slot on, or not at all, is not yet so in `slot`
+abbrev pub not_yet : ℕ → Option ℕ → Bool
+not_yet slot None = true
+not_yet slot (Some from) = ltb slot from
 
--- what 19 asks at a row of a job that has this total so far: nothing where it has one, since its first row was asked; otherwise whether the row
--- stands before the release (02, Req 01)
+-- 19 at one job k: it is a predecessor, and it is not complete, or only from a later slot on
+unfoldable pub lacks_at : ℕ → ℕ → ℕ → Option ℕ → Bool
+lacks_at predecessors k slot ready = has_bit predecessors k && not_yet slot ready
+
+-- what 19 asks at a row of a job that has this total so far: nothing where it has one, since its first row was asked;
+-- otherwise whether the row stands before the release (02, Req 01)
 unfoldable pub asked_release : ℕ → ℕ → ℕ → Bool
 asked_release total release slot = if ltb 0 total then false else ltb slot release
 
@@ -85,10 +86,12 @@ asked_release total release slot = if ltb 0 total then false else ltb slot relea
 unfoldable pub asked : ℕ → ℕ → ℕ
 asked total predecessors = if ltb 0 total then 0 else predecessors
 
--- the slot from which a job is complete, once its total goes from `before` to `after` by a row in `slot`: the next one where that completes it
-unfoldable pub ready_after : ℕ → ℕ → ℕ → ℕ → ℕ → ℕ
-ready_after ready before after size slot = if ltb after size then ready else if leb size before then ready else slot + 1
+-- the slot from which a job is complete, once its total goes from `before` to `after` by a row in `slot`: the next one
+-- where that completes it
+unfoldable pub ready_after : Option ℕ → ℕ → ℕ → ℕ → ℕ → Option ℕ
+ready_after ready before after size slot = if ltb after size then ready else if leb size before then ready else Some (slot + 1)
 
--- ---- 20 of a flow by one number: the first job whose total differs from its size, 64 where there is none
-unfoldable pub mismatch_fault : ℕ → ℕ → Verdict
-mismatch_fault f i = if ltb i 64 then Refused 20 f i else Pass
+-- ---- 20 of a flow by the first job whose total differs from its size
+abbrev pub mismatch_fault : ℕ → Option ℕ → Verdict
+mismatch_fault f None = Pass
+mismatch_fault f (Some i) = Refused 20 f i

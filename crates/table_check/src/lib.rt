@@ -2,193 +2,147 @@
 #![tactic(auto)]
 
 ghost use Rattle.std.specs.Prelude.{◌≡◌, ◌+◌, ◌*◌, ◌≤◌, length};
-ghost use Rattle.rules.specs.declared.Verdict.TheVariants.{Pass, Refused};
 ghost use Rattle.rules.specs.Limits.{work_bytes};
-ghost use Rattle.rules.specs.Answers.{◌and_then◌, first_fault, check_refused};
-ghost use Rattle.rules.specs.Calendar.{is_open, calendar_of, calendar_fault};
-ghost use Rattle.rules.specs.Reading.{book_of, book_fault};
+ghost use Rattle.rules.specs.Answers.{◌and_then◌, first_fault};
+ghost use Rattle.rules.specs.Calendar.{is_open};
+ghost use Rattle.rules.specs.Faults.{verdict_by};
+ghost use Rattle.rules.specs.Reading.{book_of};
 ghost use Rattle.rules.specs.Check.{check_call};
-ghost use Rattle.book.specs.Promise.{Indexed};
 ghost use Rattle.calendar.specs.Area.{open_by};
+ghost use Rattle.calendar.specs.Held.{held_windows};
 ghost use Rattle.table_check.specs.Tests.{head_fault};
-ghost use Rattle.table_check.specs.Walk.{mismatches_fault, finish_fault_by, TableJudged};
+ghost use Rattle.table_check.specs.Walk.{mismatches_of, finishes_of, mismatches_fault, finish_fault_by, TableJudged, answer_by};
 
-use book::{Index, bytes, late};
-use rules::{CheckAnswer, Verdict};
+use book::bytes::{Field, WORK_BYTES};
+use book::row::Row;
+use book::{Book, bytes};
+use calendar::Calendar;
+use rules::{CheckAnswer, Fault, Refusal};
+use walk::{FlowEnd, TABLE_HEAD};
 
+pub mod current;
 pub mod row;
 pub mod walk;
 
-// A refusal without a place.
-pub fn no_place(number: u8) -> Verdict
-    ensures { result ≡ Refused number 255 255 }
-{
-    Verdict::Refused {
-        number,
-        flow: 255,
-        job: 255,
-    }
-}
+// A flag for each slot that a calendar can shut.
+const FLAGS: usize = 4096;
 
-// 14.
-pub fn head_verdict(table: &[u8], processors: u16, flows: usize) -> Verdict
+// 14: the head of a table is the book's, its length is what it says, and whole rows stand behind it.
+#[tactic(auto, unfolding(crate::specs::Tests::head_fault))]
+pub fn head_verdict(table: &[u8], processors: u16, flows: usize) -> Result<(), Refusal>
     requires { flows ≤ 64 }
-    ensures { result ≡ head_fault processors flows table.now }
+    ensures { verdict_by result ≡ head_fault processors flows table.now }
 {
-    let head = 8 + 2 * flows;
+    let head = TABLE_HEAD + 2 * flows;
     if table.len() < head {
-        return no_place(14);
+        return Err(Fault::TableHead.nowhere());
     }
-    let stated = bytes::read32(table, 0) as usize;
-    let count = bytes::wide(table[7]);
-    let rest = (table.len() - head) % 6;
-    if (stated != table.len())
-        | (table[4] != 1)
-        | (bytes::read16(table, 5) != processors)
-        | (count != flows)
-        | (rest != 0)
+    let stated = u32::read(table, 0) as usize;
+    let count = usize::from(table[7]);
+    let rest = (table.len() - head) % Row::SIZE;
+    if stated != table.len()
+        || table[4] != 1
+        || u16::read(table, 5) != processors
+        || count != flows
+        || rest != 0
     {
-        return no_place(14);
+        return Err(Fault::TableHead.nowhere());
     }
-    Verdict::Pass
+    Ok(())
 }
 
-// 20, by book order: of each flow the first job whose total differs from its size, 64 where there is none.
-pub fn totals_verdict(mismatch: [u8; 64], flows: usize) -> Verdict
-    requires { flows ≤ 64 }
-    ensures { result ≡ mismatches_fault mismatch flows }
+// 20, by book order: of each flow the first job whose total differs from its size.
+// The ends of the book's flows, cut from the array: how many count is the slice's length.
+pub fn totals_verdict(ends: &[FlowEnd]) -> Result<(), Refusal>
+    requires { length ends.now ≤ 64 }
+    ensures { verdict_by result ≡ mismatches_fault (mismatches_of ends.now) (length ends.now) }
 {
-    let mut f: usize = 0;
-    while f < flows {
-        let job = mismatch[f];
-        if job < 64 {
-            return Verdict::Refused {
-                number: 20,
-                flow: f as u8,
-                job,
-            };
+    for (f, end) in ends.iter().enumerate() {
+        if let Some(job) = end.mismatch {
+            return Err(Fault::Total.at(f as u8, job));
         }
-        f = f + 1;
     }
-    Verdict::Pass
+    Ok(())
 }
 
-// 21.
-pub fn finishes_verdict(table: &[u8], flows: usize, finish: [u16; 64]) -> Verdict
-    requires { (flows ≤ 64) × (8 + 2 * flows ≤ length table.now) }
-    ensures { result ≡ first_fault (finish_fault_by table.now finish) flows }
+// 21, by book order: the first flow whose finish in the table's head is not the one that its rows give.
+// The ends of the book's flows, cut from the array: how many count is the slice's length.
+pub fn finishes_verdict(table: &[u8], ends: &[FlowEnd]) -> Result<(), Refusal>
+    requires { (length ends.now ≤ 64) × (8 + 2 * length ends.now ≤ length table.now) }
+    ensures { verdict_by result ≡ first_fault (finish_fault_by table.now (finishes_of ends.now)) (length ends.now) }
 {
-    let mut f: usize = 0;
-    while f < flows {
-        if bytes::read16(table, 8 + 2 * f) != finish[f] {
-            return Verdict::Refused {
-                number: 21,
-                flow: f as u8,
-                job: 255,
-            };
+    for (f, end) in ends.iter().enumerate() {
+        if u16::read(table, TABLE_HEAD + 2 * f) != end.finish {
+            return Err(Fault::Finish.at_flow(f as u8));
         }
-        f = f + 1;
     }
-    Verdict::Pass
+    Ok(())
 }
 
-// 20, then 21, of what the walk handed back.
-pub fn ends_verdict(table: &[u8], mismatch: [u8; 64], finish: [u16; 64], flows: usize) -> Verdict
-    requires { (flows ≤ 64) × (8 + 2 * flows ≤ length table.now) }
-    ensures { result ≡ (mismatches_fault mismatch flows and_then first_fault (finish_fault_by table.now finish) flows) }
+// 20, the totals, then 21, the finishes, of what the walk handed back.
+// The ends of the book's flows, cut from the array: how many count is the slice's length.
+pub fn ends_verdict(table: &[u8], ends: &[FlowEnd]) -> Result<(), Refusal>
+    requires { (length ends.now ≤ 64) × (8 + 2 * length ends.now ≤ length table.now) }
+    ensures { verdict_by result ≡ (mismatches_fault (mismatches_of ends.now) (length ends.now) and_then first_fault (finish_fault_by table.now (finishes_of ends.now)) (length ends.now)) }
 {
-    let totals = totals_verdict(mismatch, flows);
-    let Verdict::Pass = totals else {
-        return totals;
-    };
-    finishes_verdict(table, flows, finish)
+    totals_verdict(ends)?;
+    finishes_verdict(table, ends)
 }
 
-// What a table comes to: the first fault of 14 to 21 and 25, and the late flows where there is none.
-#[derive(Clone, Copy)]
-pub struct Judged {
-    pub verdict: Verdict,
-    pub late: u8,
-}
-
-// 14 to 21 and 25, in order, with these slots shut.
-pub fn judge_table(book: &[u8], shut: &[u8], table: &[u8], x: Index, work: &mut [u8]) -> Judged
-    requires { Indexed book.now x × (work_bytes ≤ length work.old) }
-    ensures { TableJudged (book_of book.now) (open_by shut.now) table.now work.old work.new result }
+// All tests of a table with these slots shut, in order: 14 the head, 15 to 19 and 25 the rows, 20 the totals, 21 the
+// finishes; the late flows where they pass.
+// The work area stays a slice with a clause on its length; book's WORK_BYTES says why.
+pub fn judge_table(book: &Book, shut: &[u8], table: &[u8], work: &mut [u8]) -> Result<u8, Refusal>
+    requires { work_bytes ≤ length work.old }
+    ensures { TableJudged (book_of book.now.bytes.now) (open_by shut.now) table.now work.old work.new result }
 {
-    let flows = x.flows;
-    let head = head_verdict(table, x.processors, flows);
-    let Verdict::Pass = head else {
-        return Judged {
-            verdict: head,
-            late: 0,
-        };
-    };
-    let w = walk::walk_flows(book, shut, table, x, work);
-    let rows = w.verdict;
-    let Verdict::Pass = rows else {
-        return Judged {
-            verdict: rows,
-            late: 0,
-        };
-    };
-    let mismatch = w.mismatch;
-    let finish = w.finish;
-    let deadlines = x.deadlines;
-    Judged {
-        verdict: ends_verdict(table, mismatch, finish, flows),
-        late: late::late_flows(deadlines, finish, flows),
+    let flows = book.flow_count();
+    head_verdict(table, book.processors, flows)?;
+    let ends = walk::walk_flows(book, shut, table, work)?;
+    ends_verdict(table, &ends[..flows])?;
+    Ok(book.late_flows(&walk::finishes(&ends)))
+}
+
+// All tests of a table, 14 to 21 and 25, with the slots shut that the calendar shuts; the late flows where they pass.
+pub fn judge_with(
+    book: &Book,
+    calendar: &Calendar,
+    table: &[u8],
+    work: &mut [u8],
+) -> Result<u8, Refusal>
+    requires { work_bytes ≤ length work.old }
+    ensures { TableJudged (book_of book.now.bytes.now) (is_open (held_windows calendar.now)) table.now work.old work.new result }
+{
+    let mut shut = [0u8; FLAGS];
+    calendar.set_flags(&mut shut);
+    judge_table(book, &shut, table, work)
+}
+
+// The check of a table against a book and its calendar: the late flows of a table that passes.
+pub fn check(book: &[u8], calendar: &[u8], table: &[u8], work: &mut [u8]) -> Result<u8, Refusal>
+    ensures answer { answer_by result ≡ (check_call book.now calendar.now table.now work.old).answer }
+    ensures area { work.new ≡ (check_call book.now calendar.now table.now work.old).area }
+{
+    let book = Book::read(book)?;
+    let calendar = Calendar::read(calendar)?;
+    if work.len() < WORK_BYTES {
+        return Err(Fault::WorkArea.nowhere());
     }
-}
-
-// The same, with the slots shut that the calendar shuts.
-pub fn judge_with(book: &[u8], calendar: &[u8], table: &[u8], work: &mut [u8]) -> Judged
-    requires { (book_fault book.now ≡ Pass) × (calendar_fault calendar.now ≡ Pass) × (work_bytes ≤ length work.old) }
-    ensures { TableJudged (book_of book.now) (is_open (calendar_of calendar.now)) table.now work.old work.new result }
-{
-    let mut shut = [0u8; 4096];
-    calendar::set_flags(&mut shut, calendar::calendar_of(calendar));
-    judge_table(book, &shut, table, book::index_of(book), work)
-}
-
-// A refusal's answer.
-pub fn refusal(number: u8, flow: u8, job: u8) -> CheckAnswer
-    ensures { result ≡ check_refused number flow job }
-{
-    CheckAnswer {
-        number,
-        flow,
-        job,
-        late: 0,
+    let judged = judge_with(&book, &calendar, table, work);
+    if judged.is_err() {
+        bytes::clear(work);
     }
+    judged
 }
 
-// The check of a table against a book and its calendar.
+// The check of a table against a book and its calendar, as an answer to the caller: accepted with the table's late
+// flows, or refused with what was found.
 pub fn check_table(book: &[u8], calendar: &[u8], table: &[u8], work: &mut [u8]) -> CheckAnswer
     ensures answer { result ≡ (check_call book.now calendar.now table.now work.old).answer }
     ensures area { work.new ≡ (check_call book.now calendar.now table.now work.old).area }
 {
-    let v = book::verdict_of(book);
-    if let Verdict::Refused { number, flow, job } = v {
-        return refusal(number, flow, job);
-    }
-    let d = calendar::verdict_of(calendar);
-    if let Verdict::Refused { number, flow, job } = d {
-        return refusal(number, flow, job);
-    }
-    if work.len() < 16384 {
-        return refusal(11, 255, 255);
-    }
-    let j = judge_with(book, calendar, table, work);
-    let w = j.verdict;
-    if let Verdict::Refused { number, flow, job } = w {
-        bytes::clear(work);
-        return refusal(number, flow, job);
-    }
-    CheckAnswer {
-        number: 0,
-        flow: 255,
-        job: 255,
-        late: j.late,
+    match check(book, calendar, table, work) {
+        Ok(late) => CheckAnswer::accepted(late),
+        Err(refusal) => CheckAnswer::from(refusal),
     }
 }

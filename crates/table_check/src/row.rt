@@ -1,216 +1,158 @@
-// One row of a table: read, tested by 15 to 18 and 25, asked for its release and predecessors, counted.
-ghost use Rattle.std.specs.Prelude.{◌≡◌, ◌+◌, ◌<◌, ◌≤◌, length, get_or, set};
-ghost use Rattle.rules.specs.declared.Verdict.TheVariants.{Refused};
+// One row of a table: tested by 15 to 18 and 25, asked for its release and predecessors, counted.
+ghost use Rattle.std.specs.Prelude.{◌≡◌, ◌+◌, ◌<◌, ◌≤◌, length};
 ghost use Rattle.rules.specs.Limits.{slots, work_bytes};
-ghost use Rattle.rules.specs.Book.{job_count, flow_of};
 ghost use Rattle.rules.specs.Reading.{book_of};
-ghost use Rattle.rules.specs.Table.{row_at};
 ghost use Rattle.calendar.specs.Area.{open_by};
-ghost use Rattle.table_check.specs.Tests.{row_from, rank_of, standing_number, amount_number, lacks_at, ready_after};
-ghost use Rattle.table_check.specs.Tally.{CurrentFlow, JobsHeld, RowTested, AskedAt, Countable, RowCounted};
+ghost use Rattle.book.specs.Records.{number_by};
+ghost use Rattle.book.specs.Rows.{row_from};
+ghost use Rattle.table_check.specs.Tests.{rank_of, standing_number, amount_number, not_yet, lacks_at, ready_after};
+ghost use Rattle.table_check.specs.Tally.{JobsHeld, JobsLoaded, RowTested, AskedAt, Countable, RowCounted};
 
-use book::bytes;
-use rules::Verdict;
+use super::current::Current;
+use book::JobRecord;
+use book::bytes::Field;
+use book::row::Row;
+use rules::Fault;
 
-// A row of a table.
-#[derive(Clone, Copy)]
-pub struct Row {
-    pub slot: u16,
-    pub flow: u8,
-    pub job: u8,
-    pub processors: u16,
+// One past the greatest rank of a row in a slot: 8,192 slots of 64 jobs each.
+const RANKS: u32 = 524288;
+
+// A job of the current flow: as the book has it, and by the rows so far its total and the slot from which it is
+// complete, none where it is not.
+#[derive(Clone, Copy, Default)]
+pub struct JobState {
+    pub job: JobRecord,
+    pub total: u32,
+    pub ready: Option<u16>,
 }
 
-// The flow whose rows are walked: its number, where its job records start, its count of jobs, its release, and P.
-#[derive(Clone, Copy)]
-pub struct Current {
-    pub flow: usize,
-    pub records: usize,
-    pub jobs: u8,
-    pub release: u16,
-    pub processors: u16,
-}
-
-// What the tests find: a refusal number, or 0 and what counting the row needs: the use of its slot, and the size of its job.
-#[derive(Clone, Copy)]
-pub struct Tested {
-    pub number: u8,
-    pub used: u16,
-    pub size: u32,
-}
-
-// Size and cap of each job of the current flow, read out.
-pub fn load_jobs(book: &[u8], c: Current, sizes: &mut [u32], caps: &mut [u16])
-    requires { CurrentFlow book.now c × (length sizes.old ≡ 64) × (length caps.old ≡ 64) }
-    ensures { JobsHeld (book_of book.now) c.flow c.jobs sizes.new caps.new }
-{
-    let jobs = bytes::wide(c.jobs);
-    let mut i: usize = 0;
-    while i < jobs {
-        let job = book::job_of(book, c.records, c.flow, i);
-        sizes[i] = job.size;
-        caps[i] = job.cap;
-        i = i + 1;
+impl JobState {
+    // Sets the slot from which the job is complete, once its total has come from `before` to what it is by a row in
+    // `slot`.
+    #[tactic(auto, unfolding(crate::specs::Tests::ready_after))]
+    pub fn complete(&mut self, before: u32, slot: u16)
+        requires { slot < slots }
+        ensures { self.new ≡ record self.old { ready = ready_after self.old.ready before self.old.total self.old.job.size slot } }
+    {
+        if before < self.job.size && self.job.size <= self.total {
+            self.ready = Some(slot + 1);
+        }
     }
 }
 
-// The row that stands at `at`.
-pub fn read_row(table: &[u8], at: usize) -> Row
-    requires { at + 6 ≤ length table.now }
-    ensures { row_from result ≡ row_at table.now at }
+// The jobs of the current flow, before any row.
+pub fn load_jobs(current: &Current, jobs: &mut [JobState])
+    requires { length jobs.old ≡ current.now.head.jobs }
+    ensures { JobsLoaded (book_of current.now.book.now.bytes.now) current.now.flow jobs.new }
 {
-    Row {
-        slot: bytes::read16(table, at),
-        flow: table[at + 2],
-        job: table[at + 3],
-        processors: bytes::read16(table, at + 4),
+    for (i, job) in jobs.iter_mut().enumerate() {
+        *job = JobState {
+            job: current.book.job(current.flow, i),
+            total: 0,
+            ready: None,
+        };
     }
 }
 
-// A refusal at a row's place.
-pub fn refused(number: u8, r: Row) -> Verdict
-    ensures { result ≡ Refused number r.flow r.job }
+// The rank of a row: the number by which the rows of a flow stand in their order. As a number it has a next one, and it
+// tells in one test whether the slot is in range; a pair of slot and job would need an option before the first row, and
+// a test more.
+pub fn rank_of(row: Row) -> u32
+    ensures { (result ≡ rank_of (row_from row)) × (result < 4194560) }
 {
-    Verdict::Refused {
-        number,
-        flow: r.flow,
-        job: r.job,
-    }
+    u32::from(row.slot) * 64 + u32::from(row.job)
 }
 
-// The rank of a row: the number by which the rows of a flow stand in their order.
-pub fn rank_of(r: Row) -> u32
-    ensures { (result ≡ rank_of (row_from r)) × (result < 4194560) }
-{
-    r.slot as u32 * 64 + r.job as u32
-}
-
-// 15, 25 and 16 of a row whose flow is in the book; 0 where it passes. Once the job is in range, the row's rank tells whether the slot is.
-pub fn standing_fault(shut: &[u8], jobs: u8, least: u32, key: u32, r: Row) -> u8
+// 15, 25 and 16 of a row whose flow is in the book: it is in range, in an open slot, and in order. Once the job is in
+// range, the row's rank tells whether the slot is.
+#[tactic(auto, unfolding(crate::specs::Tests::standing_number))]
+pub fn standing_fault(shut: &[u8], jobs: u8, least: u32, key: u32, row: Row) -> Result<(), Fault>
     requires { jobs ≤ 64 }
-    ensures { result ≡ standing_number jobs (open_by shut.now r.slot) least key (row_from r) }
+    ensures { number_by result ≡ standing_number jobs (open_by shut.now row.slot) least key (row_from row) }
 {
-    if jobs <= r.job {
-        return 15;
+    if jobs <= row.job || RANKS <= rank_of(row) || row.processors == 0 {
+        return Err(Fault::RowRange);
     }
-    if 524288 <= rank_of(r) {
-        return 15;
-    }
-    if r.processors == 0 {
-        return 15;
-    }
-    if !calendar::is_open(shut, bytes::wide16(r.slot)) {
-        return 25;
+    if !calendar::is_open(shut, usize::from(row.slot)) {
+        return Err(Fault::RowShut);
     }
     if key < least {
-        return 16;
+        return Err(Fault::RowOrder);
     }
-    0
+    Ok(())
 }
 
-// 17 and 18; 0 where the row passes.
-pub fn amount_fault(cap: u16, used: u16, processors: u16, r: Row) -> u8
-    ensures { result ≡ amount_number cap used processors (row_from r) }
+// 17 and 18: a row takes no more processors than its job's cap, and its slot's rows together no more than there are.
+#[tactic(auto, unfolding(crate::specs::Tests::amount_number))]
+pub fn amount_fault(cap: u16, used: u16, processors: u16, row: Row) -> Result<(), Fault>
+    ensures { number_by result ≡ amount_number cap used processors (row_from row) }
 {
-    if cap < r.processors {
-        return 17;
+    if cap < row.processors {
+        return Err(Fault::RowCap);
     }
-    if (processors as u32) < used as u32 + r.processors as u32 {
-        return 18;
+    if u32::from(processors) < u32::from(used) + u32::from(row.processors) {
+        return Err(Fault::SlotFull);
     }
-    0
+    Ok(())
 }
 
-// 15 to 18 and 25 of a row of the current flow, whose rank is to be at least `least`.
+// 15 to 18 and 25 of a row of the current flow, whose rank is to be at least `least`; where they pass, the use of its
+// slot so far.
 pub fn test_row(
-    book: &[u8],
-    shut: &[u8],
-    sizes: &[u32],
-    caps: &[u16],
+    current: &Current,
+    jobs: &[JobState],
     work: &[u8],
-    c: Current,
     least: u32,
-    r: Row,
-) -> Tested
-    requires { CurrentFlow book.now c × JobsHeld (book_of book.now) c.flow c.jobs sizes.now caps.now × (work_bytes ≤ length work.now) }
-    ensures { RowTested (book_of book.now) (open_by shut.now) c.flow work.now least (row_from r) result }
+    row: Row,
+) -> Result<u16, Fault>
+    requires { JobsHeld (book_of current.now.book.now.bytes.now) current.now.flow jobs.now × (work_bytes ≤ length work.now) }
+    ensures { RowTested (book_of current.now.book.now.bytes.now) (open_by current.now.shut.now) current.now.flow work.now least (row_from row) result }
 {
-    let fault = standing_fault(shut, c.jobs, least, rank_of(r), r);
-    if fault != 0 {
-        return Tested {
-            number: fault,
-            used: 0,
-            size: 0,
-        };
-    }
-    let i = bytes::wide(r.job);
-    let used = bytes::read16(work, 2 * bytes::wide16(r.slot));
-    Tested {
-        number: amount_fault(caps[i], used, c.processors, r),
-        used,
-        size: sizes[i],
-    }
+    standing_fault(current.shut, current.head.jobs, least, rank_of(row), row)?;
+    let used = u16::read(work, 2 * usize::from(row.slot));
+    let cap = jobs[usize::from(row.job)].job.cap;
+    amount_fault(cap, used, current.book.processors, row)?;
+    Ok(used)
 }
 
-// What 19 asks at a row: whether it stands before the release, and which predecessors are to be complete, a bit each.
-#[derive(Clone, Copy)]
-pub struct Asks {
-    pub unreleased: bool,
-    pub bits: u64,
-}
-
-// 19 is asked whole at a job's first row, and not at all once the job has a total, since it was asked then and slots only rise.
-pub fn predecessors_due(book: &[u8], totals: &[u32], c: Current, r: Row) -> Asks
-    requires { CurrentFlow book.now c × (r.job < job_count (flow_of (book_of book.now) c.flow)) × (length totals.now ≡ 64) }
-    ensures { AskedAt (book_of book.now) c.flow (get_or totals.now r.job 0) (row_from r) result }
+// What 19 asks at a row in a slot: which predecessors of its job are to be complete, a bit each, or none where it
+// stands before the release. 19 is asked whole at a job's first row, and not at all once the job has a total, since it
+// was asked then and slots only rise.
+#[tactic(auto, unfolding(crate::specs::Tests::asked_release, crate::specs::Tests::asked))]
+pub fn predecessors_due(job: &JobState, release: u16, slot: u16) -> Option<u64>
+    ensures { AskedAt job.now release slot result }
 {
-    let i = bytes::wide(r.job);
-    if 0 < totals[i] {
-        return Asks {
-            unreleased: false,
-            bits: 0,
-        };
+    if 0 < job.total {
+        return Some(0);
     }
-    let job = book::job_of(book, c.records, c.flow, i);
-    Asks {
-        unreleased: r.slot < c.release,
-        bits: job.predecessors,
+    if slot < release {
+        return None;
     }
+    Some(job.job.predecessors)
 }
 
-// Whether the lowest bit names a predecessor that is complete only from a later slot on.
-pub fn lacks(bits: u64, slot: u16, ready: u16) -> bool
+// Whether a job that is complete from a slot on, or not at all, is not yet so in `slot`.
+fn is_not_yet(ready: Option<u16>, slot: u16) -> bool
+    ensures { result ≡ not_yet slot ready }
+{
+    ready.is_none_or(|from| slot < from)
+}
+
+// Whether the lowest bit names a predecessor that is not complete, or only from a later slot on.
+pub fn lacks(bits: u64, slot: u16, ready: Option<u16>) -> bool
     ensures { result ≡ lacks_at bits 0 slot ready }
 {
-    if bits % 2 == 1 {
-        return slot < ready;
-    }
-    false
-}
-
-// The slot from which job i is complete, once its total goes from `before` to `after` by a row in `slot`.
-pub fn complete(ready: &mut [u16], i: usize, before: u32, after: u32, size: u32, slot: u16)
-    requires { (i < length ready.old) × (slot < slots) }
-    ensures { ready.new ≡ set ready.old i (ready_after (get_or ready.old i 0) before after size slot) }
-{
-    if after < size {
-        return;
-    }
-    if size <= before {
-        return;
-    }
-    ready[i] = slot + 1;
+    bits % 2 == 1 && is_not_yet(ready, slot)
 }
 
 // A row that passed is counted: in its slot's use, in its job's total, and where that completes the job.
-pub fn count_row(totals: &mut [u32], ready: &mut [u16], work: &mut [u8], t: Tested, r: Row)
-    requires { Countable totals.old ready.old work.old t (row_from r) }
-    ensures { RowCounted t (row_from r) totals.old ready.old work.old totals.new ready.new work.new }
+pub fn count_row(jobs: &mut [JobState], work: &mut [u8], used: u16, row: Row)
+    requires { Countable jobs.old work.old used (row_from row) }
+    ensures { RowCounted used (row_from row) jobs.old work.old jobs.new work.new }
 {
-    bytes::write16(work, 2 * bytes::wide16(r.slot), t.used + r.processors);
-    let i = bytes::wide(r.job);
-    let before = totals[i];
-    let after = before + r.processors as u32;
-    totals[i] = after;
-    complete(ready, i, before, after, t.size, r.slot);
+    (used + row.processors).write(work, 2 * usize::from(row.slot));
+    let job = &mut jobs[usize::from(row.job)];
+    let before = job.total;
+    job.total += u32::from(row.processors);
+    job.complete(before, row.slot);
 }

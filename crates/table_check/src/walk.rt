@@ -1,219 +1,193 @@
-// The walk over a table's rows. Rows of a flow stand together, in service order, so that what is kept of single jobs is the current flow's alone;
-// of a flow that the walk has left the first job whose total differs from its size is kept, and its finish.
-ghost use Rattle.std.specs.Prelude.{◌≡◌, ℕ, ◌+◌, ◌*◌, ◌<◌, length, get_or, replicate};
-ghost use Rattle.rules.specs.Answers.{first_fault};
-ghost use Rattle.rules.specs.Book.{job_count, flow_of, job_of};
+// The walk over a table's rows. Rows of a flow stand together, in service order, so that what is kept of single jobs is
+// the current flow's alone; of a flow that the walk has left the first job whose total differs from its size is kept,
+// and its finish.
+ghost use Rattle.std.specs.Prelude.{◌≡◌, ◌+◌, ◌*◌, ◌<◌, ◌≤◌, ◌==◌, not, position, length};
 ghost use Rattle.rules.specs.Reading.{book_of};
 ghost use Rattle.calendar.specs.Area.{open_by};
-ghost use Rattle.table_check.specs.Tests.{mismatch_fault};
-ghost use Rattle.table_check.specs.Tally.{CurrentFlow, JobsHeld};
-ghost use Rattle.table_check.specs.Walk.{FlowBegins, RowsWalked, total_fault_by, FlowWalked, Ready, TableWalked};
+ghost use Rattle.table_check.specs.declared.row.JobState.{JobState};
+ghost use Rattle.table_check.specs.Tally.{JobsLoaded};
+ghost use Rattle.table_check.specs.Walk.{FlowBegins, RowsWalked, FlowWalked, Ready, finishes_of, TableWalked};
 
+use super::current::Current;
 use super::row;
-use super::row::Current;
-use book::{Index, bytes};
-use rules::Verdict;
+use super::row::JobState;
+use book::row::Row;
+use book::{Book, bytes};
+use rules::{Fault, Refusal};
 
-// Where the walk over a flow's rows stopped: the first fault; where there is none, the offset after its last row, and its finish.
+// The bytes of a table's head, before the finishes, two bytes each; the rows stand behind them.
+pub const TABLE_HEAD: usize = 8;
+
+// Where the walk over a flow's rows stopped: the offset after its last row, and its finish.
 #[derive(Clone, Copy)]
 pub struct Stop {
-    pub verdict: Verdict,
     pub next: usize,
     pub finish: u16,
 }
 
-// The same, with the flow closed: the first job whose total differs from its size, 64 where there is none.
+// What is kept of a flow: the first job whose total differs from its size, and its finish.
+#[derive(Clone, Copy)]
+pub struct FlowEnd {
+    pub mismatch: Option<u8>,
+    pub finish: u16,
+}
+
+// The finishes of the flows.
+// An array, since flows are stored in service order.
+pub fn finishes(ends: &[FlowEnd; 64]) -> [u16; 64]
+    ensures { result ≡ finishes_of ends.now }
+{
+    let mut finishes = [0u16; 64];
+    for (f, end) in ends.iter().enumerate() {
+        finishes[f] = end.finish;
+    }
+    finishes
+}
+
+// Where the walk over a flow stopped, with the flow closed: the offset after its last row, and what is kept of it.
 #[derive(Clone, Copy)]
 pub struct FlowStop {
-    pub verdict: Verdict,
     pub next: usize,
-    pub finish: u16,
-    pub mismatch: u8,
+    pub end: FlowEnd,
 }
 
-// What the whole walk hands back: the first fault, and where there is none of each flow the first job whose total differs from its size, and the finish.
-#[derive(Clone, Copy)]
-pub struct Walked {
-    pub verdict: Verdict,
-    pub mismatch: [u8; 64],
-    pub finish: [u16; 64],
-}
-
-// 15 to 19 and 25, for each row of the current flow in order; the first fault met ends the walk.
+// 15 to 19 and 25, for each row of the current flow in order; the first fault met ends the walk. Nested loops over rows
+// and predecessors, left by a label: a rule of the project names this form.
 pub fn walk_rows(
-    book: &[u8],
-    shut: &[u8],
-    table: &[u8],
-    sizes: &[u32],
-    caps: &[u16],
-    totals: &mut [u32],
-    ready: &mut [u16],
+    current: &Current,
+    jobs: &mut [JobState],
     work: &mut [u8],
-    c: Current,
     from: usize,
-) -> Stop
-    requires { FlowBegins book.now (open_by shut.now) table.now work.old c from × JobsHeld (book_of book.now) c.flow c.jobs sizes.now caps.now × (totals.old ≡ replicate 64 0) × (ready.old ≡ replicate 64 65535) }
-    ensures { RowsWalked (book_of book.now) (open_by shut.now) table.now c.flow from work.old work.new totals.new result }
+) -> Result<Stop, Refusal>
+    requires { FlowBegins current.now.book.now.bytes.now (open_by current.now.shut.now) current.now.table.now work.old current.now.flow from × JobsLoaded (book_of current.now.book.now.bytes.now) current.now.flow jobs.old }
+    ensures { RowsWalked (book_of current.now.book.now.bytes.now) (open_by current.now.shut.now) current.now.table.now current.now.flow from work.old work.new jobs.new result }
 {
-    let mut bad = Verdict::Pass;
     let mut least: u32 = 0;
     let mut finish: u16 = 0;
     let mut at = from;
-    'rows: while at < table.len() {
-        let r = row::read_row(table, at);
-        if bytes::wide(r.flow) != c.flow {
-            break 'rows;
+    'rows: loop {
+        if current.table.len() <= at {
+            break 'rows Ok(Stop { next: at, finish });
         }
-        let t = row::test_row(book, shut, sizes, caps, work, c, least, r);
-        if t.number != 0 {
-            bad = row::refused(t.number, r);
-            break 'rows;
+        let r = Row::read(current.table, at);
+        if usize::from(r.flow) != current.flow {
+            break 'rows Ok(Stop { next: at, finish });
         }
-        let asks = row::predecessors_due(book, totals, c, r);
-        if asks.unreleased {
-            bad = row::refused(19, r);
-            break 'rows;
-        }
-        let mut bits = asks.bits;
+        let used = match row::test_row(current, jobs, work, least, r) {
+            Ok(used) => used,
+            Err(fault) => break 'rows Err(fault.at(r.flow, r.job)),
+        };
+        let job = &jobs[usize::from(r.job)];
+        let Some(mut bits) = row::predecessors_due(job, current.head.release, r.slot) else {
+            break 'rows Err(Fault::Precedence.at(r.flow, r.job));
+        };
         let mut k: usize = 0;
         while bits != 0 {
-            if row::lacks(bits, r.slot, ready[k]) {
-                bad = row::refused(19, r);
-                break 'rows;
+            if row::lacks(bits, r.slot, jobs[k].ready) {
+                break 'rows Err(Fault::Precedence.at(r.flow, r.job));
             }
-            bits = bits / 2;
-            k = k + 1;
+            bits /= 2;
+            k += 1;
         }
-        row::count_row(totals, ready, work, t, r);
+        row::count_row(jobs, work, used, r);
         finish = r.slot + 1;
         least = row::rank_of(r) + 1;
-        at = at + 6;
-    }
-    Stop {
-        verdict: bad,
-        next: at,
-        finish,
+        at += Row::SIZE;
     }
 }
 
-// A flow is closed: the first job whose total differs from its size, 64 where there is none.
-pub fn first_mismatch(book: &[u8], sizes: &[u32], totals: &[u32], c: Current) -> u8
-    requires { CurrentFlow book.now c × ((i : ℕ) → i < c.jobs → get_or sizes.now i 0 ≡ (job_of (flow_of (book_of book.now) c.flow) i).size) × (length sizes.now ≡ 64) × (length totals.now ≡ 64) }
-    ensures { mismatch_fault c.flow result ≡ first_fault (total_fault_by (book_of book.now) c.flow totals.now) (job_count (flow_of (book_of book.now) c.flow)) }
+// The first of some jobs whose total differs from its size.
+// A function apart from `first_mismatch`: with the search and the narrowing in one, the proof did not close.
+fn first_unmet(jobs: &[JobState]) -> Option<usize>
+    ensures { result ≡ position (λ (job : JobState). not (job.total == job.job.size)) jobs.now }
 {
-    let mut job: u8 = 0;
-    while job < c.jobs {
-        let i = bytes::wide(job);
-        if totals[i] != sizes[i] {
-            return job;
-        }
-        job = job + 1;
-    }
-    64
+    jobs.iter().position(|job| job.total != job.job.size)
 }
 
-// The rows of the current flow, from its first one at `from` on.
+// What is kept of a flow when its rows end: the number of its first job whose total differs from its size.
+pub fn first_mismatch(jobs: &[JobState]) -> Option<u8>
+    requires { length jobs.now ≤ 64 }
+    ensures { result ≡ position (λ (job : JobState). not (job.total == job.job.size)) jobs.now }
+{
+    let i = first_unmet(jobs)?;
+    Some(i as u8)
+}
+
+// The rows of the current flow, from its first one at `from` on, with room lent for its jobs.
 pub fn walk_flow(
-    book: &[u8],
-    shut: &[u8],
-    table: &[u8],
+    current: &Current,
+    room: &mut [JobState],
     work: &mut [u8],
-    c: Current,
     from: usize,
-) -> FlowStop
-    requires { FlowBegins book.now (open_by shut.now) table.now work.old c from }
-    ensures { FlowWalked (book_of book.now) (open_by shut.now) table.now c.flow from work.old work.new result }
+) -> Result<FlowStop, Refusal>
+    requires { FlowBegins current.now.book.now.bytes.now (open_by current.now.shut.now) current.now.table.now work.old current.now.flow from × (current.now.head.jobs ≤ length room.old) }
+    ensures { FlowWalked (book_of current.now.book.now.bytes.now) (open_by current.now.shut.now) current.now.table.now current.now.flow from work.old work.new result }
 {
-    let mut sizes = [0u32; 64];
-    let mut caps = [0u16; 64];
-    row::load_jobs(book, c, &mut sizes, &mut caps);
-    let mut totals = [0u32; 64];
-    let mut ready = [65535u16; 64];
-    let w = walk_rows(
-        book,
-        shut,
-        table,
-        &sizes,
-        &caps,
-        &mut totals,
-        &mut ready,
-        work,
-        c,
-        from,
-    );
-    let verdict = w.verdict;
-    FlowStop {
-        verdict,
-        next: w.next,
-        finish: w.finish,
-        mismatch: first_mismatch(book, &sizes, &totals, c),
-    }
+    let jobs = &mut room[..usize::from(current.head.jobs)];
+    row::load_jobs(current, jobs);
+    let stop = walk_rows(current, jobs, work, from)?;
+    let mismatch = first_mismatch(jobs);
+    Ok(FlowStop {
+        next: stop.next,
+        end: FlowEnd {
+            mismatch,
+            finish: stop.finish,
+        },
+    })
 }
 
-// The number by which flows stand in service order.
+// The number by which flows stand in service order. As a number it has a next one, which the first row of the next flow
+// is to reach; a pair of deadline and flow would need an option beside it before the first row.
 pub fn service_key(deadline: u16, flow: u8) -> u32
     ensures { (result ≡ deadline * 64 + flow) × (result < 4194560) }
 {
-    deadline as u32 * 64 + flow as u32
+    u32::from(deadline) * 64 + u32::from(flow)
 }
 
-// 15 to 19 and 25 of all rows, flow by flow. A flow without rows has its mismatch at job 0.
-pub fn walk_flows(book: &[u8], shut: &[u8], table: &[u8], x: Index, work: &mut [u8]) -> Walked
-    requires { Ready book.now table.now work.old x }
-    ensures { TableWalked (book_of book.now) (open_by shut.now) table.now work.old work.new result }
+// 15 to 19 and 25 of all rows, flow by flow: what is kept of each flow. A flow without rows has its mismatch at job 0.
+pub fn walk_flows<'a>(
+    book: &'a Book<'a>,
+    shut: &'a [u8],
+    table: &'a [u8],
+    work: &mut [u8],
+) -> Result<[FlowEnd; 64], Refusal>
+    requires { Ready book.now.bytes.now table.now work.old }
+    ensures { TableWalked (book_of book.now.bytes.now) (open_by shut.now) table.now work.old work.new result }
 {
     bytes::clear(work);
-    let flows = x.flows;
-    let mut mismatch = [0u8; 64];
-    let mut finish = [0u16; 64];
+    let without_rows = FlowEnd {
+        mismatch: Some(0),
+        finish: 0,
+    };
+    // An array, since flows are stored in service order.
+    let mut ends = [without_rows; 64];
+    let mut room = [JobState::default(); 64];
+    let flows = book.flow_count();
     let mut least: u32 = 0;
-    let mut at = 8 + 2 * flows;
+    let mut at = TABLE_HEAD + 2 * flows;
+    // No `for` over rows: it goes on where the walk over a flow's rows stopped.
     while at < table.len() {
-        let r = row::read_row(table, at);
-        let f = bytes::wide(r.flow);
-        if flows <= f {
-            return Walked {
-                verdict: row::refused(15, r),
-                mismatch,
-                finish,
-            };
+        let r = Row::read(table, at);
+        let flow = usize::from(r.flow);
+        if flows <= flow {
+            return Err(Fault::RowRange.at(r.flow, r.job));
         }
-        let jobs = x.jobs[f];
-        let key = service_key(x.deadlines[f], r.flow);
-        let fault = row::standing_fault(shut, jobs, least, key, r);
-        if fault != 0 {
-            return Walked {
-                verdict: row::refused(fault, r),
-                mismatch,
-                finish,
-            };
-        }
-        let records = x.records[f];
-        let head = book::head_of(book, records, f);
-        let c = Current {
-            flow: f,
-            records,
-            jobs,
-            release: head.release,
-            processors: x.processors,
+        let head = book.head(flow);
+        let key = service_key(head.deadline, r.flow);
+        row::standing_fault(shut, head.jobs, least, key, r).map_err(|fault| fault.at(
+            r.flow, r.job,
+        ))?;
+        let current = Current {
+            book,
+            shut,
+            table,
+            flow,
+            head,
         };
-        let w = walk_flow(book, shut, table, work, c, at);
-        let v = w.verdict;
-        let Verdict::Pass = v else {
-            return Walked {
-                verdict: v,
-                mismatch,
-                finish,
-            };
-        };
-        mismatch[f] = w.mismatch;
-        finish[f] = w.finish;
-        at = w.next;
+        let stop = walk_flow(&current, &mut room, work, at)?;
+        ends[flow] = stop.end;
+        at = stop.next;
         least = key + 1;
     }
-    Walked {
-        verdict: Verdict::Pass,
-        mismatch,
-        finish,
-    }
+    Ok(ends)
 }

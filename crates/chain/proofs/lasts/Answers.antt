@@ -1,5 +1,5 @@
--- `chain::lasts` meets its contract: the two laws of `Durations`, one for each arm, with the quotient and what its product with the cap
--- leaves of the size. Assumes nothing.
+-- `chain::lasts` meets its contract: the two laws of `Durations`, one for each arm, with the quotient and what its
+-- product with the cap leaves of the size. Assumes nothing.
 use native.Mathlib.Nat.{div-mul-le_self, lt-div-mul-add, div-le_self}
 use native.Mathlib.Omega.{arith}
 use Rattle.chain.proofs.Durations.{lasts_even, lasts_uneven}
@@ -17,8 +17,8 @@ returns-then-rest-eq0 c p = let a = c.args in lasts_even _ _ p _ (omega arith) (
 pub overflow_add-result : goal.overflow_add-result
 overflow_add-result c = let a = c.args in omega (arith, div-le_self a.size a.cap)
 
-pub returns : goal.returns
-returns c p =
+pub returns-else-rest-eq0 : goal.returns-else-rest-eq0
+returns-else-rest-eq0 c p =
     let a = c.args in
     lasts_uneven
     _

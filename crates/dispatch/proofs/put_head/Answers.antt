@@ -9,12 +9,12 @@ use Rattle.dispatch.proofs.Calls.{head_stores}
 use native.Mathlib.Omega.{arith}
 use Rattle.dispatch.proofs.put_head.Goals as goal
 
-pub write16-requires : goal.write16-requires
-write16-requires c = simp length-set (omega arith)
+pub write-requires-2 : goal.write-requires-2
+write-requires-2 c = simp length-set (omega arith)
 
 pub returns : goal.returns
 returns c =
     let a = c.args in
-    c.write16.ensures
-    ∙ ap (λ (s : List ℕ). sets (set s 4 1) 5 (bytes_of 2 a.processors)) c.write32.ensures
+    c.write-2.ensures
+    ∙ ap (λ (s : List ℕ). sets (set s 4 1) 5 (bytes_of 2 a.processors)) c.write.ensures
     ∙ head_stores a.out.now a.size a.processors

@@ -1,88 +1,77 @@
--- One flow, from cut to cut. The invariant is `FlowKept`, that the jobs below `from` have ended, and that the lists are as long as they were; the
--- measure is what is left of the path. Assumes nothing.
-use mathlib.Core.Path.{refl}
-use Rattle.chain.proofs.Ended.{ended-none, ended-more, ended-later}
-use Rattle.place.proofs.FlowLoop.{flow-kept-first, flow-kept-next, flow-kept_stops, flow-kept-done, count-few, some-flow, run-here, parts_within, held_at, cut-within, path-held, path-fits}
+-- One flow, from cut to cut. Assumes nothing.
+use Rattle.chain.proofs.Ended.{ended-to-none, ended-to-more, ended-to-later}
+use Rattle.place.proofs.FlowLoop.{flow-kept-first, flow-kept-next, flow-kept_stops, flow-kept-done, count-few, run-here, parts_within, held_at, cut-within, path-held, path-fits}
 use native.Mathlib.Omega.{arith}
+use mathlib.Core.Path.{◌≡◌, refl}
+use lib.ListN.{length, length-take}
+use borrow.Author.Rules.{rules}
+use denote.Param.{number}
+use Rattle.place.specs.contracts.place_cuts.{LISTED-type}
 use Rattle.place.proofs.place_cuts.Goals as goal
 
 pub loop-t-init : goal.loop-t-init
-loop-t-init c = (
-  flow-kept-first c.requires.0 c.args.listed c.args.at c.args.out.now c.args.area.now (omega (arith, c.requires.5, c.requires.6))
-      c.requires.5,
-  ended-none _ _ _,
-  refl,
-  refl,
-  refl,
-)
+loop-t-init g c =
+    let v = c.requires in
+    record {
+      kept = flow-kept-first v.held (LISTED-type (number g.row.LISTED)) c.args.at c.args.out.now c.args.area.now (omega (arith, v.release_is, v.limit_behind)) v.release_is;
+      ended = ended-to-none _ _;
+    }
 
 pub skip_ended-from-requires : goal.skip_ended-from-requires
-skip_ended-from-requires c = (c.loop-t.invariant.1.within, c.requires.0.ends_whole)
+skip_ended-from-requires g c = c.loop-t.invariant.ended.within
 
 pub run_at-run-requires : goal.run_at-run-requires
-run_at-run-requires c =
-    let l = c.loop-t in
-    let v = c.requires in
-    let ended = ended-more _ _ _ _ _ l.invariant.1 c.skip_ended-from.ensures in (
-      count-few v.0,
-      v.0.caps_whole,
-      v.0.starts_whole,
-      v.0.ends_whole,
-      v.0.lasts_whole,
-      v.0.firsts_whole,
-      omega (arith, v.1, l.invariant.2),
-      omega (arith, v.2, l.invariant.3),
-      c.loop-t-test.true,
-      ended.within,
-      ended.ended,
-      some-flow v.0,
-    )
+run_at-run-requires g c =
+    (omega (arith, count-few c.requires.held), c.loop-t-test.true, ended-to-more _ _ _ _ c.loop-t.invariant.ended c.skip_ended-from.ensures)
 
 pub run_as-requires : goal.run_as-requires
-run_as-requires c =
-    let l = c.loop-t in
-    let k = l.invariant.0 in
+run_as-requires g c =
     let v = c.requires in
-    let few = parts_within v.0 c.run_at-run.ensures in (
-      held_at v.0 c.run_at-run.ensures v.4 (omega (arith, v.1, l.invariant.2)) (omega (arith, v.2, l.invariant.3)),
-      omega (arith, v.3, l.invariant.4),
-      omega (arith, v.8, k.area_length),
+    let k = c.loop-t.invariant.kept in
+    let parts : length c.run_at-run.new.parts ≡ 64 = search rules in
+    let rows : length c.loop-t.rows ≡ 64 = search rules in (
+      held_at v.held c.run_at-run.ensures c.run_at-run.new.parts refl refl c.args.book.now.processors_are (omega (arith, count-few v.held)),
+      rw length-take (omega arith),
+      omega (arith, v.area_whole, k.area_length),
       k.slot_to,
-      v.7,
+      v.limit_within,
       record {
-        offsets = λ t. omega (arith, v.9.offsets t, k.offset_if t, k.offset_to, k.slot_to, v.7);
-        nothing_lent = λ t. omega (arith, v.9.nothing_lent t, k.out_length);
+        offsets = λ t. omega (arith, v.room.offsets t, k.offset_if t, k.offset_to, k.slot_to, v.limit_within);
+        nothing_lent = λ t. omega (arith, v.room.nothing_lent t, k.out_length);
       },
     )
 
-pub returns-in_default : goal.returns-in_default
-returns-in_default c rows bytes used within =
+pub returns-in_err-placed : goal.returns-in_err-placed
+returns-in_err-placed g c rows bytes used within =
     let v = c.requires in
-    flow-kept_stops v.0 c.run_at-run.ensures _ c.loop-t.invariant.0 c.run_as.ensures c.in_default.is rows bytes used
-    (λ u. omega (arith, within u, v.4))
+    rw c.from_residual.ensures
+    (flow-kept_stops v.held c.run_at-run.ensures _ c.loop-t.invariant.kept c.run_as.ensures c.in_err-placed.was rows bytes used within)
 
 pub overflow_add-t : goal.overflow_add-t
-overflow_add-t c =
+overflow_add-t g c =
     let v = c.requires in
-    omega (arith, cut-within v.0 c.run_at-run.ensures, path-fits v.0)
+    omega (arith, cut-within v.held c.run_at-run.ensures, path-fits v.held)
 
 pub loop-t-smaller : goal.loop-t-smaller
-loop-t-smaller c =
-    omega (arith, (run-here c.requires.0 c.run_at-run.ensures).run.some, c.loop-t-test.true)
+loop-t-smaller g c = omega (arith, (run-here c.requires.held c.run_at-run.ensures).run.some, c.loop-t-test.true)
 
 pub loop-t-preserved : goal.loop-t-preserved
-loop-t-preserved c =
-    let l = c.loop-t in
-    let ended = ended-more _ _ _ _ _ l.invariant.1 c.skip_ended-from.ensures in (
-      flow-kept-next c.requires.0 c.run_at-run.ensures _ l.invariant.0 c.run_as.ensures c.in-To.is (omega arith) (omega arith),
-      ended-later _ _ _ _ _ (omega arith) ended,
-      omega (arith, l.invariant.2, c.run_at-run.auto.names),
-      omega (arith, l.invariant.3, c.run_at-run.auto.takes),
-      omega (arith, l.invariant.4, c.run_as.auto.rows),
-    )
+loop-t-preserved g c =
+    let i = c.loop-t.invariant in
+    record {
+      kept = flow-kept-next c.requires.held c.run_at-run.ensures _ i.kept c.run_as.ensures c.in_ok-placed.was (omega arith) (omega arith);
+      ended = ended-to-later _ _ _ _ (omega arith) (ended-to-more _ _ _ _ i.ended c.skip_ended-from.ensures);
+    }
 
 pub returns : goal.returns
-returns c rows bytes used within =
+returns g c rows bytes used within =
     let v = c.requires in
-    flow-kept-done v.0 v.7 (omega (arith, c.loop-t-test.false, path-held v.0)) c.loop-t.invariant.0 rows bytes used
-    (λ u. omega (arith, within u, v.4))
+    flow-kept-done v.held v.limit_within (omega (arith, c.loop-t-test.false, path-held v.held)) c.loop-t.invariant.kept rows bytes used within
+
+pub slice_bounds-parts-end : goal.slice_bounds-parts-end
+slice_bounds-parts-end g c = omega (arith, parts_within c.requires.held c.run_at-run.ensures, count-few c.requires.held)
+
+pub slice_bounds-run_as-end : goal.slice_bounds-run_as-end
+slice_bounds-run_as-end g c =
+    let parts : length c.run_at-run.new.parts ≡ 64 = search rules in
+    rw length-take (omega (arith, parts_within c.requires.held c.run_at-run.ensures, count-few c.requires.held))

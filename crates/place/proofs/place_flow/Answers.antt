@@ -1,64 +1,39 @@
--- One flow: its values are read out, and its lists are those that the cuts are placed by. Assumes nothing.
-use mathlib.Core.Path.{◌≡◌}
+-- One flow: its records are read out, and its pseudo-jobs are placed from cut to cut. Assumes nothing.
+use mathlib.Core.Path.{◌≡◌, ap, ◌∙◌}
 use native.Mathlib.Omega.{arith}
-use lib.ListN.{length}
-use Rattle.book.specs.Promise.{FlowJobs, flow_held}
-use Rattle.place.proofs.FlowLoop.{chain-asked, release-held, flow-held, flow-not-begun}
-use borrow.Author.Rules.{rules}
-use Rattle.chain.specs.Runs.{Ideal}
+use lib.ListN.{take, length-take}
+use Rattle.rules.specs.Book.{Flow, flow_of}
+use Rattle.rules.specs.Reading.{book_of}
+use Rattle.chain.specs.Alone.{JobsOf}
+use Rattle.chain.proofs.Alone.{jobs-read}
+use Rattle.place.proofs.FlowLoop.{records-fit, flow-not-begun}
 use Rattle.place.proofs.place_flow.Goals as goal
 
-pub ideal_of-path-requires : goal.ideal_of-path-requires
-ideal_of-path-requires c =
-    let jobs : FlowJobs = (flow_held c.load_flow-head.result c.load_flow-head.new.sizes c.load_flow-head.new.caps c.load_flow-head.new.predecessors) in
-    let sizes-long : length jobs.size ≡ 64 = search rules in
-    let caps-long : length jobs.cap ≡ 64 = search rules in
-    let predecessors-long : length jobs.predecessors ≡ 64 = search rules in
-    let a = c.args in
-    let few = c.load_flow-head.ensures.few in (
-      chain-asked a.book.now a.f a.records jobs c.requires.0 c.load_flow-head.ensures,
-      omega (arith, few, sizes-long),
-      omega (arith, few, caps-long),
-      omega (arith, few, predecessors-long),
-      few,
-      few,
-      few,
-      few,
-    )
+pub returns-then-limit-release : goal.returns-then-limit-release
+returns-then-limit-release g c rows bytes used within =
+    let s = c.args.book.now.bytes.now in
+    let release : c.from-release.result ≡ (flow_of (book_of s) c.args.f).release =
+    c.from-release.ensures ∙ ap (λ (w : Flow). w.release) c.flow-head.ensures.flow in
+    flow-not-begun s c.args.f c.args.limit c.args.book.now.passes c.requires.flow_in (omega (arith, c.if-limit-release.true)) rows bytes _ _ used
 
--- no slot from the release on is below the limit
-pub returns-then-stop-release : goal.returns-then-stop-release
-returns-then-stop-release c rows bytes used within =
-    let jobs : FlowJobs = (flow_held c.load_flow-head.result c.load_flow-head.new.sizes c.load_flow-head.new.caps c.load_flow-head.new.predecessors) in
-    let release = release-held c.args.book.now c.args.f c.args.records jobs c.requires.0 c.load_flow-head.ensures _
-    c.wide16-release.ensures.0 in
-    flow-not-begun c.args.book.now c.args.f c.args.limit c.requires.0.passes c.requires.0.flow_in_is
-    (omega (arith, c.if-stop-release.true, c.wide16-stop.ensures.0)) rows bytes _ _ used
+pub of-chain-requires : goal.of-chain-requires
+of-chain-requires g c =
+    let book = c.args.book.now in
+    let records : JobsOf (flow_of (book_of book.bytes.now) c.args.f) (take c.from.result c.flow-head.new.jobs) =
+    rw c.from.ensures (jobs-read _ c.flow-head.result _ c.flow-head.ensures.flow) in
+    (records-fit book.bytes.now c.args.f _ book.passes c.requires.flow_in records, rw length-take (omega (arith, c.from.ensures, c.flow-head.ensures.few)))
 
 pub place_cuts-requires : goal.place_cuts-requires
-place_cuts-requires c =
-    let jobs : FlowJobs = (flow_held c.load_flow-head.result c.load_flow-head.new.sizes c.load_flow-head.new.caps c.load_flow-head.new.predecessors) in
-    let ideal : Ideal = (let l = c.ideal_of-path.new in record { starts = l.starts; ends = l.all; lasts = l.last; firsts = l.firsts; path = c.ideal_of-path.result }) in
-    let caps-long : length jobs.cap ≡ 64 = search rules in
-    let starts-long : length ideal.starts ≡ 64 = search rules in
-    let ends-long : length ideal.ends ≡ 64 = search rules in
-    let lasts-long : length ideal.lasts ≡ 64 = search rules in
-    let firsts-long : length ideal.firsts ≡ 64 = search rules in
-    let load = c.load_flow-head in
-    let few = load.ensures.few in (
-      flow-held c.args.book.now c.args.f c.args.records jobs c.requires.0 load.ensures ideal c.ideal_of-path.ensures
-          caps-long starts-long ends-long lasts-long firsts-long,
-      few,
-      few,
-      few,
-      c.requires.1,
-      release-held c.args.book.now c.args.f c.args.records jobs c.requires.0 load.ensures _
-          c.wide16-release.ensures.0,
-      omega (arith, c.if-stop-release.false),
-      omega (arith, c.requires.2, c.wide16-stop.ensures.0),
-      c.requires.3,
-      c.requires.4,
-    )
-
-pub returns : goal.returns
-returns c = rw c.wide16-stop.ensures.0 at c.place_cuts.ensures
+place_cuts-requires g c =
+    let book = c.args.book.now in
+    let v = c.requires in
+    let records : JobsOf (flow_of (book_of book.bytes.now) c.args.f) (take c.from.result c.flow-head.new.jobs) =
+    rw c.from.ensures (jobs-read _ c.flow-head.result _ c.flow-head.ensures.flow) in
+    record {
+      held = record { passes = book.passes; flow_in_is = v.flow_in; held = c.of-chain.ensures _ records };
+      release_is = c.from-release.ensures ∙ ap (λ (w : Flow). w.release) c.flow-head.ensures.flow;
+      limit_behind = c.if-limit-release.false;
+      limit_within = v.limit_within;
+      area_whole = v.area_whole;
+      room = v.room;
+    }

@@ -1,11 +1,7 @@
--- The packed rows: none where none fits, else one after the other; those of the parts below q so far. Assumes nothing.
-use Prim.Native.Nat.{◌-◌, ◌≤◌}
+-- The packed rows: none where none fits, else one after the other; those of the parts before so far. Assumes nothing.
 use Rattle.place.specs.Service.{packed_rows}
 use Rattle.place.specs.Output.{Put}
 use Rattle.place.proofs.put_full.Given as goal
 
-abbrev pub invariant-loop-q : goal.invariant-loop-q
-invariant-loop-q l = (l.q ≤ l.parts) × Put l.initial.out l.at (packed_rows l.slot l.rows l.q) l.out l.next
-
-abbrev pub decreases-loop-q : goal.decreases-loop-q
-decreases-loop-q l = l.parts - l.q
+abbrev pub invariant-loop-row : goal.invariant-loop-row
+invariant-loop-row l = Put l.initial.out l.at (packed_rows l.slot l.rows l.row-index) l.out l.next

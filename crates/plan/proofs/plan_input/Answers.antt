@@ -1,4 +1,5 @@
--- `plan::plan_input` meets its contract: an input that is too long is refused by 1, and every other is answered by the planner, whose
+-- `plan::plan_input` meets its contract: an input that is too long is refused by 1, and every other is answered by the
+-- planner, whose
 -- outcome is printed as the rules say. Assumes nothing.
 use Prim.Native.Nat.{ℕ}
 use native.Mathlib.Omega.{arith}
@@ -11,10 +12,10 @@ use Rattle.plan_text.specs.Printed.{Prints, printed}
 use Rattle.plan_text.proofs.PrintedAnswers.{long-input_prints, call_prints}
 use Rattle.plan.proofs.plan_input.Goals as goal
 
-pub returns-then-input-gt65536 : goal.returns-then-input-gt65536
-returns-then-input-gt65536 c =
+pub returns-then-input-gt-LENT_BYTES : goal.returns-then-input-gt-LENT_BYTES
+returns-then-input-gt-LENT_BYTES c =
     let a = c.args in
-    long-input_prints a.input.now a.output.now (omega arith)
+    rw (c.into.ensures, c.nowhere.ensures) (long-input_prints a.input.now a.output.now (omega arith))
 
 pub returns : goal.returns
 returns c =

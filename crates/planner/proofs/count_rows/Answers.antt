@@ -1,22 +1,18 @@
--- The work area is cleared before and after, and the output's first 0 bytes are lent, so that the output stays. Assumes nothing.
-use mathlib.Core.List.{[]}
-use Rattle.calendar.specs.Held.{held_windows}
-use Rattle.place.specs.Order.{Asked}
-use Rattle.planner.proofs.Outcome.{asked-cleared, counted}
+-- The work area is cleared before and after, and the output's first 0 bytes are lent, so that the output stays. Assumes
+-- nothing.
 use native.Mathlib.Omega.{arith}
+use Rattle.std.proofs.lemmas.Result.{err_from_is_err_and}
+use Rattle.planner.proofs.Outcome.{cleared-unused, counted}
 use Rattle.planner.proofs.count_rows.Goals as goal
 
 pub place_first-first-requires : goal.place_first-first-requires
-place_first-first-requires c =
-    let cleared : Asked c.args.book.now (held_windows c.args.calendar) c.args.x c.args.order c.args.x.flows [] c.clear.new.work = let p = c.requires in
-    asked-cleared _ _ _ _ c.args.work.now _ p.0 p.1 p.2 (omega (arith, p.3)) c.clear.ensures in
-    cleared
+place_first-first-requires c = (omega (arith, c.flow_count.ensures.count), omega (arith, c.requires), cleared-unused _ c.clear.ensures)
+
+pub returns-in_err-first : goal.returns-in_err-first
+returns-in_err-first c =
+    let e = err_from_is_err_and c.from_residual.result c.from_residual.ensures.1 in
+    rw (e.1, e.2)
+    (counted _ _ c.flow_count.ensures.count c.flow_count.ensures.few c.clear.ensures (omega arith) c.in_err-first.ensures c.clear-2.ensures)
 
 pub returns : goal.returns
-returns c =
-    let cleared : Asked c.args.book.now (held_windows c.args.calendar) c.args.x c.args.order c.args.x.flows [] c.clear.new.work = let p = c.requires in
-    asked-cleared _ _ _ _ c.args.work.now _ p.0 p.1 p.2 (omega (arith, p.3)) c.clear.ensures in
-    let a = c.args in
-    counted a.book.now (held_windows a.calendar) a.x a.order a.output.now a.work.now _ _ _ _ _ c.place_first-first.result cleared
-    c.clear.ensures
-    (omega arith) c.place_first-first.ensures c.clear-2.ensures
+returns c = counted _ _ c.flow_count.ensures.count c.flow_count.ensures.few c.clear.ensures (omega arith) c.in_ok-first.ensures c.clear-2.ensures

@@ -1,25 +1,16 @@
 -- 12 where the first placing meets an infeasible flow, and otherwise what the second one leaves. Assumes nothing.
-use Rattle.rules.specs.Book.{with_calendar}
-use Rattle.rules.specs.Reading.{book_of}
-use Rattle.calendar.specs.Held.{held_windows}
-use Rattle.planner.proofs.Outcome.{asked-cleared, sized, leaves-infeasible, leaves_after}
+use Rattle.std.proofs.lemmas.Result.{err_from_is_err_and}
 use native.Mathlib.Omega.{arith}
+use Rattle.planner.proofs.Outcome.{cleared-unused, sized, leaves-infeasible, leaves_after}
 use Rattle.planner.proofs.plan_passing.Goals as goal
 
+pub returns-in_err-size : goal.returns-in_err-size
+returns-in_err-size c =
+    let e = err_from_is_err_and c.from_residual.result c.from_residual.ensures.1 in
+    rw (← c.of-turns.ensures.book, ← c.of-turns.ensures.calendar, e.1, e.2) (leaves-infeasible c.in_err-size.ensures)
+
 pub write_table-requires : goal.write_table-requires
-write_table-requires c = (
-  asked-cleared c.args.book.now _ _ _ c.args.work.now _ c.index_of-x.ensures c.requires.1 c.service_order-order.ensures
-      (omega (arith, c.requires.2)) c.count_rows-ended.ensures.area_zero,
-  sized (with_calendar (held_windows c.args.calendar) (book_of c.args.book.now)) c.args.output.now c.args.work.now _ _ c.count_rows-ended.result c.count_rows-ended.ensures _ c.in-Planned.is,
-)
+write_table-requires c = (omega (arith, c.requires), cleared-unused _ c.count_rows.ensures.area_zero, sized c.in_ok-size.ensures)
 
-pub returns-in-Infeasible : goal.returns-in-Infeasible
-returns-in-Infeasible c =
-    let a = c.args in
-    leaves-infeasible (with_calendar (held_windows c.args.calendar) (book_of c.args.book.now)) a.output.now a.work.now _ _ c.count_rows-ended.result c.count_rows-ended.ensures _ c.refusal.result
-    c.in-Infeasible.is c.refusal.ensures
-
-pub returns-in-Planned : goal.returns-in-Planned
-returns-in-Planned c =
-    let a = c.args in
-    leaves_after (with_calendar (held_windows c.args.calendar) (book_of c.args.book.now)) a.output.now a.work.now _ _ c.count_rows-ended.result c.count_rows-ended.ensures _ _ _ c.write_table.ensures
+pub returns : goal.returns
+returns c = rw (← c.of-turns.ensures.book, ← c.of-turns.ensures.calendar) (leaves_after c.count_rows.ensures c.write_table.ensures)

@@ -8,7 +8,7 @@ use mathlib.Core.List.{List}
 use lib.ListN.{length}
 use lib.Dec.{ltb, eqb, leb}
 use borrow.Author.Tests.{eqb-true}
-use Rattle.rules.specs.declared.Verdict.TheVariants.{Pass, Refused}
+use Rattle.rules.specs.Verdicts.{Pass, Refused}
 use Rattle.rules.specs.Fields.{byte, field, AllBytes}
 use Rattle.rules.specs.Answers.{none, first_fault}
 use Rattle.rules.specs.Limits.{outside, most_size, most_deadline, most_jobs, most_processors, most_flows}

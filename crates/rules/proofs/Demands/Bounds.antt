@@ -5,7 +5,7 @@ use Prim.Native.Nat.{ℕ, ◌+◌, ◌*◌, ◌≤◌}
 use mathlib.Core.List.{List}
 use native.Mathlib.Omega.{arith}
 use lib.ListN.{length}
-use Rattle.rules.specs.declared.Verdict.TheVariants.{Pass}
+use Rattle.rules.specs.Verdicts.{Pass}
 use Rattle.rules.specs.Walks.{sum_to}
 use Rattle.rules.specs.Book.{Book, InRange, flow_count, job_count, flow_of, job_of}
 use Rattle.rules.specs.Rows.{Row, total_of}

@@ -7,7 +7,7 @@ use mathlib.Core.Bool.{Bool, true, false, ◌&&◌}
 use mathlib.Core.List.{List, []}
 use lib.Dec.{leb}
 use borrow.Author.Tests.{leb-false}
-use Rattle.rules.specs.declared.Verdict.TheVariants.{Pass, Refused}
+use Rattle.rules.specs.Verdicts.{Pass, Refused}
 use Rattle.rules.specs.Answers.{none, check_refused}
 use Rattle.rules.specs.Calendar.{Calendar, is_open, calendar_fault}
 use Rattle.rules.specs.Book.{Flow, Book, with_calendar, flow_in, flow_of, usable}

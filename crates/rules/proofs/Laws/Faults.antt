@@ -7,8 +7,7 @@ use native.Mathlib.Nat.{not-suc-le-zero}
 use native.Mathlib.Omega.{arith}
 use lib.Dec.{eqb}
 use borrow.Author.Tests.{eq-eqb}
-use Rattle.rules.specs.declared.Verdict.{Verdict}
-use Rattle.rules.specs.declared.Verdict.TheVariants.{Pass, Refused}
+use Rattle.rules.specs.Verdicts.{Verdict, Pass, Refused}
 use Rattle.std.specs.Prelude.{if◌then◌else◌}
 use Rattle.rules.specs.Answers.{◌and_then◌, first_fault, number_of}
 use Rattle.rules.proofs.Laws.Walks.{last_or}

@@ -5,8 +5,7 @@ use Prim.Native.Nat.{ℕ, zero, suc}
 use mathlib.Core.Bool.{Bool}
 use mathlib.Core.List.{List, [], ◌∷◌}
 use lib.ListN.{length, get_or}
-use Rattle.rules.specs.declared.Verdict.{Verdict}
-use Rattle.rules.specs.declared.Verdict.TheVariants.{Pass, Refused}
+use Rattle.rules.specs.Verdicts.{Verdict, Pass, Refused}
 use Rattle.rules.specs.Walks.{count_to}
 use Rattle.rules.specs.Answers.{◌and_then◌, first_fault}
 use Rattle.rules.specs.Calendar.{Calendar, is_open}

@@ -9,8 +9,7 @@ use native.Mathlib.Omega.{arith}
 use lib.ListN.{length, take, get_or}
 use lib.Dec.{leb, eqb}
 use borrow.Author.Tests.{ltb-false, leb-false, eqb-false, eqb-true, le-ltb, lt-leb, eq-eqb, ne_eqb, not-false}
-use Rattle.rules.specs.declared.Verdict.{Verdict}
-use Rattle.rules.specs.declared.Verdict.TheVariants.{Pass, Refused}
+use Rattle.rules.specs.Verdicts.{Verdict, Pass, Refused}
 use Rattle.rules.specs.Answers.{none, ◌and_then◌, first_fault}
 use Rattle.rules.specs.Limits.{slots}
 use Rattle.rules.specs.Calendar.{Calendar, is_open}

@@ -1,6 +1,6 @@
 -- Which books pass: the encodings of values in range, and no other bytes; and what a version 1 book and a cap above P mean, in every call. Assumes nothing.
 use Rattle.std.specs.Prelude.{◌≡◌, ℕ, ◌≤◌, ◌<◌, List}
-use Rattle.rules.specs.declared.Verdict.TheVariants.{Refused}
+use Rattle.rules.specs.Verdicts.{Refused}
 use Rattle.rules.specs.Fields.{AllBytes}
 use Rattle.rules.specs.Calendar.{calendar_bytes}
 use Rattle.rules.specs.Book.{Book, flow_count, flow_in, flow_of, lowered, job_of, InRange}

@@ -1,6 +1,6 @@
 -- What is owed of calendars (02, Req 07), with and without windows. Assumes nothing.
 use Rattle.std.specs.Prelude.{◌≡◌, ℕ, ◌*◌, ◌≤◌, ◌<◌, Bool, true, false, List, [], leb}
-use Rattle.rules.specs.declared.Verdict.TheVariants.{Pass, Refused}
+use Rattle.rules.specs.Verdicts.{Pass, Refused}
 use Rattle.rules.specs.Answers.{none, plan_refused, check_refused, list_refused}
 use Rattle.rules.specs.Limits.{most_deadline}
 use Rattle.rules.specs.Calendar.{Calendar, is_open, open_before, no_windows, calendar_fault}

@@ -1,6 +1,6 @@
 -- Demand 2 of the table check: what it accepts, and that it accepts the plans. Assumes nothing.
 use Rattle.std.specs.Prelude.{◌≡◌, ℕ, ◌≤◌, ◌<◌, false, List, length, take, get_or}
-use Rattle.rules.specs.declared.Verdict.TheVariants.{Pass}
+use Rattle.rules.specs.Verdicts.{Pass}
 use Rattle.rules.specs.Fields.{AllBytes}
 use Rattle.rules.specs.Answers.{check_accepted, check_refused}
 use Rattle.rules.specs.Limits.{work_bytes, slots}

@@ -1,6 +1,6 @@
 -- What is owed of the finish of one flow (02, Req 05). Assumes nothing.
 use Rattle.std.specs.Prelude.{◌≡◌, ◌⊎◌, ℕ, ◌≤◌, ◌<◌, Bool, true, false, ◌||◌, List, length, eqb}
-use Rattle.rules.specs.declared.Verdict.TheVariants.{Pass, Refused}
+use Rattle.rules.specs.Verdicts.{Pass, Refused}
 use Rattle.rules.specs.Answers.{none, finish_accepted, finish_refused}
 use Rattle.rules.specs.Limits.{slots, work_bytes}
 use Rattle.rules.specs.Calendar.{calendar_fault}

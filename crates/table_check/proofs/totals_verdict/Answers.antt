@@ -1,24 +1,23 @@
--- `table_check::totals_verdict` meets its contract. The invariant: the flows so far pass. The measure is the flows left. Assumes nothing.
-use mathlib.Core.Path.{sym}
+-- `table_check::totals_verdict` meets its contract. The invariant: the flows so far pass. Assumes nothing.
+use mathlib.Core.Path.{sym, ap, ◌∙◌}
+use Rattle.table_check.specs.Tests.{mismatch_fault}
 use Rattle.table_check.specs.Walk.{mismatches_fault}
-use Rattle.table_check.proofs.Finals.{none_walked, one_walked, all_walked, stopped, mismatch-found, mismatch-none}
-use native.Mathlib.Omega.{arith}
+use Rattle.table_check.proofs.Finals.{none_walked, one_walked, stopped, mismatch_at}
 use Rattle.table_check.proofs.totals_verdict.Goals as goal
 
 pub loop-f-init : goal.loop-f-init
-loop-f-init c = (omega arith, none_walked _)
-
-pub returns-then-job-lt64 : goal.returns-then-job-lt64
 unfolding mismatches_fault
-returns-then-job-lt64 c =
+loop-f-init c = none_walked _
+
+pub returns-in-Some : goal.returns-in-Some
+unfolding mismatches_fault
+returns-in-Some c =
     let l = c.loop-f in
-    sym (stopped _ l.f _ 20 l.f _ c.loop-f-test.true l.invariant.1 (mismatch-found l.f _ c.if-job-lt64.true))
+    rw c.at.ensures
+    (sym (stopped _ l.f _ 20 l.f _ c.loop-f-test.true l.invariant (ap (mismatch_fault l.f) (mismatch_at c.args.ends.now l.f _ c.loop-f-test.true ∙ c.in-Some.is))))
 
 pub loop-f-preserved : goal.loop-f-preserved
+unfolding mismatches_fault
 loop-f-preserved c =
     let l = c.loop-f in
-    (omega arith, one_walked _ l.f l.invariant.1 (mismatch-none l.f _ c.if-job-lt64.false))
-
-pub returns : goal.returns
-unfolding mismatches_fault
-returns c = let l = c.loop-f in sym (all_walked _ l.f _ l.invariant.0 c.loop-f-test.false l.invariant.1)
+    one_walked _ l.f l.invariant (ap (mismatch_fault l.f) (mismatch_at c.args.ends.now l.f _ c.loop-f-test.true ∙ c.in_default.is))

@@ -1,14 +1,8 @@
--- `table_check::totals_verdict` meets its contract. The invariant: the flows so far pass. The measure is the flows left. Assumes nothing.
+-- `table_check::totals_verdict` meets its contract. The invariant: the flows so far pass. Assumes nothing.
 use mathlib.Core.Path.{◌≡◌}
-use Prim.Native.Nat.{◌-◌, ◌≤◌}
-use lib.ListN.{get_or}
-use Rattle.rules.specs.declared.Verdict.TheVariants.{Pass}
-use Rattle.rules.specs.Answers.{first_fault}
-use Rattle.table_check.specs.Tests.{mismatch_fault}
+use Rattle.rules.specs.Verdicts.{Pass}
+use Rattle.table_check.specs.Walk.{mismatches_of, mismatches_fault}
 use Rattle.table_check.proofs.totals_verdict.Given as goal
 
 abbrev pub invariant-loop-f : goal.invariant-loop-f
-invariant-loop-f l = (l.f ≤ l.flows) × (first_fault (λ g. mismatch_fault g (get_or l.mismatch g 0)) l.f ≡ Pass)
-
-abbrev pub decreases-loop-f : goal.decreases-loop-f
-decreases-loop-f l = l.flows - l.f
+invariant-loop-f l = mismatches_fault (mismatches_of l.ends) l.f ≡ Pass

@@ -1,44 +1,36 @@
--- The flows passed have listed their rows of the slot, and their cursors are behind it. Assumes nothing.
-use mathlib.Core.Path.{◌≡◌, refl, sym}
+-- The flows passed have listed their rows of the slot, and their cursors are past it. Assumes nothing.
+use mathlib.Core.Path.{◌≡◌, sym, ◌∙◌}
 use Prim.Native.Nat.{suc, ◌+◌}
 use Rattle.rules.specs.Walks.{join_from}
 use Rattle.rules.specs.Book.{flow_count}
-use Rattle.rules.specs.Reading.{book_of}
-use Rattle.dispatch.specs.Merge.{accepted_rows, rows_in, offset_after}
-use Rattle.dispatch.proofs.Listing.{slot_next, flow-room}
-use Rattle.dispatch.proofs.Steps.{cursors-next, listed-none, listed-append}
-use borrow.Author.Rules.{rules}
+use Rattle.dispatch.specs.Merge.{book_beside, rows_in}
+use Rattle.dispatch.proofs.Listing.{slot_next}
+use Rattle.dispatch.proofs.Steps.{flow_asked, cursors-moved, cursors-next, listed-none, listed-append}
 use native.Mathlib.Omega.{arith}
 use Rattle.dispatch.proofs.merge.list_slot.Goals as goal
 
-pub loop-f-init : goal.loop-f-init
+pub loop-cursor-init : goal.loop-cursor-init
 unfolding rows_in join_from
-loop-f-init c = (search rules, refl, c.requires.0.cursors, listed-none _ _)
+loop-cursor-init c = (c.requires.cursors_are, listed-none _ _)
 
 pub list_flow-next-requires : goal.list_flow-next-requires
-unfolding offset_after
 list_flow-next-requires c =
-    let a = c.args in
-    let l = c.loop-f in (
-      record { accepted = c.requires.0.accepted; a_slot = c.requires.0.a_slot; cursors = l.invariant.2 },
-      c.requires.1,
-      omega (arith, c.requires.2),
-      omega (arith, l.invariant.1, l.invariant.3.next_is, flow-room (accepted_rows a.book.now a.table.now) a.slot l.f a.flows (omega arith), c.requires.3),
-    )
+    let l = c.loop-cursor in
+    flow_asked c.args.table.now c.requires (omega arith) l.invariant.0 l.invariant.1
 
-pub loop-f-preserved : goal.loop-f-preserved
-loop-f-preserved c =
-    let l = c.loop-f in
+pub loop-cursor-preserved : goal.loop-cursor-preserved
+loop-cursor-preserved c =
+    let l = c.loop-cursor in
+    let f = l.cursor-index in
     let r = c.list_flow-next.ensures in
-    let e : suc l.f ≡ l.f + 1 = omega arith in (
-      search rules,
-      search rules,
-      rw e at r.cursors,
-      rw (sym e, slot_next) (listed-append l.invariant.3 r.listed),
+    let own = l.invariant.0.own f (omega (arith, l.invariant.0.one_each)) in
+    let e : suc f ≡ f + 1 = omega arith in (
+      cursors-moved _ _ _ _ (omega arith) _ _ (r.flow_is ∙ own) l.invariant.0 r.cursor,
+      rw (sym e, slot_next) (listed-append l.invariant.1 (rw own at r.listed)),
     )
 
 pub returns : goal.returns
 returns c =
-    let l = c.loop-f in
-    let all : l.f ≡ flow_count (book_of c.args.book.now) = omega (arith, c.requires.2) in
-    record { cursors = cursors-next _ _ _ _ _ (rw all at l.invariant.2); listed = rw all at l.invariant.3 }
+    let l = c.loop-cursor in
+    let all : l.cursor-index ≡ flow_count (book_beside c.args.table.now) = omega (arith, l.invariant.0.one_each) in
+    record { cursors_are = cursors-next _ _ _ _ (rw all at l.invariant.0); listed = rw all at l.invariant.1 }

@@ -1,71 +1,50 @@
--- The slots passed are listed. While the list is longer a slot is left; when it is not, what is listed is the list. Assumes nothing.
-use mathlib.Core.Path.{◌≡◌, refl, sym, ap, ◌∙◌}
-use Prim.Native.Nat.{suc, ◌+◌, ◌<◌}
+-- The slots passed are listed. While a row is left a slot is left; when none is, what is listed is the list. Assumes
+-- nothing.
+use mathlib.Core.Path.{◌≡◌, sym, ap, ◌∙◌}
+use Prim.Native.Nat.{suc, ◌+◌}
 use mathlib.Core.List.{List}
+use lib.ListN.{length, length-map}
 use lib.Seq.{sets}
 use Rattle.rules.specs.Walks.{join_from}
-use Rattle.rules.specs.Limits.{slots}
 use Rattle.rules.specs.Rows.{Row}
-use Rattle.rules.specs.Table.{rows_bytes}
-use Rattle.rules.specs.Dispatch.{list_length}
-use Rattle.dispatch.specs.Merge.{rows_below, offset_after}
-use Rattle.dispatch.proofs.Listing.{whole-front, slot-left, below_next, slot-room}
-use Rattle.dispatch.proofs.Steps.{listed-none, listed-append}
-use borrow.Author.Rules.{rules}
+use Rattle.rules.specs.Table.{row_bytes, rows_bytes}
+use Rattle.dispatch.specs.Merge.{rows_of, rows_below}
+use Rattle.dispatch.proofs.Listing.{whole-front, below_next}
+use Rattle.dispatch.proofs.Steps.{slot_asked, listed-none, listed-append}
 use native.Mathlib.Omega.{arith}
 use Rattle.dispatch.proofs.merge.merge.Goals as goal
 
-pub loop-to-init : goal.loop-to-init
+pub loop-count-init : goal.loop-count-init
 unfolding rows_below join_from
-loop-to-init c =
-    (search rules, refl, c.requires.0.cursors, listed-none 7 c.args.out.now)
+loop-count-init c = (omega arith, c.requires.0, listed-none _ _)
 
-pub list_used-to-requires : goal.list_used-to-requires
-unfolding offset_after list_length
-list_used-to-requires c =
-    let left : c.loop-to.slot < slots = let l = c.loop-to in
-    slot-left _ _ c.requires.0.accepted l.slot l.invariant.0 (omega (arith, l.invariant.3.next_is, c.requires.4)) in
-    let l = c.loop-to in
-    let p = c.requires in
-    let a_slot = left in (
-      record { accepted = p.0.accepted; a_slot = a_slot; cursors = l.invariant.2 },
-      p.1,
-      p.2,
-      p.3,
-      rw p.3 (omega (arith, l.invariant.1, l.invariant.3.next_is, slot-room _ _ p.0.accepted l.slot a_slot, p.4, p.5)),
-    )
+pub list_used-count-requires : goal.list_used-count-requires
+list_used-count-requires c =
+    let i = c.loop-count.invariant in
+    (slot_asked c.args.table.now c.requires.2 i.0 c.loop-count-test.true i.1 i.2, c.requires.1)
 
-pub overflow_add-slot : goal.overflow_add-slot
-unfolding offset_after list_length
-overflow_add-slot c =
-    let left : c.loop-to.slot < slots = let l = c.loop-to in
-    slot-left _ _ c.requires.0.accepted l.slot l.invariant.0 (omega (arith, l.invariant.3.next_is, c.requires.4)) in
-    omega (arith, left)
+pub loop-count-smaller : goal.loop-count-smaller
+loop-count-smaller c =
+    let i = c.loop-count.invariant in
+    omega (arith, (slot_asked c.args.table.now c.requires.2 i.0 c.loop-count-test.true i.1 i.2).a_slot)
 
-pub loop-to-smaller : goal.loop-to-smaller
-unfolding offset_after list_length
-loop-to-smaller c =
-    let left : c.loop-to.slot < slots = let l = c.loop-to in
-    slot-left _ _ c.requires.0.accepted l.slot l.invariant.0 (omega (arith, l.invariant.3.next_is, c.requires.4)) in
-    omega (arith, left)
-
-pub loop-to-preserved : goal.loop-to-preserved
-unfolding offset_after list_length
-loop-to-preserved c =
-    let left : c.loop-to.slot < slots = let l = c.loop-to in
-    slot-left _ _ c.requires.0.accepted l.slot l.invariant.0 (omega (arith, l.invariant.3.next_is, c.requires.4)) in
-    let l = c.loop-to in
-    let r = c.list_used-to.ensures in
+pub loop-count-preserved : goal.loop-count-preserved
+loop-count-preserved c =
+    let t = c.args.table.now in
+    let l = c.loop-count in
+    let i = l.invariant in
+    let r = c.list_used-count.ensures in
     let e : suc l.slot ≡ l.slot + 1 = omega arith in (
-      omega (arith, left),
-      search rules,
-      rw e at r.cursors,
-      rw (sym e, below_next _ _ c.requires.0.accepted) (listed-append l.invariant.3 r.listed),
+      omega (arith, (slot_asked t c.requires.2 i.0 c.loop-count-test.true i.1 i.2).a_slot),
+      rw e at r.cursors_are,
+      rw (sym e, below_next _ _ t.accepted) (listed-append i.2 r.listed),
     )
 
 pub returns : goal.returns
-unfolding offset_after list_length
 returns c =
-    let l = c.loop-to in
-    l.invariant.3.written
-    ∙ ap (λ (r : List Row). sets c.args.out.now 7 (rows_bytes r)) (whole-front _ _ c.requires.0.accepted l.slot l.invariant.0 (omega (arith, l.invariant.3.next_is, c.requires.4)))
+    let t = c.args.table.now in
+    let l = c.loop-count in
+    let all = ap length t.rows_are ∙ length-map (rows_of t) row_bytes in
+    l.invariant.2.written
+    ∙ ap (λ (r : List Row). sets c.args.out.now 0 (rows_bytes r))
+    (whole-front _ _ t.accepted l.slot l.invariant.0 (omega (arith, all, l.invariant.2.next_is)))

@@ -1,70 +1,83 @@
--- The rows passed are a run, sixteen more each time, and they are copied. Assumes nothing.
-use mathlib.Core.Path.{◌≡◌, sym, ◌∙◌}
-use Prim.Native.Nat.{◌+◌, ◌*◌, ◌≤◌, ◌<◌}
-use lib.ListN.{length}
-use Rattle.dispatch.specs.Runs.{RunTo}
-use Rattle.dispatch.proofs.Runs.{going-none, going-copied, going_more, going-inside, going-whole, going-fits, going_block}
+-- The blocks passed are of the run, and they are copied. Assumes nothing.
+use mathlib.Core.Path.{◌≡◌, sym, ap, ◌∙◌}
+use mathlib.Core.List.{List, []}
+use Prim.Native.Nat.{ℕ, ◌+◌, ◌*◌, ◌≤◌}
+use lib.ListN.{length, get_or, length-take, length-drop}
+use Rattle.std.specs.Prelude.{Some}
+use Rattle.std.specs.List.{flat_map}
+use Rattle.dispatch.specs.Runs.{due_of, due_at}
+use Rattle.dispatch.proofs.Runs.{chunk-at, block-long, due-same, due-differs, due-block, due-inside, run_block, going-none, going-copied, going_block}
 use native.Mathlib.Omega.{arith}
 use Rattle.dispatch.proofs.run.copy_blocks.Goals as goal
 
-pub loop-out-init : goal.loop-out-init
-loop-out-init c = going-none _ _ _ _ _ _
+pub loop-k-init : goal.loop-k-init
+loop-k-init c = going-none _ _ _ _
 
-pub overflow_add-from : goal.overflow_add-from
-overflow_add-from c =
-    let inside : (c.args.from + c.loop-out.done ≤ length c.args.table.now) × (length c.args.table.now < 4294967296) = (going-inside _ _ _ _ _ _ c.requires c.loop-out.invariant, c.requires.short) in
-    omega (arith, inside)
+pub returns-then-ne : goal.returns-then-ne
+returns-then-ne c =
+    let a = c.args in
+    let last =
+    c.due_of.ensures
+    ∙ ap (λ (b : List (List (List ℕ))). due_of (get_or (get_or b c.loop-k.k []) 15 []) a.flow) c.as_chunks.ensures.front
+    ∙ due-block a.rows.now c.loop-k.k a.flow (omega (arith, c.as_chunks.ensures.front_len)) in
+    record { some = going-copied _ _ _ _ c.loop-k.invariant; few_left = λ e. due-differs _ _ (sym c.if-ne.ensures) (last ∙ e) }
 
-pub overflow_add-from-in-loop-out : goal.overflow_add-from-in-loop-out
-overflow_add-from-in-loop-out c =
-    let inside : (c.args.from + c.loop-out.done ≤ length c.args.table.now) × (length c.args.table.now < 4294967296) = (going-inside _ _ _ _ _ _ c.requires c.loop-out.invariant, c.requires.short) in
-    omega (arith, inside)
-
-pub due_at-requires : goal.due_at-requires
-due_at-requires c =
-    let at = c.args.from + c.loop-out.done in
-    let z : at + 6 * 15 ≡ at + 90 = omega arith in
-    rw z at (going-whole _ _ _ _ _ _ c.requires c.loop-out.invariant 15)
-
-pub overflow_add-from-in-loop-out-2 : goal.overflow_add-from-in-loop-out-2
-overflow_add-from-in-loop-out-2 c =
-    let inside : (c.args.from + c.loop-out.done ≤ length c.args.table.now) × (length c.args.table.now < 4294967296) = (going-inside _ _ _ _ _ _ c.requires c.loop-out.invariant, c.requires.short) in
-    omega (arith, inside)
-
-pub overflow_add-to : goal.overflow_add-to
-overflow_add-to c =
-    let block : (let a = c.args in RunTo a.table.now a.flow a.slot a.from (a.from + c.loop-out.done + 96)) = going_block _ _ _ _ _ _ c.requires c.loop-out.invariant (sym c.due_at.ensures ∙ c.loop-out-test.true) in
-    let fits : (c.args.from + c.loop-out.done + 96 ≤ length c.args.table.now) × (c.args.to + c.loop-out.done + 96 ≤ length c.loop-out.out) = going-fits _ _ _ _ _ _ c.requires c.loop-out.invariant 96 block in
+pub slice_bounds-copy_from_slice-end : goal.slice_bounds-copy_from_slice-end
+slice_bounds-copy_from_slice-end c =
+    let a = c.args in
+    let last : due_at a.rows.now (16 * c.loop-k.k + 15) a.flow ≡ Some a.slot =
+    sym
+    (c.due_of.ensures
+    ∙ ap (λ (b : List (List (List ℕ))). due_of (get_or (get_or b c.loop-k.k []) 15 []) a.flow) c.as_chunks.ensures.front
+    ∙ due-block a.rows.now c.loop-k.k a.flow (omega (arith, c.as_chunks.ensures.front_len)))
+    ∙ due-same _ _ (sym c.if-ne.ensures) in
+    let fits : 96 * c.loop-k.k + 96 ≤ length c.loop-k.out =
+    omega (arith, c.requires.fits (16 * c.loop-k.k + 16) (run_block _ _ _ _ c.requires (16 * c.loop-k.k) last), c.loop-k.invariant.kept) in
     omega (arith, fits)
 
-pub copy_bytes-requires : goal.copy_bytes-requires
-copy_bytes-requires c =
-    let block : (let a = c.args in RunTo a.table.now a.flow a.slot a.from (a.from + c.loop-out.done + 96)) = going_block _ _ _ _ _ _ c.requires c.loop-out.invariant (sym c.due_at.ensures ∙ c.loop-out-test.true) in
-    let fits : (c.args.from + c.loop-out.done + 96 ≤ length c.args.table.now) × (c.args.to + c.loop-out.done + 96 ≤ length c.loop-out.out) = going-fits _ _ _ _ _ _ c.requires c.loop-out.invariant 96 block in
-    fits
+pub slice_bounds-as_flattened-end : goal.slice_bounds-as_flattened-end
+slice_bounds-as_flattened-end c =
+    let long =
+    ap (λ (b : List (List (List ℕ))). length (get_or b c.loop-k.k [])) c.as_chunks.ensures.front
+    ∙ block-long c.args.rows.now c.loop-k.k (omega (arith, c.as_chunks.ensures.front_len)) in
+    omega (arith, long)
 
-pub overflow_add-done : goal.overflow_add-done
-overflow_add-done c =
-    let inside : (c.args.from + c.loop-out.done ≤ length c.args.table.now) × (length c.args.table.now < 4294967296) = (going-inside _ _ _ _ _ _ c.requires c.loop-out.invariant, c.requires.short) in
-    let block : (let a = c.args in RunTo a.table.now a.flow a.slot a.from (a.from + c.loop-out.done + 96)) = going_block _ _ _ _ _ _ c.requires c.loop-out.invariant (sym c.due_at.ensures ∙ c.loop-out-test.true) in
-    let fits : (c.args.from + c.loop-out.done + 96 ≤ length c.args.table.now) × (c.args.to + c.loop-out.done + 96 ≤ length c.loop-out.out) = going-fits _ _ _ _ _ _ c.requires c.loop-out.invariant 96 block in
-    omega (arith, fits, inside)
+pub copy_from_slice-requires : goal.copy_from_slice-requires
+copy_from_slice-requires c =
+    let a = c.args in
+    let long =
+    ap (λ (b : List (List (List ℕ))). length (get_or b c.loop-k.k [])) c.as_chunks.ensures.front
+    ∙ block-long a.rows.now c.loop-k.k (omega (arith, c.as_chunks.ensures.front_len)) in
+    let last : due_at a.rows.now (16 * c.loop-k.k + 15) a.flow ≡ Some a.slot =
+    sym
+    (c.due_of.ensures
+    ∙ ap (λ (b : List (List (List ℕ))). due_of (get_or (get_or b c.loop-k.k []) 15 []) a.flow) c.as_chunks.ensures.front
+    ∙ due-block a.rows.now c.loop-k.k a.flow (omega (arith, c.as_chunks.ensures.front_len)))
+    ∙ due-same _ _ (sym c.if-ne.ensures) in
+    let fits : 96 * c.loop-k.k + 96 ≤ length c.loop-k.out =
+    omega (arith, c.requires.fits (16 * c.loop-k.k + 16) (run_block _ _ _ _ c.requires (16 * c.loop-k.k) last), c.loop-k.invariant.kept) in
+    omega (arith, fits, long, c.as_flattened.ensures.len, length-take {A = ℕ}, length-drop {A = ℕ})
 
-pub loop-out-smaller : goal.loop-out-smaller
-loop-out-smaller c =
-    let block : (let a = c.args in RunTo a.table.now a.flow a.slot a.from (a.from + c.loop-out.done + 96)) = going_block _ _ _ _ _ _ c.requires c.loop-out.invariant (sym c.due_at.ensures ∙ c.loop-out-test.true) in
-    let fits : (c.args.from + c.loop-out.done + 96 ≤ length c.args.table.now) × (c.args.to + c.loop-out.done + 96 ≤ length c.loop-out.out) = going-fits _ _ _ _ _ _ c.requires c.loop-out.invariant 96 block in
-    omega (arith, fits)
-
-pub loop-out-preserved : goal.loop-out-preserved
-loop-out-preserved c =
-    let block : (let a = c.args in RunTo a.table.now a.flow a.slot a.from (a.from + c.loop-out.done + 96)) = going_block _ _ _ _ _ _ c.requires c.loop-out.invariant (sym c.due_at.ensures ∙ c.loop-out-test.true) in
-    going_more _ _ _ _ _ _ 96 block c.copy_bytes.ensures c.loop-out.invariant
-
-pub overflow_add-result : goal.overflow_add-result
-overflow_add-result c =
-    let inside : (c.args.from + c.loop-out.done ≤ length c.args.table.now) × (length c.args.table.now < 4294967296) = (going-inside _ _ _ _ _ _ c.requires c.loop-out.invariant, c.requires.short) in
-    omega (arith, inside)
+pub loop-k-preserved : goal.loop-k-preserved
+loop-k-preserved c =
+    let a = c.args in
+    let last : due_at a.rows.now (16 * c.loop-k.k + 15) a.flow ≡ Some a.slot =
+    sym
+    (c.due_of.ensures
+    ∙ ap (λ (b : List (List (List ℕ))). due_of (get_or (get_or b c.loop-k.k []) 15 []) a.flow) c.as_chunks.ensures.front
+    ∙ due-block a.rows.now c.loop-k.k a.flow (omega (arith, c.as_chunks.ensures.front_len)))
+    ∙ due-same _ _ (sym c.if-ne.ensures) in
+    let block =
+    ap (λ (b : List (List (List ℕ))). get_or b c.loop-k.k []) c.as_chunks.ensures.front
+    ∙ chunk-at 16 _ a.rows.now c.loop-k.k (omega (arith, c.as_chunks.ensures.front_len)) in
+    going_block _ _ _ _ _ _ _ (record { six = c.told-rows }) c.requires last (omega arith)
+    (c.copy_from_slice.ensures.after ∙ c.as_flattened.ensures.value ∙ ap (flat_map (λ (r : List ℕ). r)) block) c.loop-k.invariant
 
 pub returns : goal.returns
-returns c = record { some = going-copied _ _ _ _ _ _ c.loop-out.invariant; few_left = λ e. c.loop-out-test.false (c.due_at.ensures ∙ e) }
+returns c =
+    let a = c.args in
+    let all : c.loop-k.k ≡ length c.as_chunks.result.0.now = omega arith in
+    record {
+      some = rw all at (going-copied _ _ _ _ c.loop-k.invariant);
+      few_left = λ e. let i = due-inside a.rows.now _ a.flow a.slot e in absurd (omega (arith, c.as_chunks.ensures.front_len));
+    }

@@ -1,11 +1,7 @@
--- The rows passed are a run, sixteen more each time, and they are copied. Assumes nothing.
-use Prim.Native.Nat.{◌+◌, ◌-◌}
-use lib.ListN.{length}
+-- The blocks passed are of the run, and they are copied. Assumes nothing.
+use Prim.Native.Nat.{◌*◌}
 use Rattle.dispatch.proofs.Runs.{Going}
 use Rattle.dispatch.proofs.run.copy_blocks.Given as goal
 
-abbrev pub invariant-loop-out : goal.invariant-loop-out
-invariant-loop-out l = Going l.table l.flow l.slot l.from l.to l.initial.out l.out l.done
-
-abbrev pub decreases-loop-out : goal.decreases-loop-out
-decreases-loop-out l = length l.table - (l.from + l.done)
+abbrev pub invariant-loop-k : goal.invariant-loop-k
+invariant-loop-k l = Going l.rows l.flow l.slot l.initial.out l.out (16 * l.k)

@@ -1,23 +1,27 @@
--- Behind the blocks of a run fewer than sixteen rows are left, which are copied one by one; together they are the run. Assumes nothing.
-use mathlib.Core.Path.{refl}
-use Rattle.dispatch.proofs.Runs.{fewer, copied-append, copied-length, run-copied, room_after, offset-inside}
+-- Behind the blocks of a run fewer than sixteen rows are left, which are copied one by one; together they are the
+-- run. Assumes nothing.
+use mathlib.Core.Path.{◌≡◌, sym, ◌∙◌}
+use Rattle.std.specs.Prelude.{Some}
+use Rattle.dispatch.specs.Runs.{due_at}
+use Rattle.dispatch.proofs.Runs.{behind, rest_is, due-drop, run-inside, rest_asked, fewer, run-copied, run-copied-behind}
 use native.Mathlib.Omega.{arith}
 use Rattle.dispatch.proofs.run.copy_long.Goals as goal
 
-pub overflow_sub-at : goal.overflow_sub-at
-overflow_sub-at c = omega (arith, c.copy_blocks-at.ensures.some.reaches.at_is)
+pub slice_bounds-copy_some-count : goal.slice_bounds-copy_some-count
+slice_bounds-copy_some-count c = run-inside _ _ _ _ c.copy_blocks-count.ensures.some.each
 
-pub overflow_add-to : goal.overflow_add-to
-overflow_add-to c =
-    omega (arith, offset-inside _ _ _ _ _ _ c.requires _ c.copy_blocks-at.ensures.some.reaches)
+pub slice_bounds-copy_some-start : goal.slice_bounds-copy_some-start
+slice_bounds-copy_some-start c = let i = run-inside _ _ _ _ c.copy_blocks-count.ensures.some.each in omega (arith, i)
 
 pub copy_some-requires : goal.copy_some-requires
-copy_some-requires c =
-    let some = c.copy_blocks-at.ensures.some in
-    (rw (copied-length some) (room_after _ _ _ _ _ _ c.requires _ _ refl some.reaches), refl)
+copy_some-requires c = rest_asked (record { six = c.told-rows }) c.requires c.copy_blocks-count.ensures.some
 
 pub returns : goal.returns
 returns c =
-    let p = c.copy_blocks-at.ensures in
+    let a = c.args in
+    let p = c.copy_blocks-count.ensures in
     let q = c.copy_some.ensures in
-    run-copied (copied-append refl p.some q.some) (q.ends (fewer _ _ _ _ _ q.some.reaches p.few_left))
+    let n = c.copy_blocks-count.result in
+    let last : due_at (behind a.rows.now n) 15 a.flow ≡ Some a.slot → ⊥ =
+    rw (rest_is a.rows.now n) (λ e. p.few_left (sym (due-drop a.rows.now n 15 a.flow) ∙ e)) in
+    run-copied-behind (record { six = c.told-rows }) c.requires p.some (run-copied q.some (q.ends (fewer _ _ _ _ q.some.each last)))

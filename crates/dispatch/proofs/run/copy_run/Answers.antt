@@ -1,25 +1,29 @@
--- A flow of many jobs goes by blocks at once; of another one the first eight rows are copied one by one, which mostly are all. Assumes nothing.
-use mathlib.Core.Path.{◌≡◌}
-use Prim.Native.Nat.{◌+◌, ◌-◌}
-use Rattle.dispatch.proofs.Runs.{copied-length, run-copied, run-copied-behind, room_after, offset-inside}
+-- A flow of many jobs goes by blocks at once; of another one the first rows are copied one by one, which mostly are
+-- all. Assumes nothing.
+use mathlib.Core.Path.{ap}
+use lib.ListN.{length, length-drop}
+use Rattle.dispatch.proofs.Runs.{rest_is, run-inside, rest_asked, run-copied, run-copied-behind}
 use native.Mathlib.Omega.{arith}
 use Rattle.dispatch.proofs.run.copy_run.Goals as goal
 
-pub returns-then-next-from : goal.returns-then-next-from
-returns-then-next-from c = let q = c.copy_some-next.ensures in run-copied q.some (q.ends c.if-next-from.true)
+pub returns-then-count-lt-FEW : goal.returns-then-count-lt-FEW
+returns-then-count-lt-FEW c = let q = c.copy_some-count.ensures in run-copied q.some (q.ends c.if-count-lt-FEW.true)
 
-pub overflow_add-to : goal.overflow_add-to
-overflow_add-to c =
-    let behind : (let a = c.args in a.to + 48 ≡ a.to + (c.copy_some-next.result - a.from)) = omega (arith, c.copy_some-next.ensures.within, c.if-next-from.false) in
-    omega (arith, behind, offset-inside _ _ _ _ _ _ c.requires _ c.copy_some-next.ensures.some.reaches)
+pub slice_bounds-copy_long-count : goal.slice_bounds-copy_long-count
+slice_bounds-copy_long-count c = run-inside _ _ _ _ c.copy_some-count.ensures.some.each
+
+pub slice_bounds-copy_long-start : goal.slice_bounds-copy_long-start
+slice_bounds-copy_long-start c = let i = run-inside _ _ _ _ c.copy_some-count.ensures.some.each in omega (arith, i)
 
 pub copy_long-requires-2 : goal.copy_long-requires-2
-copy_long-requires-2 c =
-    let behind : (let a = c.args in a.to + 48 ≡ a.to + (c.copy_some-next.result - a.from)) = omega (arith, c.copy_some-next.ensures.within, c.if-next-from.false) in
-    let some = c.copy_some-next.ensures.some in
-    rw (copied-length some) (room_after _ _ _ _ _ _ c.requires _ _ behind some.reaches)
+copy_long-requires-2 c = rest_asked (record { six = c.told-rows }) c.requires c.copy_some-count.ensures.some
+
+pub overflow_add-result : goal.overflow_add-result
+overflow_add-result c =
+    let a = c.args in
+    let n = c.copy_some-count.result in
+    let more = run-inside _ _ _ _ c.copy_long-2.ensures.run.each in
+    omega (arith, run-inside _ _ _ _ c.copy_some-count.ensures.some.each, more, ap length (rest_is a.rows.now n), length-drop n a.rows.now)
 
 pub returns : goal.returns
-returns c =
-    let behind : (let a = c.args in a.to + 48 ≡ a.to + (c.copy_some-next.result - a.from)) = omega (arith, c.copy_some-next.ensures.within, c.if-next-from.false) in
-    run-copied-behind behind c.copy_some-next.ensures.some c.copy_long-2.ensures
+returns c = run-copied-behind (record { six = c.told-rows }) c.requires c.copy_some-count.ensures.some c.copy_long-2.ensures

@@ -1,24 +1,17 @@
--- Each arm is one case of the definition. Assumes nothing.
-use mathlib.Core.Path.{sym, ◌∙◌}
-use Rattle.dispatch.proofs.Runs.{due-past, due-other, due-own, whole-inside}
-use native.Mathlib.Omega.{arith}
+-- Where there is no such row there is no slot. Assumes nothing.
+use mathlib.Core.Path.{sym, ap, ◌∙◌}
+use mathlib.Core.List.{[]}
+use Prim.Native.Nat.{ℕ}
+use mathlib.Core.List.{List}
+use Rattle.dispatch.specs.Runs.{due_of}
+use Rattle.dispatch.proofs.Runs.{due-past, due-there}
 use Rattle.dispatch.proofs.run.due_at.Goals as goal
 
-pub returns-then-table-at : goal.returns-then-table-at
-returns-then-table-at c = let a = c.args in sym (due-past a.table.now a.at a.flow c.if-table-at.true)
-
-pub bounds-table-at : goal.bounds-table-at
-bounds-table-at c =
-    omega (arith, whole-inside c.args.table.now c.args.at c.requires c.if-table-at.false)
-
-pub returns-then-table-at-2 : goal.returns-then-table-at-2
-returns-then-table-at-2 c = let a = c.args in sym (due-other a.table.now a.at a.flow c.if-table-at-2.true)
-
-pub read16-requires : goal.read16-requires
-read16-requires c =
-    omega (arith, whole-inside c.args.table.now c.args.at c.requires c.if-table-at.false)
+pub returns-in_err-get : goal.returns-in_err-get
+returns-in_err-get c = let a = c.args in c.from_residual.ensures ∙ sym (due-past a.rows.now a.at a.flow c.in_err-get.ensures.lookup.3)
 
 pub returns : goal.returns
 returns c =
     let a = c.args in
-    c.read16.ensures ∙ sym (due-own a.table.now a.at a.flow c.if-table-at.false c.if-table-at-2.false)
+    let row = c.in_ok-get.ensures.lookup.3 in
+    c.due_of.ensures ∙ ap (λ (r : List ℕ). due_of r a.flow) (row.1 []) ∙ sym (due-there a.rows.now a.at a.flow row.0)

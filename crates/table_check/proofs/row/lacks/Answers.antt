@@ -6,8 +6,8 @@ use Rattle.table_check.proofs.row.lacks.Goals as goal
 
 pub returns-then-bits-eq1 : goal.returns-then-bits-eq1
 unfolding lacks_at
-returns-then-bits-eq1 c = simp (lowest-bit, eq-eqb _ _ c.if-bits-eq1.true)
+returns-then-bits-eq1 c = simp (lowest-bit, eq-eqb _ _ c.if-bits-eq1.true) c.is_not_yet.ensures
 
-pub returns : goal.returns
+pub returns-else-bits-eq1 : goal.returns-else-bits-eq1
 unfolding lacks_at
-returns c = simp (lowest-bit, ne_eqb _ _ c.if-bits-eq1.false)
+returns-else-bits-eq1 c = simp (lowest-bit, ne_eqb _ _ c.if-bits-eq1.false)

@@ -1,45 +1,39 @@
--- `table_check::row::test_row` meets its contract: where 15, 25 or 16 is met it is the number; otherwise the row's slot and job are in range, and what
--- was read is that of the flow and of the work area. Assumes nothing.
+-- `table_check::row::test_row` meets its contract: where 15, 25 or 16 is met it is the fault; otherwise the row's slot
+-- and job are in range, and what was read is that of the flow and of the work area. Assumes nothing.
+use mathlib.Core.Path.{refl}
 use native.Mathlib.Omega.{arith}
-use Rattle.calendar.specs.Area.{open_by}
-use Rattle.table_check.proofs.Finals.{few-jobs}
-use Rattle.table_check.proofs.TestNumbers.{tested-standing, tested-inside, tested-amount}
+use Rattle.std.proofs.lemmas.Result.{err_from_is_err_and}
+use Rattle.book.proofs.Starts.{jobs-few}
+use Rattle.table_check.proofs.Jobs.{held_count}
+use Rattle.table_check.proofs.TestNumbers.{tested-standing, tested-inside, tested-amount, tested-passes}
 use Rattle.table_check.proofs.row.test_row.Goals as goal
 
-pub standing_fault-fault-requires : goal.standing_fault-fault-requires
-standing_fault-fault-requires c = few-jobs c.requires.0
+pub standing_fault-requires : goal.standing_fault-requires
+standing_fault-requires c = let k = c.args.current.now in jobs-few k.book.now k.inside k.head_is
 
-pub returns-then-fault-ne0 : goal.returns-then-fault-ne0
-returns-then-fault-ne0 c = tested-standing _ (open_by _) _ _ _ _ _ _ c.requires.0.jobs c.rank_of.ensures.0 c.standing_fault-fault.ensures _ c.if-fault-ne0.true
+pub returns-in_err-standing_fault : goal.returns-in_err-standing_fault
+returns-in_err-standing_fault c =
+    let e = err_from_is_err_and c.from_residual.result c.from_residual.ensures.1 in
+    rw (e.1, e.2) (tested-standing c.args.current.now _ _ c.rank_of.ensures.0 _ c.standing_fault.ensures _ c.in_err-standing_fault.was)
 
-pub overflow_mul-wide16 : goal.overflow_mul-wide16
-overflow_mul-wide16 c = omega (arith, c.wide16.ensures.1)
+pub read-used-requires : goal.read-used-requires
+read-used-requires c =
+    let inside = tested-inside c.args.current.now _ _ c.rank_of.ensures.0 _ c.standing_fault.ensures c.in_ok-standing_fault.was in
+    omega (arith, inside.0, c.from.ensures, c.requires.1)
 
-pub read16-used-requires : goal.read16-used-requires
-read16-used-requires c =
-    let inside = tested-inside _ (open_by _) _ _ _ _ _ _ c.requires.0.jobs c.rank_of.ensures.0 c.standing_fault-fault.ensures c.if-fault-ne0.false in
-    omega (arith, inside.0, c.wide16.ensures.0, c.requires.2)
+pub bounds-jobs-from : goal.bounds-jobs-from
+bounds-jobs-from c =
+    let inside = tested-inside c.args.current.now _ _ c.rank_of.ensures.0 _ c.standing_fault.ensures c.in_ok-standing_fault.was in
+    omega (arith, inside.1, c.from-2.ensures, held_count c.requires.0)
 
-pub offset_bounds-caps-i : goal.offset_bounds-caps-i
-offset_bounds-caps-i c = omega (arith, c.wide-i.ensures.1)
-
-pub bounds-caps-i : goal.bounds-caps-i
-bounds-caps-i c =
-    let p = c.requires in
-    let inside = tested-inside _ (open_by _) _ _ _ _ _ _ p.0.jobs c.rank_of.ensures.0 c.standing_fault-fault.ensures c.if-fault-ne0.false in
-    omega (arith, inside.1, c.wide-i.ensures.0, few-jobs p.0, p.0.jobs, p.1.caps_long)
-
-pub offset_bounds-sizes-i : goal.offset_bounds-sizes-i
-offset_bounds-sizes-i c = omega (arith, c.wide-i.ensures.1)
-
-pub bounds-sizes-i : goal.bounds-sizes-i
-bounds-sizes-i c =
-    let p = c.requires in
-    let inside = tested-inside _ (open_by _) _ _ _ _ _ _ p.0.jobs c.rank_of.ensures.0 c.standing_fault-fault.ensures c.if-fault-ne0.false in
-    omega (arith, inside.1, c.wide-i.ensures.0, few-jobs p.0, p.0.jobs, p.1.sizes_long)
+pub returns-in_err-amount_fault : goal.returns-in_err-amount_fault
+returns-in_err-amount_fault c =
+    let e = err_from_is_err_and c.from_residual-in_err-amount_fault.result c.from_residual-in_err-amount_fault.ensures.1 in
+    rw (e.1, e.2)
+    (tested-amount c.args.current.now _ _ c.rank_of.ensures.0 _ c.standing_fault.ensures c.in_ok-standing_fault.was
+    _ c.requires.0 (rw (← c.from.ensures) c.read-used.ensures) (rw c.from-2.ensures refl) _ c.amount_fault.ensures c.in_err-amount_fault.was)
 
 pub returns : goal.returns
 returns c =
-    let p = c.requires in
-    tested-amount _ (open_by _) _ _ _ _ _ _ p.0.jobs c.rank_of.ensures.0 c.standing_fault-fault.ensures c.if-fault-ne0.false
-    _ _ _ _ _ _ _ _ p.1 p.0.processors c.wide-i.ensures.0 c.wide16.ensures.0 c.read16-used.ensures c.amount_fault.ensures
+    tested-passes c.args.current.now _ _ c.rank_of.ensures.0 _ c.standing_fault.ensures c.in_ok-standing_fault.was
+    _ c.requires.0 (rw (← c.from.ensures) c.read-used.ensures) (rw c.from-2.ensures refl) _ c.amount_fault.ensures c.in_ok-amount_fault.was

@@ -1,106 +1,77 @@
--- `table_check::walk::walk_flows` meets its contract. The invariant: the rows so far pass, every flow is closed, and the next row is another flow's
--- than the last one (`Between`). The measure is the bytes of the table that are left. Assumes nothing.
-use mathlib.Core.Path.{refl}
+-- `table_check::walk::walk_flows` meets its contract. The invariant: the rows so far pass, every flow is closed, and
+-- the next row is another flow's than the last one (`Between`). The measure is the bytes of the table that are left.
+-- Assumes nothing.
+use mathlib.Core.Path.{◌≡◌, refl, ◌∙◌}
+use Rattle.std.proofs.lemmas.Result.{err_from_is_err_and}
+use Rattle.book.proofs.Starts.{jobs-few}
+use Rattle.table_check.specs.declared.row.JobState.{JobState}
 use Prim.Native.Nat.{◌<◌}
 use native.Mathlib.Omega.{arith}
+use lib.ListN.{length-replicate}
 use Rattle.rules.specs.Book.{flow_count}
+use Rattle.rules.specs.Faults.{refusal_at}
 use Rattle.rules.specs.Reading.{book_of}
-use Rattle.table_check.proofs.Finals.{index-flows}
 use Rattle.table_check.proofs.TableRows.{row_inside}
-use Rattle.table_check.proofs.Flows.{between_first, flows-few, jobs-few, flow-stands, table-ends, unknown_stops, standing_stops, flow_begins, flow_stops, between_next, goes_on}
+use Rattle.table_check.proofs.Flows.{between_first, table-ends, unknown_stops, standing_stops, flow_begins, flow_stops, between_next, goes_on}
+use Rattle.table_check.proofs.Mapped.{told, passed}
 use Rattle.table_check.proofs.walk.walk_flows.Goals as goal
 
-pub clear-requires : goal.clear-requires
-clear-requires c = c.requires.room
-
-pub overflow_mul-at : goal.overflow_mul-at
-overflow_mul-at c = omega (arith, index-flows c.requires.indexed)
-
-pub overflow_add-at : goal.overflow_add-at
-overflow_add-at c = omega (arith, index-flows c.requires.indexed)
-
 pub loop-at-init : goal.loop-at-init
-loop-at-init c = between_first c.requires c.clear.ensures
+loop-at-init c = (between_first c.args.book.now.passes c.flow_count-flows.ensures.count c.requires c.clear.ensures, length-replicate {A = JobState} 64 c.default-room.result)
 
-pub read_row-r-requires : goal.read_row-r-requires
-read_row-r-requires c = let l = c.loop-at.invariant in row_inside l.headed l.reached c.loop-at-test.true
+pub read-r-requires : goal.read-r-requires
+read-r-requires c = let l = c.loop-at.invariant.0 in row_inside l.headed l.reached c.loop-at-test.true
 
-pub returns-then-flows-f : goal.returns-then-flows-f
-returns-then-flows-f c =
-    let r = c.read_row-r in
-    unknown_stops c.loop-at.invariant c.loop-at-test.true r.result r.ensures c.wide-f.ensures.0
-    _ c.clear.ensures c.refused.ensures c.if-flows-f.true
+pub returns-then-flows-flow : goal.returns-then-flows-flow
+returns-then-flows-flow c =
+    let r = c.read-r in
+    rw c.at.ensures (unknown_stops c.loop-at.invariant.0 c.loop-at-test.true r.result r.ensures c.from-flow.ensures _ c.clear.ensures c.if-flows-flow.true)
 
-pub bounds-x-f : goal.bounds-x-f
-bounds-x-f c = omega (arith, flows-few c.loop-at.invariant, c.if-flows-f.false)
+pub head-head-requires : goal.head-head-requires
+head-head-requires c = omega (arith, c.if-flows-flow.false, c.flow_count-flows.ensures.count)
 
-pub offset_bounds-x-f : goal.offset_bounds-x-f
-offset_bounds-x-f c = omega (arith, c.wide-f.ensures.1)
+pub standing_fault-requires : goal.standing_fault-requires
+standing_fault-requires c =
+    let inside : c.from-flow.result < flow_count (book_of c.args.book.now.bytes.now) = omega (arith, c.if-flows-flow.false, c.flow_count-flows.ensures.count) in
+    jobs-few c.args.book.now inside c.head-head.ensures
 
-pub bounds-x-f-in-loop-at : goal.bounds-x-f-in-loop-at
-bounds-x-f-in-loop-at c = omega (arith, flows-few c.loop-at.invariant, c.if-flows-f.false)
+pub returns-in_err-map_err : goal.returns-in_err-map_err
+returns-in_err-map_err c =
+    let r = c.read-r in
+    let e = err_from_is_err_and c.from_residual.result c.from_residual.ensures.1 in
+    let t = told _ c.standing_fault.result c.map_err.result c.map_err.ensures.cases _ c.in_err-map_err.was in
+    let at : c.in_err-map_err.field-0.0 ≡ refusal_at t.0 r.result.flow r.result.job = t.2 in
+    rw (e.1, e.2, at)
+    (standing_stops c.loop-at.invariant.0 c.loop-at-test.true r.result r.ensures c.from-flow.ensures c.if-flows-flow.false
+    c.head-head.ensures.jobs (rw (← c.head-head.ensures.deadline) c.service_key-key.ensures.0) c.standing_fault.ensures _ c.clear.ensures t.1)
 
-pub standing_fault-fault-requires : goal.standing_fault-fault-requires
-standing_fault-fault-requires c = jobs-few c.loop-at.invariant c.if-flows-f.false
+pub walk_flow-requires : goal.walk_flow-requires
+walk_flow-requires c =
+    let r = c.read-r in
+    let inside : c.from-flow.result < flow_count (book_of c.args.book.now.bytes.now) = omega (arith, c.if-flows-flow.false, c.flow_count-flows.ensures.count) in (
+      flow_begins c.loop-at.invariant.0 c.loop-at-test.true r.result r.ensures c.from-flow.ensures c.if-flows-flow.false
+          c.head-head.ensures.jobs (rw (← c.head-head.ensures.deadline) c.service_key-key.ensures.0) c.standing_fault.ensures (passed c.standing_fault.result c.map_err.result c.map_err.ensures.variant _ c.in_ok-map_err.was) refl,
+      omega (arith, c.loop-at.invariant.1, jobs-few c.args.book.now inside c.head-head.ensures),
+    )
 
-pub returns-then-fault-ne0 : goal.returns-then-fault-ne0
-returns-then-fault-ne0 c =
-    let r = c.read_row-r in
-    standing_stops c.loop-at.invariant c.loop-at-test.true r.result r.ensures c.wide-f.ensures.0 c.if-flows-f.false
-    refl c.service_key-key.ensures.0 c.standing_fault-fault.ensures _ c.clear.ensures c.refused-then-fault-ne0.ensures c.if-fault-ne0.true
-
-pub offset_bounds-x-f-in-loop-at : goal.offset_bounds-x-f-in-loop-at
-offset_bounds-x-f-in-loop-at c = omega (arith, c.wide-f.ensures.1)
-
-pub bounds-x-f-in-loop-at-2 : goal.bounds-x-f-in-loop-at-2
-bounds-x-f-in-loop-at-2 c = omega (arith, flows-few c.loop-at.invariant, c.if-flows-f.false)
-
-pub head_of-head-requires : goal.head_of-head-requires
-head_of-head-requires c = flow-stands c.loop-at.invariant c.if-flows-f.false refl
-
-pub walk_flow-w-requires : goal.walk_flow-w-requires
-walk_flow-w-requires c =
-    let r = c.read_row-r in
-    flow_begins c.loop-at.invariant c.loop-at-test.true r.result r.ensures c.wide-f.ensures.0 c.if-flows-f.false
-    refl c.service_key-key.ensures.0 c.standing_fault-fault.ensures c.if-fault-ne0.false refl refl c.head_of-head.ensures.release refl
-
-pub returns-in_default : goal.returns-in_default
-returns-in_default c =
-    flow_stops c.loop-at.invariant c.walk_flow-w.ensures _ c.clear.ensures refl c.in_default.is
-
-pub bounds-mismatch-f : goal.bounds-mismatch-f
-bounds-mismatch-f c =
-    let l = c.loop-at.invariant in
-    omega (arith, flows-few l, c.if-flows-f.false, l.mismatch_long)
-
-pub offset_bounds-finish-f : goal.offset_bounds-finish-f
-offset_bounds-finish-f c = omega (arith, c.wide-f.ensures.1)
-
-pub bounds-finish-f : goal.bounds-finish-f
-bounds-finish-f c =
-    let l = c.loop-at.invariant in
-    omega (arith, flows-few l, c.if-flows-f.false, l.finish_long)
-
-pub overflow_add-least : goal.overflow_add-least
-overflow_add-least c = omega (arith, c.service_key-key.ensures.1)
+pub returns-in_err-stop : goal.returns-in_err-stop
+returns-in_err-stop c =
+    let e = err_from_is_err_and c.from_residual-in_err-stop.result c.from_residual-in_err-stop.ensures.1 in
+    rw (e.1, e.2) (flow_stops c.loop-at.invariant.0 c.in_err-stop.ensures _ c.clear.ensures)
 
 pub loop-at-smaller : goal.loop-at-smaller
 loop-at-smaller c =
-    let l = c.loop-at.invariant in
-    omega (
-      arith,
-      c.loop-at-test.true,
-      goes_on l c.walk_flow-w.ensures c.in-Pass.is refl (omega (arith, c.if-flows-f.false, l.flows_are)),
-    )
+    let l = c.loop-at.invariant.0 in
+    omega (arith, c.loop-at-test.true, goes_on l c.in_ok-stop.ensures refl (omega (arith, c.if-flows-flow.false, l.flows_are)))
 
 pub loop-at-preserved : goal.loop-at-preserved
 loop-at-preserved c =
-    let f = c.wide-f in
+    let f = c.from-flow in
     let l = c.loop-at.invariant in
-    let book = c.args.book.now in
-    let inside : f.result < flow_count (book_of book) = omega (arith, c.if-flows-f.false, l.flows_are) in
-    between_next l c.walk_flow-w.ensures c.in-Pass.is refl inside
-    (omega (arith, c.service_key-key.ensures.0, l.indexed.deadlines f.result inside, f.ensures.0)) c.walk_flow-w.auto.work
+    let inside : f.result < flow_count (book_of c.args.book.now.bytes.now) = omega (arith, c.if-flows-flow.false, l.0.flows_are) in (
+      between_next l.0 c.in_ok-stop.ensures refl inside (omega (arith, c.service_key-key.ensures.0, c.head-head.ensures.deadline, f.ensures)) c.walk_flow.auto.work,
+      c.walk_flow.auto.room ∙ l.1,
+    )
 
 pub returns : goal.returns
-returns c = table-ends c.loop-at.invariant _ c.clear.ensures c.loop-at-test.false
+returns c = table-ends c.loop-at.invariant.0 _ c.clear.ensures c.loop-at-test.false

@@ -1,104 +1,85 @@
--- `table_check::walk::walk_rows` meets its contract. The invariant of the loop over rows: the rows so far pass, those since `from` are the flow's, and
--- totals, completeness and work area are theirs (`Going`); of the loop over predecessors: the row is released, and none so far is lacking (`Asking`).
--- The measures are the bytes of the table that are left, and the bits that are left. Assumes nothing.
-use Rattle.table_check.proofs.Turns.{going-first, lent-first, test_stops, turn_of}
-use Rattle.table_check.proofs.TableRows.{row_inside, more_rows}
-use Rattle.table_check.proofs.Counting.{job_in, slot_in, countable, unreleased_stops, is-released, lent-next, going_next}
-use Rattle.table_check.proofs.Asking.{asking-first, asks-few, asking-next, asking_stops, asking-ends}
-use Rattle.table_check.proofs.Leaving.{walk_stops, walk_ends, walk_turns}
-use mathlib.Core.Path.{◌∙◌, sym}
+-- `table_check::walk::walk_rows` meets its contract. The invariant of the loop over rows: the rows so far pass, those
+-- since `from` are the flow's, and totals, completeness and work area are theirs (`Going`); of the loop over
+-- predecessors: the row is released, and none so far is lacking (`Asking`). The measures are the bytes of the table
+-- that are left, and the bits that are left. Assumes nothing.
+use mathlib.Core.Path.{refl, ◌∙◌, sym}
 use native.Mathlib.Omega.{arith}
+use Rattle.table_check.proofs.Turns.{going-first, test_refused, turn_of}
+use Rattle.table_check.proofs.Jobs.{held_count}
+use Rattle.table_check.proofs.TableRows.{row_inside, more_rows}
+use Rattle.table_check.proofs.Counting.{job_in, countable, asked_here, bits_here, unreleased_stops, is-released, cleared-next, going_next}
+use Rattle.table_check.proofs.Asking.{asking-first, asks-few, asks-in, asking-next, asking_stops, asking-ends}
+use Rattle.table_check.proofs.Leaving.{walk_stops, walk_ends, walk_turns}
 use Rattle.table_check.proofs.walk.walk_rows.Goals as goal
 
 pub rows-init : goal.rows-init
-rows-init c =
-    let p = c.requires in
-    (going-first p.0 p.1 (omega (arith, c.well_formed.1.0)) p.2 p.3, lent-first _ _ _)
+rows-init c = let p = c.requires in (going-first c.args.current.now.book.now.passes c.args.current.now.inside p.0 p.1 (omega (arith, c.well_formed.1.0)), refl)
 
-pub read_row-r-requires : goal.read_row-r-requires
-read_row-r-requires c = let g = c.rows.invariant.0 in row_inside g.headed g.reached c.rows-test.true
+pub read-r-requires : goal.read-r-requires
+read-r-requires c = let g = c.rows.invariant.0 in row_inside g.headed g.reached c.if-current-at.false
 
-pub test_row-t-requires : goal.test_row-t-requires
-test_row-t-requires c = let g = c.rows.invariant.0 in (g.current, g.held, g.room)
-
-pub predecessors_due-asks-requires : goal.predecessors_due-asks-requires
-predecessors_due-asks-requires c =
+pub bounds-jobs-from : goal.bounds-jobs-from
+bounds-jobs-from c =
     let g = c.rows.invariant.0 in
-    let here = c.rows-test.true in
-    let turn = turn_of g here c.read_row-r.result c.read_row-r.ensures (sym c.wide.ensures.0 ∙ c.if-wide-c.false) c.test_row-t.ensures
-    c.if-t-ne0.false in
-    (g.current, job_in g turn, g.tally.totals_long)
+    let turn = turn_of g c.if-current-at.false c.read-r.result c.read-r.ensures (sym c.from.ensures ∙ c.if-from-current.false) c.test_row.ensures c.in-Ok.is in
+    omega (arith, job_in g turn, held_count g.held, c.from-in-rows.ensures)
 
 pub loop-bits-init : goal.loop-bits-init
 loop-bits-init c =
     let g = c.rows.invariant.0 in
-    let here = c.rows-test.true in
-    let turn = turn_of g here c.read_row-r.result c.read_row-r.ensures (sym c.wide.ensures.0 ∙ c.if-wide-c.false) c.test_row-t.ensures
-    c.if-t-ne0.false in
-    asking-first g turn here (is-released g turn c.predecessors_due-asks.ensures.unreleased c.if-asks.false) c.predecessors_due-asks.ensures.bits
+    let here = c.if-current-at.false in
+    let turn = turn_of g here c.read-r.result c.read-r.ensures (sym c.from.ensures ∙ c.if-from-current.false) c.test_row.ensures c.in-Ok.is in
+    let asked = c.in-Some.ensures in
+    asking-first g turn here (is-released g turn (asked_here g turn c.from-in-rows.ensures c.args.current.now.head_is.release asked.0))
+    (bits_here g turn c.from-in-rows.ensures asked.1)
 
-pub offset_bounds-ready-k : goal.offset_bounds-ready-k
-offset_bounds-ready-k c = omega (arith, asks-few c.loop-bits.invariant c.loop-bits-test.true)
+pub offset_bounds-jobs-k : goal.offset_bounds-jobs-k
+offset_bounds-jobs-k c = omega (arith, asks-few c.loop-bits.invariant c.loop-bits-test.true)
 
-pub bounds-ready-k : goal.bounds-ready-k
-bounds-ready-k c = omega (arith, asks-few c.loop-bits.invariant c.loop-bits-test.true, c.loop-bits.invariant.going.tally.ready_long)
+pub bounds-jobs-k : goal.bounds-jobs-k
+bounds-jobs-k c = asks-in c.loop-bits.invariant c.loop-bits-test.true
 
 pub overflow_add-k : goal.overflow_add-k
 overflow_add-k c = omega (arith, asks-few c.loop-bits.invariant c.loop-bits-test.true)
 
-pub loop-bits-smaller : goal.loop-bits-smaller
-loop-bits-smaller c = omega (arith, c.loop-bits-test.true)
-
 pub loop-bits-preserved : goal.loop-bits-preserved
-loop-bits-preserved c = asking-next c.loop-bits.invariant c.lacks.ensures c.if-lacks.false
+loop-bits-preserved c = asking-next c.loop-bits.invariant c.loop-bits-test.true c.lacks.ensures c.if-lacks.false
 
 pub count_row-requires : goal.count_row-requires
 count_row-requires c = let a = c.loop-bits.invariant in countable a.going a.turn
-
-pub overflow_add-finish : goal.overflow_add-finish
-overflow_add-finish c = let a = c.loop-bits.invariant in omega (arith, slot_in a.going a.turn)
-
-pub overflow_add-least : goal.overflow_add-least
-overflow_add-least c = omega (arith, c.rank_of-least.ensures.1)
-
-pub overflow_add-at : goal.overflow_add-at
-overflow_add-at c = let a = c.loop-bits.invariant in omega (arith, row_inside a.going.headed a.going.reached a.here, a.going.table_fits)
-
-pub rows-smaller : goal.rows-smaller
-rows-smaller c = omega (arith, c.loop-bits.invariant.here)
 
 pub rows-preserved : goal.rows-preserved
 rows-preserved c =
     let a = c.loop-bits.invariant in
     let none = asking-ends a c.loop-bits-test.false in
-    let counted = c.count_row.ensures in (
-      going_next a.going a.turn a.released none counted a.going.no_fault c.rank_of-least.ensures.0,
-      lent-next a.going a.turn a.released none counted c.rows.invariant.1,
-    )
+    let counted = c.count_row.ensures in
+    (going_next a.going a.turn a.released none counted c.rank_of-least.ensures.0, cleared-next a.going a.turn a.released none counted _ c.rows.invariant.1)
 
-pub returns-after-rows : goal.returns-after-rows
-returns-after-rows c = walk_ends c.rows.invariant.0 c.rows.invariant.1 c.rows-test.false
+pub returns-then-current-at : goal.returns-then-current-at
+returns-then-current-at c = walk_ends c.rows.invariant.0 c.rows.invariant.1 c.if-current-at.true
 
-pub returns-then-wide-c : goal.returns-then-wide-c
-returns-then-wide-c c = walk_turns c.rows.invariant.0 c.rows.invariant.1 c.rows-test.true c.read_row-r.result c.read_row-r.ensures (λ e. c.if-wide-c.true (c.wide.ensures.0 ∙ e))
+pub returns-then-from-current : goal.returns-then-from-current
+returns-then-from-current c =
+    walk_turns c.rows.invariant.0 c.rows.invariant.1 c.if-current-at.false c.read-r.result c.read-r.ensures (λ e. c.if-from-current.true (c.from.ensures ∙ e))
 
-pub returns-then-t-ne0 : goal.returns-then-t-ne0
-returns-then-t-ne0 c =
-    let inv = c.rows.invariant in
-    let here = c.rows-test.true in
-    walk_stops inv.0 inv.1 (more_rows inv.0.headed inv.0.reached here) c.refused-bad.ensures
-    (test_stops inv.0 here c.read_row-r.result c.read_row-r.ensures (sym c.wide.ensures.0 ∙ c.if-wide-c.false) c.test_row-t.ensures
-    c.if-t-ne0.true)
-
-pub returns-then-asks : goal.returns-then-asks
-returns-then-asks c =
+pub returns-in-Err : goal.returns-in-Err
+returns-in-Err c =
     let g = c.rows.invariant.0 in
-    let here = c.rows-test.true in
-    let turn = turn_of g here c.read_row-r.result c.read_row-r.ensures (sym c.wide.ensures.0 ∙ c.if-wide-c.false) c.test_row-t.ensures
-    c.if-t-ne0.false in
-    walk_stops g c.rows.invariant.1 turn.more c.refused-bad-then-asks.ensures (unreleased_stops g turn c.predecessors_due-asks.ensures.unreleased c.if-asks.true)
+    let here = c.if-current-at.false in
+    rw c.at.ensures
+    (walk_stops g c.rows.invariant.1 (more_rows g.headed g.reached here)
+    (test_refused g here c.read-r.result c.read-r.ensures (sym c.from.ensures ∙ c.if-from-current.false) c.test_row.ensures c.in-Err.is))
+
+pub returns-in_default : goal.returns-in_default
+returns-in_default c =
+    let g = c.rows.invariant.0 in
+    let turn = turn_of g c.if-current-at.false c.read-r.result c.read-r.ensures (sym c.from.ensures ∙ c.if-from-current.false) c.test_row.ensures c.in-Ok.is in
+    rw c.at-in_default.ensures
+    (walk_stops g c.rows.invariant.1 turn.more
+    (unreleased_stops g turn (asked_here g turn c.from-in-rows.ensures c.args.current.now.head_is.release c.in_default.ensures)))
 
 pub returns-then-lacks : goal.returns-then-lacks
 returns-then-lacks c =
     let a = c.loop-bits.invariant in
-    walk_stops a.going c.rows.invariant.1 a.turn.more c.refused-bad-then-lacks.ensures (asking_stops a c.lacks.ensures c.loop-bits-test.true c.if-lacks.true)
+    rw c.at-then-lacks.ensures
+    (walk_stops a.going c.rows.invariant.1 a.turn.more (asking_stops a c.loop-bits-test.true c.lacks.ensures c.if-lacks.true))

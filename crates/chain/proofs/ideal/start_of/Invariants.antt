@@ -1,0 +1,14 @@
+-- The largest end of all is `start` or that of one of the bits that are left. The measure is `bits`: to take a bit off
+-- makes it less. Assumes nothing.
+use Rattle.std.proofs.Common.{◌≡◌, ◌≤◌, length}
+use Prim.Native.Nat.{max}
+use Rattle.chain.specs.Jobs.{start_among}
+use Rattle.chain.specs.Alone.{ends_in}
+use Rattle.chain.proofs.ideal.start_of.Given as goal
+
+abbrev pub invariant-loop-bits : goal.invariant-loop-bits
+invariant-loop-bits l =
+    (l.bits ≤ l.predecessors) × (start_among l.predecessors (ends_in l.jobs) (length l.jobs) ≡ max l.start (start_among l.bits (ends_in l.jobs) (length l.jobs)))
+
+abbrev pub decreases-loop-bits : goal.decreases-loop-bits
+decreases-loop-bits l = l.bits
