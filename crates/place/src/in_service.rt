@@ -124,10 +124,13 @@ impl<'a> Service<'a> {
         while slot < limit {
             let served = self.serve_slot::<LISTED>(out, area, next, left, slot);
             next = served.next;
-            left -= u64::from(served.give);
             slot += 1;
-            if left == 0 {
-                return Some(Placed { finish: slot, next });
+            // A full slot gives nothing and leaves the work as it was, so that many are passed at little cost each.
+            if served.give != 0 {
+                left -= u64::from(served.give);
+                if left == 0 {
+                    return Some(Placed { finish: slot, next });
+                }
             }
         }
         None

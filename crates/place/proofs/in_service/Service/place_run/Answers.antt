@@ -55,6 +55,21 @@ loop-slot-preserved g c =
       within = omega arith;
     }
 
+pub loop-slot-preserved-else-left-eq0 : goal.loop-slot-preserved-else-left-eq0
+loop-slot-preserved-else-left-eq0 g c =
+    let v = c.requires in
+    let i = c.loop-slot.invariant in
+    record {
+      listed = λ t.
+          run-kept-next c.args.self.now.in_service (i.listed t) v.limit_within c.loop-slot-test.true (omega arith) (c.serve_slot-served.ensures.listed t)
+          (omega arith) (omega arith) (omega arith);
+      unlisted = λ t.
+          used-kept-next c.args.self.now.in_service (i.unlisted t) v.limit_within c.loop-slot-test.true (omega arith) (c.serve_slot-served.ensures.unlisted t)
+          (omega arith) (omega arith);
+      some = omega arith;
+      within = omega arith;
+    }
+
 pub returns-clause-listed : goal.returns-clause-listed
 returns-clause-listed g c = λ t.
     run-kept_stops c.args.self.now.in_service (c.loop-slot.invariant.listed t) c.loop-slot-test.false (omega arith)
