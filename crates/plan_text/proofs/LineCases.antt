@@ -3,15 +3,20 @@ use mathlib.Core.Path.{◌≡◌, sym, ap, ◌∙◌}
 use Prim.Native.Nat.{ℕ, ◌+◌, ◌*◌, ◌-◌, ◌/◌, ◌≤◌, ◌<◌}
 use native.Mathlib.Numerals.{add-one}
 use native.Mathlib.Omega.{arith}
+use mathlib.Core.Bool.{Bool, true, false}
 use mathlib.Core.List.{List, ◌++◌, append-nil, append_assoc}
 use lib.ListN.{length}
+use lib.Dec.{eqb, leb}
 use borrow.Author.Tests.{eq-eqb, ne_eqb, le-leb, lt-leb}
+use Rattle.std.specs.Prelude.{if◌then◌else◌}
 use Rattle.rules.specs.declared.PlanAnswer.{PlanAnswer}
 use Rattle.rules.specs.Walks.{join_from}
 use Rattle.rules.proofs.Laws.Walks.{join_last}
 use Rattle.rules.specs.Fields.{field}
 use Rattle.rules.specs.Table.{row_at}
 use Rattle.rules.specs.Text.{table_line, finish_line, row_line, refusal_line}
+use Rattle.plan_text.specs.Put.{longest_line}
+use Rattle.plan_text.proofs.Pieces.{table_line_most, finish_line_most, row_line_most, refusal_line_most}
 use Rattle.plan_text.specs.Lines.{AnswerStands, flows_in, table_line_at, table_lines, line_at, line_count, first_lines, text_of}
 
 -- ---- line n of a table
@@ -59,6 +64,22 @@ pub row_within : (table : List ℕ) (a : PlanAnswer) (n flows : ℕ) → AnswerS
 unfolding table_lines
 row_within table a n flows stands z e g h =
     let s = stands z in omega (arith, count-of_table table a z, s.rows_after, s.within)
+
+-- ---- no line of an answer is longer than 64 bytes
+either_most : (b : Bool) (x y : List ℕ) {m : ℕ} → length x ≤ m → length y ≤ m → length (if b then x else y) ≤ m
+either_most true x y p q = p
+either_most false x y p q = q
+
+table_most : (table : List ℕ) (bytes late n : ℕ) → length (table_line_at table bytes late n) ≤ longest_line
+unfolding table_line_at
+table_most table bytes late n =
+    either_most (eqb n 0) _ _ (table_line_most bytes late)
+    (either_most (leb n (flows_in table)) _ _ (finish_line_most (n - 1) (field 2 table (6 + 2 * n))) (row_line_most _))
+
+pub line_most : (table : List ℕ) (a : PlanAnswer) (n : ℕ) → length (line_at table a n) ≤ longest_line
+unfolding line_at
+line_most table a n =
+    either_most (eqb a.number 0) _ _ (table_most table a.length a.late n) (refusal_line_most a.number a.flow a.job)
 
 -- ---- lines put one after the other
 pub text-none : (table : List ℕ) (a : PlanAnswer) (s : List ℕ) → s ≡ s ++ first_lines table a 0

@@ -2,6 +2,7 @@
 // Not by `write!`: its contract leaves open when it ends with an error, and what is put here has room and cannot fail.
 #![tactic(auto)]
 
+pub mod lent;
 pub mod lines;
 
 ghost use Rattle.std.specs.Prelude.{◌≡◌, ◌+◌, ◌≤◌, ◌++◌, length};
@@ -13,6 +14,9 @@ ghost use Rattle.plan_text.specs.Put.{pair_line, longest_line};
 use arrayvec::ArrayString;
 use book::row::Row;
 use itoa::Buffer;
+
+// What is put only into a slice stands under this name too.
+pub use lent::{put_decimal, put_digit, put_digits, put_word};
 
 // A word and the number after it.
 #[inline(always)]

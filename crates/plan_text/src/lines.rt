@@ -9,6 +9,9 @@ use book::bytes::Field;
 use book::row::Row;
 use rules::PlanAnswer;
 
+// What is put only into a slice stands under this name too.
+pub use crate::lent::{put_line, put_row, put_table};
+
 // A line: the table's bytes and its late flows, the finish of a flow, a row, or a refusal.
 #[derive(Clone, Copy)]
 pub enum Line {
