@@ -12,12 +12,18 @@ use Rattle.std.specs.Prelude.{if◌then◌else◌}
 use Rattle.rules.specs.declared.PlanAnswer.{PlanAnswer}
 use Rattle.rules.specs.Walks.{join_from}
 use Rattle.rules.proofs.Laws.Walks.{join_last}
-use Rattle.rules.specs.Fields.{field}
+use Rattle.rules.specs.Fields.{byte, field}
 use Rattle.rules.specs.Table.{row_at}
 use Rattle.rules.specs.Text.{table_line, finish_line, row_line, refusal_line}
 use Rattle.plan_text.specs.Put.{longest_line}
 use Rattle.plan_text.proofs.Pieces.{table_line_most, finish_line_most, row_line_most, refusal_line_most}
-use Rattle.plan_text.specs.Lines.{AnswerStands, flows_in, table_line_at, table_lines, line_at, line_count, first_lines, text_of}
+use Rattle.plan_text.specs.Lines.{TableWithin, AnswerStands, flows_in, table_line_at, table_lines, line_at, line_count, first_lines, text_of}
+
+-- the values read one by one are the row
+pub row_read : (s : List ℕ) (from slot processors : ℕ) → slot ≡ field 2 s from → processors ≡ field 2 s (from + 4) →
+    row_line (record { slot = slot; flow = byte s (from + 2); job = byte s (from + 3); processors = processors }) ≡ row_line (row_at s from)
+unfolding row_at
+row_read s from slot processors p q = rw (p, q)
 
 -- ---- line n of a table
 pub line_first : (table : List ℕ) (bytes late n : ℕ) → n ≡ 0 → table_line bytes late ≡ table_line_at table bytes late n
@@ -34,6 +40,12 @@ pub line_row : (table : List ℕ) (bytes late n flows : ℕ) → flows ≡ flows
 unfolding table_line_at
 line_row table bytes late n flows e g =
     rw (ne_eqb n 0 (λ z. omega arith), lt-leb n (flows_in table) (omega arith)) (ap (λ (f : ℕ). row_line (row_at table (8 + 2 * f + 6 * (n - (1 + f))))) e)
+
+-- the row of the last line lies within the table
+pub row_inside : (table : List ℕ) (bytes n flows : ℕ) → TableWithin table bytes → flows ≡ flows_in table → flows < n → n < table_lines table bytes →
+    8 + 2 * flows + 6 * (n - (1 + flows)) + 6 ≤ length table
+unfolding table_lines
+row_inside table bytes n flows s e g h = omega (arith, s.rows_after, s.within)
 
 -- ---- line n of an answer
 pub line-of_table : (table : List ℕ) (a : PlanAnswer) (n : ℕ) → a.number ≡ 0 → table_line_at table a.length a.late n ≡ line_at table a n
@@ -61,9 +73,7 @@ count-read table a flows e z = ap (λ (f : ℕ). 1 + f + (a.length - (8 + 2 * f)
 -- the row of a line below the number of lines lies within the table
 pub row_within : (table : List ℕ) (a : PlanAnswer) (n flows : ℕ) → AnswerStands table a → a.number ≡ 0 → flows ≡ flows_in table → flows < n →
     n < line_count table a → 8 + 2 * flows + 6 * (n - (1 + flows)) + 6 ≤ length table
-unfolding table_lines
-row_within table a n flows stands z e g h =
-    let s = stands z in omega (arith, count-of_table table a z, s.rows_after, s.within)
+row_within table a n flows stands z e g h = row_inside table a.length n flows (stands z) e g (rw (count-of_table table a z) h)
 
 -- ---- no line of an answer is longer than 64 bytes
 either_most : (b : Bool) (x y : List ℕ) {m : ℕ} → length x ≤ m → length y ≤ m → length (if b then x else y) ≤ m

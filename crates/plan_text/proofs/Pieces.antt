@@ -11,8 +11,20 @@ use borrow.Author.Tests.{lt-ltb, le-ltb}
 use Rattle.std.specs.Prelude.{if◌then◌else◌}
 use Rattle.rules.specs.Fields.{bytes_of}
 use Rattle.rules.specs.Rows.{Row}
-use Rattle.rules.specs.Text.{digit, digits_of, decimal, table_line, finish_line, row_line, refusal_line}
-use Rattle.plan_text.specs.Put.{longest_line}
+use Rattle.rules.specs.Text.{
+  digit,
+  digits_of,
+  decimal,
+  word_table,
+  word_late,
+  word_finish,
+  word_space,
+  table_line,
+  finish_line,
+  row_line,
+  refusal_line,
+}
+use Rattle.plan_text.specs.Put.{pair_line, longest_line}
 use Rattle.std.specs.Fmt as Fmt
 use Rattle.std.proofs.lemmas.Fmt.{AppendsLastDigit, decimal_from_appends, length-decimal-le}
 
@@ -69,6 +81,15 @@ placed-last = record { one = one; more = more }
 pub printed-decimal : (x : ℕ) → x < 2 ^ 32 → Fmt.decimal x ≡ decimal x
 unfolding placed
 printed-decimal x l = sym (decimal_from_appends placed placed-last 10 x (omega arith) (length-decimal-le 10 x (omega arith) (omega arith) (omega arith)))
+
+-- ---- the lines that are a pair
+pub table_line_lem : (bytes late : ℕ) → pair_line word_table bytes word_late late ≡ table_line bytes late
+unfolding table_line
+table_line_lem bytes late = refl
+
+pub finish_line_lem : (flow finish : ℕ) → pair_line word_finish flow word_space finish ≡ finish_line flow finish
+unfolding finish_line
+finish_line_lem flow finish = refl
 
 -- ---- no line is longer than 64 bytes
 pub table_line_most : (bytes late : ℕ) → length (table_line bytes late) ≤ longest_line
