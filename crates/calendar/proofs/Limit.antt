@@ -3,7 +3,6 @@
 use mathlib.Core.Path.{◌≡◌, refl, sym, ap, ◌∙◌}
 use Prim.Native.Nat.{ℕ, zero, suc, ◌+◌, ◌*◌, ◌-◌, ◌≤◌, ◌<◌, min}
 use mathlib.Core.Bool.{true, false, not, ◌&&◌, and-true, and-false}
-use mathlib.Core.List.{List}
 use mathlib.Core.Logic.{◌⊎◌, inl, inr}
 use native.Mathlib.Numerals.{add-one}
 use native.Mathlib.Nat.{not-suc-le-zero}
@@ -19,10 +18,9 @@ use Rattle.rules.specs.Calendar.{Calendar, is_open, window_of, open_before, slot
 use Rattle.rules.proofs.Laws.Division.{lt-or_ge}
 use Rattle.rules.proofs.Laws.Walks.{last_or}
 use Rattle.rules.proofs.Placing.OpenSlots.{open_none, open_next, open-on, open-all, twice-fits, slot-after_is}
-use Rattle.calendar.specs.declared.maintenance.Window.{Window as HeldWindow}
 use Rattle.calendar.specs.declared.maintenance.Calendar.{Calendar as Held}
 use Rattle.calendar.specs.Held.{held_windows}
-use Rattle.calendar.proofs.Windows.{none-shut, first_next, in-range, blank, as-many, window-at}
+use Rattle.calendar.proofs.Windows.{none-shut, first_next, held_in, in-range, blank, as-many, window-at}
 
 -- limit is the first slot before which n slots are open
 pub record Reached (c : Calendar) (n limit : ℕ) : Type 0 where
@@ -136,12 +134,14 @@ module _ (c : Calendar) where
       pub reached-all : (limit : ℕ) → limit ≤ slots → Reached c (2 * open_before c d) limit → limit ≡ slot_after c (2 * open_before c d)
       reached-all limit h r = sym (slot-after_is c (2 * open_before c d) limit h r.count r.not_yet)
 
--- ---- the same of the slice that lends the windows of a calendar's struct
-module _ (x : Held) (vs : List HeldWindow) (e : vs ≡ x.windows.items) (k : ℕ) (l : k < length vs) where
-  pub less-open : (t : ℕ) → open_before (take (k + 1) (held_windows x)) t + (min (get_or vs k blank).reopening t - (get_or vs k blank).shut) ≡ open_before (take k (held_windows x)) t
-  less-open t = rw (window-at x vs e k l) at (count_next (held_windows x) (in-range x) k (omega (arith, as-many x vs e)) t)
+-- ---- the same of the windows that a calendar's struct holds
+module _ (x : Held) (k : ℕ) (l : k < length (held_in x)) where
+  pub less-open : (t : ℕ) → open_before (take (k + 1) (held_windows x)) t
+      + (min (get_or (held_in x) k blank).reopening t - (get_or (held_in x) k blank).shut)
+      ≡ open_before (take k (held_windows x)) t
+  less-open t = rw (window-at x k l) at (count_next (held_windows x) (in-range x) k (omega (arith, as-many x)) t)
 
   pub moved-on : (n limit : ℕ) → Reached (take k (held_windows x)) n limit →
       Reached (take (k + 1) (held_windows x)) n
-      (if ltb (get_or vs k blank).shut limit then limit + ((get_or vs k blank).reopening - (get_or vs k blank).shut) else limit)
-  moved-on n limit r = rw (window-at x vs e k l) at (reached-next (held_windows x) (in-range x) k (omega (arith, as-many x vs e)) n limit r)
+      (if ltb (get_or (held_in x) k blank).shut limit then limit + ((get_or (held_in x) k blank).reopening - (get_or (held_in x) k blank).shut) else limit)
+  moved-on n limit r = rw (window-at x k l) at (reached-next (held_windows x) (in-range x) k (omega (arith, as-many x)) n limit r)

@@ -1,5 +1,5 @@
 -- A walk over the windows of a calendar: what one window more shuts, and, inside a window, what one slot more shuts;
--- and the slice that lends the windows of a calendar's struct. Assumes nothing.
+-- and the windows that a calendar's struct holds. Assumes nothing.
 use mathlib.Core.Path.{◌≡◌, refl, sym, ap, ◌∙◌}
 use Prim.Native.Nat.{ℕ, zero, suc, ◌+◌, ◌≤◌, ◌<◌}
 use mathlib.Core.Bool.{Bool, true, false, not, ◌&&◌, and-true, and-false, and_assoc}
@@ -36,38 +36,42 @@ open-last (v ∷ vs) (suc k) t l =
 pub first_next : (c : Calendar) (k t : ℕ) → k < length c → is_open (take (k + 1) c) t ≡ (is_open (take k c) t && not (in_window (window_of c k) t))
 first_next c k t l = rw (add-one k) (open-last c k t l)
 
--- ---- the slice that lends the windows of a calendar's struct
-pub in-range : (x : Held) → CalendarInRange (held_windows x)
-unfolding held_windows
-in-range x = x.in_range
+-- ---- the windows that a calendar's struct holds
+abbrev pub held_in : Held → List HeldWindow
+held_in x = take x.count x.windows
 
 -- what an index past the last window finds
 abbrev pub blank : HeldWindow
 blank = record { shut = 0; reopening = 0 }
 
-module _ (x : Held) (vs : List HeldWindow) (e : vs ≡ x.windows.items) where
-  pub as-many : length (held_windows x) ≡ length vs
-  unfolding held_windows windows_in
-  as-many = length-map x.windows.items window_in ∙ ap length (sym e)
+module _ (x : Held) where
+  pub in-range : CalendarInRange (held_windows x)
+  unfolding held_windows
+  in-range = x.in_range
 
-  pub all-taken : {k : ℕ} → length vs ≤ k → take k (held_windows x) ≡ held_windows x
+  pub as-many : length (held_windows x) ≡ length (held_in x)
+  unfolding held_windows windows_in
+  as-many = length-map (held_in x) window_in
+
+  pub all-taken : {k : ℕ} → length (held_in x) ≤ k → take k (held_windows x) ≡ held_windows x
   all-taken {k} l = take_all k (held_windows x) (omega (arith, as-many))
 
-  module _ (k : ℕ) (l : k < length vs) where
+  module _ (k : ℕ) (l : k < length (held_in x)) where
     inside : k < length (held_windows x)
     inside = omega (arith, as-many)
 
-    pub window-at : window_of (held_windows x) k ≡ window_in (get_or vs k blank)
+    pub window-at : window_of (held_windows x) k ≡ window_in (get_or (held_in x) k blank)
     unfolding held_windows windows_in window_of
-    window-at = rw (← e) (get_or-map window_in vs k blank no_window l)
+    window-at = get_or-map window_in (held_in x) k blank no_window l
 
-    pub not-empty : (get_or vs k blank).shut < (get_or vs k blank).reopening
-    not-empty = rw window-at at ((in-range x).not_empty k inside)
+    pub not-empty : (get_or (held_in x) k blank).shut < (get_or (held_in x) k blank).reopening
+    not-empty = rw window-at at (in-range.not_empty k inside)
 
-    pub reopening-most : (get_or vs k blank).reopening ≤ most_reopening
-    reopening-most = rw window-at at ((in-range x).reopens k inside)
+    pub reopening-most : (get_or (held_in x) k blank).reopening ≤ most_reopening
+    reopening-most = rw window-at at (in-range.reopens k inside)
 
-    pub one_more : (t : ℕ) → is_open (take (k + 1) (held_windows x)) t ≡ (is_open (take k (held_windows x)) t && not (in_window (window_in (get_or vs k blank)) t))
+    pub one_more : (t : ℕ) → is_open (take (k + 1) (held_windows x)) t
+        ≡ (is_open (take k (held_windows x)) t && not (in_window (window_in (get_or (held_in x) k blank)) t))
     one_more t = rw window-at at (first_next (held_windows x) k t inside)
 
 -- ---- one slot more of a window

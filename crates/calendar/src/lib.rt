@@ -13,7 +13,6 @@ ghost use Rattle.calendar.specs.Area.{area_holding, open_by};
 
 mod maintenance;
 
-use arrayvec::ArrayVec;
 use book::bytes::Field;
 pub use maintenance::{Calendar, MOST_WINDOWS, Window};
 use rules::{Fault, Refusal};
@@ -116,7 +115,7 @@ impl Calendar {
         ensures held { IfOk result (Held bytes.now) }
     {
         let count = window_count(bytes)?;
-        let mut windows = ArrayVec::new();
+        let mut windows = [Window::default(); MOST_WINDOWS];
         // the first slot at which the next window may begin
         let mut free = 0;
         for k in 0..count {
@@ -124,10 +123,10 @@ impl Calendar {
             if window.has_fault(free) {
                 return Err(Fault::Calendar.nowhere());
             }
-            windows.push(window);
+            windows[k] = window;
             free = window.reopening + 1;
         }
-        Ok(Self { windows })
+        Ok(Self { windows, count })
     }
 
     // How many open slots stand before a slot.
@@ -135,7 +134,7 @@ impl Calendar {
         ensures { result ≡ open_before (held_windows self.now) slot }
     {
         let mut open = usize::from(slot);
-        for window in self.windows.as_slice() {
+        for window in &self.windows[..self.count] {
             open -= window.shut_before(slot);
         }
         open
@@ -147,7 +146,7 @@ impl Calendar {
         ensures { (result ≡ slot_after (held_windows self.now) (2 * open_before (held_windows self.now) deadline)) × (result ≤ slots) }
     {
         let mut limit = 2 * self.open_before(deadline);
-        for window in self.windows.as_slice() {
+        for window in &self.windows[..self.count] {
             limit = window.past(limit);
         }
         limit
@@ -159,7 +158,7 @@ impl Calendar {
         ensures { (used : ℕ → ℕ) (bytes : List ℕ) → work.old ≡ area_holding slots used bytes →
             work.new ≡ area_holding slots (λ t. if is_open (held_windows self.now) t then used t else value) bytes }
     {
-        for window in self.windows.as_slice() {
+        for window in &self.windows[..self.count] {
             window.set(work, value);
         }
     }
@@ -169,7 +168,7 @@ impl Calendar {
         requires { flags.old ≡ replicate most_reopening 0 }
         ensures { ((t : ℕ) → open_by flags.new t ≡ is_open (held_windows self.now) t) × (length flags.new ≡ most_reopening) }
     {
-        for window in self.windows.as_slice() {
+        for window in &self.windows[..self.count] {
             window.flag(flags);
         }
     }

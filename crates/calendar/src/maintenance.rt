@@ -1,8 +1,8 @@
 // The windows of a calendar that passes.
+ghost use Rattle.std.specs.Prelude.{◌≤◌, take};
+ghost use Rattle.rules.specs.Limits.{most_windows};
 ghost use Rattle.rules.specs.Calendar.{CalendarInRange};
 ghost use Rattle.calendar.specs.Windows.{windows_in};
-
-use arrayvec::ArrayVec;
 
 // The most windows of a calendar.
 pub const MOST_WINDOWS: usize = 32;
@@ -14,9 +14,11 @@ pub struct Window {
     pub reopening: u16,
 }
 
-// A calendar that passes: its windows in order.
-#[derive(Drop)]
+// A calendar that passes: its windows in order, the first `count` of the array, so that it can be copied.
+#[derive(Clone, Copy)]
 pub struct Calendar {
-    pub windows: ArrayVec<Window, MOST_WINDOWS>,
-    pub ghost in_range: { CalendarInRange (windows_in windows.items) },
+    pub windows: [Window; MOST_WINDOWS],
+    pub count: usize,
+    pub ghost few: { count ≤ most_windows },
+    pub ghost in_range: { CalendarInRange (windows_in (take count windows)) },
 }

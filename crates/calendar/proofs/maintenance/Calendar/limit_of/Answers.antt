@@ -18,26 +18,25 @@ loop-window-init c =
 
 pub past-limit-requires : goal.past-limit-requires
 past-limit-requires c =
-    let s = c.as_slice-window-items in
-    (c.loop-window.invariant.within, not-empty c.args.self.now s.result.now s.ensures.value c.loop-window.window-index c.loop-window-test.true)
+    (c.loop-window.invariant.within, not-empty c.args.self.now c.loop-window.window-index c.loop-window-test.true)
 
 pub loop-window-preserved : goal.loop-window-preserved
 loop-window-preserved c =
     let x = c.args.self.now in
-    let s = c.as_slice-window-items in
     let l = c.loop-window in
     let n = 2 * open_before (held_windows x) c.args.deadline in
-    let next = rw (← c.past-limit.ensures) at (moved-on x s.result.now s.ensures.value l.window-index c.loop-window-test.true n l.limit l.invariant.reached) in
+    let next = rw (← c.past-limit.ensures) at (moved-on x l.window-index c.loop-window-test.true n l.limit l.invariant.reached) in
     record {
-      within = reached_most (held_windows x) (in-range x) c.args.deadline c.requires (l.window-index + 1) c.past-limit.result (omega (arith, as-many x s.result.now s.ensures.value)) next;
+      within =
+          reached_most (held_windows x) (in-range x) c.args.deadline c.requires (l.window-index + 1) c.past-limit.result (omega (arith, as-many x))
+          next;
       reached = next;
     }
 
 pub returns : goal.returns
 returns c =
     let x = c.args.self.now in
-    let s = c.as_slice-window-items in
     let l = c.loop-window in
     let all = subst (λ (w : Calendar). Reached w (2 * open_before (held_windows x) c.args.deadline) l.limit)
-    (all-taken x s.result.now s.ensures.value c.loop-window-test.false) l.invariant.reached in
+    (all-taken x c.loop-window-test.false) l.invariant.reached in
     (reached-all (held_windows x) (in-range x) c.args.deadline c.requires l.limit l.invariant.within all, l.invariant.within)

@@ -11,16 +11,13 @@ loop-window-init c = c.from-open.ensures ∙ sym (all_open (held_windows c.args.
 
 pub overflow_sub-open : goal.overflow_sub-open
 overflow_sub-open c =
-    let s = c.as_slice-window-items in
-    omega (arith, less-open c.args.self.now s.result.now s.ensures.value c.loop-window.window-index c.loop-window-test.true c.args.slot, c.loop-window.invariant)
+    omega (arith, less-open c.args.self.now c.loop-window.window-index c.loop-window-test.true c.args.slot, c.loop-window.invariant)
 
 pub loop-window-preserved : goal.loop-window-preserved
 loop-window-preserved c =
-    let s = c.as_slice-window-items in
-    omega (arith, less-open c.args.self.now s.result.now s.ensures.value c.loop-window.window-index c.loop-window-test.true c.args.slot, c.loop-window.invariant)
+    omega (arith, less-open c.args.self.now c.loop-window.window-index c.loop-window-test.true c.args.slot, c.loop-window.invariant)
 
 pub returns : goal.returns
 returns c =
-    let s = c.as_slice-window-items in
     c.loop-window.invariant
-    ∙ ap (λ (w : Calendar). open_before w c.args.slot) (all-taken c.args.self.now s.result.now s.ensures.value c.loop-window-test.false)
+    ∙ ap (λ (w : Calendar). open_before w c.args.slot) (all-taken c.args.self.now c.loop-window-test.false)

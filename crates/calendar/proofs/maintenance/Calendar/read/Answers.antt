@@ -1,17 +1,19 @@
 -- Window after window is tested beside the one before it; the windows that are read are the calendar's, and in range
 -- since it passes.
-use Rattle.std.proofs.Common.{arith, refl, sym, ◌∙◌}
+use Rattle.std.proofs.Common.{arith, ◌≡◌, refl, sym, take, ◌∙◌}
+use Rattle.std.proofs.lemmas.List.{take_more_set}
+use lib.ListN.{length-set}
 use Rattle.rules.specs.Calendar.{window_fault}
 use Rattle.rules.proofs.Reading.Passing.{calendar-pass_in-range}
 use Rattle.book.proofs.Verdicts.{passed_on}
 use Rattle.calendar.specs.Held.{held_windows}
 use Rattle.calendar.proofs.Verdicts.{window-tested, next_free, none_yet, none_more}
-use Rattle.calendar.proofs.Read.{windows-none, windows-next, windows-count, windows-all, window-refused, all-pass}
+use Rattle.calendar.proofs.Read.{windows-none, windows-next, windows-all, window-refused, all-pass}
 use Rattle.calendar.proofs.maintenance.Calendar.read.Goals as goal
 
 pub loop-k-init : goal.loop-k-init
 loop-k-init c =
-    record { none = none_yet (window_fault c.args.bytes.now); read = windows-none c.args.bytes.now c.new-windows.ensures; free = refl }
+    record { room = refl; none = none_yet (window_fault c.args.bytes.now); read = windows-none c.args.bytes.now refl; free = refl }
 
 pub returns-in_err-count-clause-verdict : goal.returns-in_err-count-clause-verdict
 returns-in_err-count-clause-verdict c =
@@ -25,21 +27,17 @@ returns-then-has_fault-clause-verdict c =
     let broken = sym tested ∙ sym c.has_fault.ensures ∙ c.if-has_fault.true in
     rw c.nowhere.ensures (sym (window-refused s c.in_ok-count.count c.in_ok-count.ensures l.k c.loop-k-test.true broken))
 
-pub push-requires : goal.push-requires
-push-requires c =
-    let l = c.loop-k in
-    let s = c.args.bytes.now in
-    omega (arith, c.in_ok-count.ensures.few, windows-count s l.windows.items l.k l.invariant.read)
-
 pub loop-k-preserved : goal.loop-k-preserved
 loop-k-preserved c =
     let l = c.loop-k in
     let s = c.args.bytes.now in
     let v = c.read-window.result in
     let tested = window-tested s l.k v c.read-window.ensures l.invariant.free in
+    let one-more = take_more_set l.windows l.k v (omega (arith, l.invariant.room, c.in_ok-count.ensures.few)) in
     record {
+      room = length-set l.windows l.k v ∙ l.invariant.room;
       none = none_more (window_fault s) l.k l.invariant.none (c.has_fault.ensures ∙ tested) c.if-has_fault.false;
-      read = windows-next s l.windows.items _ v l.k c.push.ensures.items l.invariant.read c.read-window.ensures;
+      read = windows-next s (take l.k l.windows) _ v l.k one-more l.invariant.read c.read-window.ensures;
       free = next_free s l.k v c.read-window.ensures;
     }
 
@@ -53,15 +51,17 @@ invariant_of-result c =
     let l = c.loop-k in
     let s = c.args.bytes.now in
     let passes = all-pass s c.in_ok-count.count c.in_ok-count.ensures l.k (omega arith) l.invariant.none in
-    let windows = windows-all s c.in_ok-count.count c.in_ok-count.ensures l.k (omega arith) l.windows.items l.invariant.read in
-    record { in_range = rw windows (calendar-pass_in-range s passes) }
+    let all : l.k ≡ c.in_ok-count.count = omega arith in
+    let windows = windows-all s c.in_ok-count.count c.in_ok-count.ensures l.k all (take l.k l.windows) l.invariant.read in
+    record { few = c.in_ok-count.ensures.few; in_range = rw (← all, windows) (calendar-pass_in-range s passes) }
 
 pub returns-clause-held : goal.returns-clause-held
 unfolding held_windows
 returns-clause-held c =
     let l = c.loop-k in
     let s = c.args.bytes.now in
+    let all : l.k ≡ c.in_ok-count.count = omega arith in
     record {
-      passes = all-pass s c.in_ok-count.count c.in_ok-count.ensures l.k (omega arith) l.invariant.none;
-      windows = windows-all s c.in_ok-count.count c.in_ok-count.ensures l.k (omega arith) l.windows.items l.invariant.read;
+      passes = all-pass s c.in_ok-count.count c.in_ok-count.ensures l.k all l.invariant.none;
+      windows = rw (← all) (windows-all s c.in_ok-count.count c.in_ok-count.ensures l.k all (take l.k l.windows) l.invariant.read);
     }

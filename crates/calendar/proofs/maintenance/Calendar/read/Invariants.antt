@@ -1,6 +1,6 @@
 -- The invariant: the windows before this one are read and keep their rules, and `free` is the first slot at which this
 -- one may begin.
-use Rattle.std.proofs.Common.{◌≡◌, false}
+use Rattle.std.proofs.Common.{◌≡◌, false, length, take}
 use Rattle.rules.specs.Walks.{any_to}
 use Rattle.rules.specs.Calendar.{window_fault}
 use Rattle.calendar.specs.Windows.{windows_in}
@@ -10,7 +10,8 @@ use Rattle.calendar.proofs.maintenance.Calendar.read.Given as goal
 
 abbrev pub invariant-loop-k : goal.invariant-loop-k
 invariant-loop-k l = record {
+  room : length l.windows ≡ 32;
   none : any_to (window_fault l.bytes) l.k ≡ false;
-  read : windows_in l.windows.items ≡ windows_to l.bytes l.k;
+  read : windows_in (take l.k l.windows) ≡ windows_to l.bytes l.k;
   free : l.free ≡ first_free l.bytes l.k;
 }

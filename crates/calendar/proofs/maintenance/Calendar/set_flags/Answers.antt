@@ -7,7 +7,7 @@ use Rattle.rules.specs.Calendar.{Calendar, is_open, in_window}
 use Rattle.calendar.specs.Area.{open_by}
 use Rattle.calendar.specs.Windows.{window_in}
 use Rattle.calendar.specs.Held.{held_windows}
-use Rattle.calendar.proofs.Windows.{blank, none-shut, all-taken, not-empty, reopening-most, one_more}
+use Rattle.calendar.proofs.Windows.{held_in, blank, none-shut, all-taken, not-empty, reopening-most, one_more}
 use Rattle.calendar.proofs.Flags.{unset_open}
 use Rattle.calendar.proofs.maintenance.Calendar.set_flags.Goals as goal
 
@@ -19,23 +19,23 @@ loop-window-init c = record {
 
 pub flag-requires : goal.flag-requires
 flag-requires c =
-    let s = c.as_slice-window-items in
     let k = c.loop-window.window-index in
-    let whole = not-empty c.args.self.now s.result.now s.ensures.value k c.loop-window-test.true in
-    let soon = reopening-most c.args.self.now s.result.now s.ensures.value k c.loop-window-test.true in
+    let whole = not-empty c.args.self.now k c.loop-window-test.true in
+    let soon = reopening-most c.args.self.now k c.loop-window-test.true in
     (omega arith, omega (arith, c.loop-window.invariant.as_many))
 
 pub loop-window-preserved : goal.loop-window-preserved
 loop-window-preserved c =
     let x = c.args.self.now in
-    let s = c.as_slice-window-items in
     let l = c.loop-window in record {
       as_many = omega (arith, c.flag.auto.flags, l.invariant.as_many);
-      shut = λ t. c.flag.ensures t ∙ ap (λ (o : Bool). o && not (in_window (window_in (get_or s.result.now l.window-index blank)) t)) (l.invariant.shut t) ∙ sym (one_more x s.result.now s.ensures.value l.window-index c.loop-window-test.true t);
+      shut = λ t.
+          c.flag.ensures t
+          ∙ ap (λ (o : Bool). o && not (in_window (window_in (get_or (held_in x) l.window-index blank)) t)) (l.invariant.shut t)
+          ∙ sym (one_more x l.window-index c.loop-window-test.true t);
     }
 
 pub returns : goal.returns
 returns c =
-    let s = c.as_slice-window-items in
-    let all = all-taken c.args.self.now s.result.now s.ensures.value c.loop-window-test.false in
+    let all = all-taken c.args.self.now c.loop-window-test.false in
     (λ t. c.loop-window.invariant.shut t ∙ ap (λ (w : Calendar). is_open w t) all, c.loop-window.invariant.as_many)

@@ -15,23 +15,20 @@ loop-window-init c = let a = c.args in shut_none slots a.value a.work.now (held_
 pub set-requires : goal.set-requires
 set-requires c =
     let x = c.args.self.now in
-    let s = c.as_slice-window-items in
     let k = c.loop-window.window-index in
-    let whole = not-empty x s.result.now s.ensures.value k c.loop-window-test.true in
-    let soon = reopening-most x s.result.now s.ensures.value k c.loop-window-test.true in
+    let whole = not-empty x k c.loop-window-test.true in
+    let soon = reopening-most x k c.loop-window-test.true in
     (omega arith, omega arith, omega arith)
 
 pub loop-window-preserved : goal.loop-window-preserved
 loop-window-preserved c =
     let a = c.args in
-    let s = c.as_slice-window-items in
     let l = c.loop-window in
     shut-next slots a.value a.work.now l.work (held_windows a.self.now) l.window-index _
-    (one_more a.self.now s.result.now s.ensures.value l.window-index c.loop-window-test.true) l.invariant c.set.ensures
+    (one_more a.self.now l.window-index c.loop-window-test.true) l.invariant c.set.ensures
 
 pub returns : goal.returns
 returns c =
     let a = c.args in
-    let s = c.as_slice-window-items in
-    let all = all-taken a.self.now s.result.now s.ensures.value c.loop-window-test.false in
+    let all = all-taken a.self.now c.loop-window-test.false in
     λ used bytes e. c.loop-window.invariant used bytes e ∙ ap (λ (w : Calendar). area_holding slots (λ t. if is_open w t then used t else a.value) bytes) all
