@@ -5,7 +5,7 @@ ghost use Rattle.std.specs.Prelude.{◌≡◌, ℕ, ◌+◌, ◌-◌, ◌*◌, �
 ghost use Rattle.rules.specs.Verdicts.{Pass};
 ghost use Rattle.rules.specs.Faults.{verdict_by};
 ghost use Rattle.rules.specs.Limits.{most_deadline, most_reopening, slots, work_bytes};
-ghost use Rattle.rules.specs.Calendar.{in_window, is_open, open_before, slot_after, window_at, calendar_fault, CalendarInRange};
+ghost use Rattle.rules.specs.Calendar.{in_window, is_open, open_before, slot_after, window_at, window_fault, calendar_fault, CalendarInRange};
 ghost use Rattle.calendar.specs.Windows.{window_in, windows_in};
 ghost use Rattle.calendar.specs.Held.{held_windows, Held};
 ghost use Rattle.calendar.specs.Layout.{LayoutRead};
@@ -172,6 +172,26 @@ impl Calendar {
             window.flag(flags);
         }
     }
+}
+
+// The calendar in these bytes, which pass.
+pub fn calendar_of(calendar: &[u8]) -> Calendar
+    requires { calendar_fault calendar.now ≡ Pass }
+    ensures { Held calendar.now result }
+{
+    Calendar::read(calendar).unwrap()
+}
+
+// Whether window k of a calendar's bytes breaks its rules, by itself or beside the one before it.
+pub fn window_fault(calendar: &[u8], k: usize) -> bool
+    requires { 6 + 4 * k + 4 ≤ length calendar.now }
+    ensures { result ≡ window_fault calendar.now k }
+{
+    let window = Window::read(calendar, k);
+    if window.has_fault(0) {
+        return true;
+    }
+    0 < k && window.shut <= Window::read(calendar, k - 1).reopening
 }
 
 // Whether a slot is open, by its flag; past the last flag every slot is.
