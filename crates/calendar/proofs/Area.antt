@@ -6,7 +6,7 @@ use mathlib.Core.Bool.{Bool, true, false, not, ◌&&◌}
 use mathlib.Core.List.{List, ◌++◌, append_assoc}
 use native.Mathlib.Nat.{zero-add}
 use native.Mathlib.Omega.{arith}
-use lib.ListN.{take, drop}
+use lib.ListN.{length, take, drop, length-append, length-drop}
 use lib.Seq.{sets}
 use Rattle.std.specs.Prelude.{if◌then◌else◌}
 use Rattle.rules.specs.Fields.{field, bytes_of}
@@ -27,6 +27,10 @@ module _ (n : ℕ) (area : List ℕ) where
   pub holding_ext : (g h : ℕ → ℕ) → ((t : ℕ) → t < n → g t ≡ h t) → area_holding n g area ≡ area_holding n h area
   unfolding area_holding
   holding_ext g h e = ap (◌++ drop (2 * n) area) (join-ext _ _ n 0 (λ k l. ap (bytes_of 2) (rw (zero-add k) (e k l))))
+
+  pub holding-length : (g : ℕ → ℕ) → 2 * n ≤ length area → length (area_holding n g area) ≡ length area
+  unfolding area_holding
+  holding-length g l = rw (length-append, length-drop, pairs-length g n 0) (omega arith)
 
   -- a slot's pair between those before it and the rest
   holding-around : (g : ℕ → ℕ) (t : ℕ) → t < n → area_holding n g area ≡ pairs g t 0 ++ bytes_of 2 (g t) ++ (pairs g (n - suc t) (suc t) ++ drop (2 * n) area)

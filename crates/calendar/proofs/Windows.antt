@@ -12,7 +12,7 @@ use lib.ListN.{length, get_or, take}
 use lib.Dec.{leb}
 use borrow.Author.Tests.{lt-ltb, le-ltb, le-leb, lt-leb}
 use Rattle.std.proofs.lemmas.List.{get_or-map, length-map, take_all}
-use Rattle.rules.specs.Limits.{most_reopening}
+use Rattle.rules.specs.Limits.{most_windows, most_reopening}
 use Rattle.rules.specs.Calendar.{Calendar, in_window, is_open, no_window, window_of, CalendarInRange}
 use Rattle.rules.proofs.Laws.Division.{lt-or_ge}
 use Rattle.calendar.specs.declared.maintenance.Window.{Window as HeldWindow}
@@ -48,6 +48,9 @@ module _ (x : Held) where
   pub in-range : CalendarInRange (held_windows x)
   unfolding held_windows
   in-range = x.in_range
+
+  pub count_most : x.count ≤ most_windows
+  count_most = x.few
 
   pub as-many : length (held_windows x) ≡ length (held_in x)
   unfolding held_windows windows_in
