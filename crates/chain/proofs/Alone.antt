@@ -70,6 +70,12 @@ flow-lasts w jobs of lasts = record {
   each = λ i h. let l : i < length jobs = omega (arith, of.count) in rw (of.each i l) (lasts.each i l);
 }
 
+-- .. and for the first n of them alone
+pub jobs-last-to : (w : Flow) (jobs : List JobRecord) → JobsOf w jobs → (n : ℕ) → n ≤ length jobs → JobsLast (take n jobs) →
+    (i : ℕ) → i < n → JobLasts (job_of w i)
+jobs-last-to w jobs of n within lasts i h =
+    rw (of.each i (omega arith)) (rw (get_or-take n jobs i no_record h) at (lasts.each i (omega (arith, length-take n jobs))))
+
 -- jobs in range are so without a limit of their caps
 job-lasts : (j : Job) → JobFits j → JobLasts j
 job-lasts j f = record { size_least = f.size_least; size_most = f.size_most; cap_least = f.cap_least }
@@ -104,24 +110,32 @@ last-take-within j some pos =
     let e : duration j ≡ suc d = omega (arith, duration-positive j pos some) in
     omega (arith, rw e at (size-within-duration j pos))
 
+-- the first n jobs of a flow, whatever those behind them are
+module _ (w : Flow) (n : ℕ) (lasts : (i : ℕ) → i < n → JobLasts (job_of w i)) where
+  -- a job lasts as many slots as its size has units, at most
+  duration-to : (i : ℕ) → i < n → duration (job_of w i) ≤ 1000000
+  duration-to i h =
+      let j = lasts i h in
+      duration_is-least (job_of w i) j.cap_least 1000000 (omega (arith, j.size_most, j.cap_least))
+
+  -- m jobs have ended after 1,000,000 slots each, at the latest
+  pub end-to : (m : ℕ) → m ≤ n → (i : ℕ) → i < m → end_of w i ≤ 1000000 * m
+  end-to zero most i h = absurd (not-suc-le-zero h)
+  end-to (suc m) most i h =
+      let below = end-to m (omega arith) in
+      last_or i m h
+      (λ q. rw q (omega (arith, end_is_start_plus-duration w m, start-within w m (1000000 * m) below, duration-to m (omega arith))))
+      (λ l. omega (arith, below i l))
+
 module _ (w : Flow) (lasts : FlowLasts w) where
   pub sized-of : Sized w
   sized-of = record { size_positive = λ i h. (lasts.each i h).size_least; cap_positive = λ i h. (lasts.each i h).cap_least }
 
-  -- a job lasts as many slots as its size has units, at most
   pub duration-most : (i : ℕ) → i < job_count w → duration (job_of w i) ≤ 1000000
-  duration-most i h =
-      let j = lasts.each i h in
-      duration_is-least (job_of w i) j.cap_least 1000000 (omega (arith, j.size_most, j.cap_least))
+  duration-most = duration-to w (job_count w) lasts.each
 
-  -- n jobs have ended after 1,000,000 slots each, at the latest
   pub end-most : (n : ℕ) → n ≤ job_count w → (i : ℕ) → i < n → end_of w i ≤ 1000000 * n
-  end-most zero most i h = absurd (not-suc-le-zero h)
-  end-most (suc n) most i h =
-      let below = end-most n (omega arith) in
-      last_or i n h
-      (λ q. rw q (omega (arith, end_is_start_plus-duration w n, start-within w n (1000000 * n) below, duration-most n (omega arith))))
-      (λ l. omega (arith, below i l))
+  end-most = end-to w (job_count w) lasts.each
 
   pub end-within : (i : ℕ) → i < job_count w → end_of w i ≤ 64000000
   end-within i h = omega (arith, end-most (job_count w) (omega arith) i h, lasts.few)

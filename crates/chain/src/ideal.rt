@@ -1,6 +1,6 @@
 // Rules 1 and 2 for the jobs of a flow: when each starts and ends on endless processors, and what it takes in its
 // slots.
-ghost use Rattle.std.specs.Prelude.{◌≡◌, ℕ, ◌+◌, ◌<◌, ◌≤◌, map, length, get_or, drop};
+ghost use Rattle.std.specs.Prelude.{◌≡◌, ℕ, ◌+◌, ◌<◌, ◌≤◌, map, length, get_or, take, drop};
 ghost use Rattle.rules.specs.Walks.{max_to};
 ghost use Rattle.rules.specs.Book.{Flow};
 ghost use Rattle.chain.specs.Jobs.{start_among};
@@ -56,7 +56,7 @@ pub fn start_of(jobs: &[IdealJob], predecessors: u64) -> u32
 // Rules 1 and 2 for the jobs below n. Those of lower jobs come from the call below: recursion on the job number, a form
 // that a rule of the project names.
 pub fn ends(jobs: &[JobRecord], n: usize, ideal: &mut [IdealJob])
-    requires { JobsLast jobs.now × (n ≤ length jobs.now) × (n ≤ length ideal.old) }
+    requires { JobsLast (take n jobs.now) × (n ≤ length jobs.now) × (n ≤ length ideal.old) }
     ensures alone { (w : Flow) → JobsOf w jobs.now → AloneTo w n ideal.new }
     ensures rest { drop n ideal.new ≡ drop n ideal.old }
 {

@@ -1,14 +1,14 @@
 // The chain of pseudo-jobs of a flow, rules 1 to 3.
 #![tactic(auto)]
 
-ghost use Rattle.std.specs.Prelude.{◌≡◌, ℕ, ◌≤◌, if◌then◌else◌};
-ghost use Rattle.chain.specs.Jobs.{job_with, LastsAs};
+ghost use Rattle.std.specs.Prelude.{◌≡◌, ◌++◌, ℕ, ◌-◌, ◌<◌, ◌≤◌, length, get_or, drop, if◌then◌else◌};
+ghost use Rattle.chain.specs.Jobs.{job_with, LastsAs, start_among, ends_by};
 
 pub mod held;
 pub mod ideal;
 
 pub use held::Chain;
-pub use ideal::skip_ended;
+pub use ideal::{least_from, skip_ended};
 
 // How many slots a job lasts, and what it takes in the last of them.
 #[derive(Clone, Copy)]
@@ -61,6 +61,49 @@ pub fn lasts(size: u32, cap: u32) -> Lasting
             slots: whole + 1,
             last: rest,
         }
+    }
+}
+
+// The largest end among the predecessors below n: a step for each of them, from the lowest set bit to the next.
+pub fn start_of(ends: &[u32], predecessors: u64, n: usize) -> u32
+    requires { (n ≤ 64) × (n ≤ length ends.now) }
+    ensures { result ≡ start_among predecessors ends.now n }
+{
+    let mut start: u32 = 0;
+    let mut bits = predecessors;
+    while bits != 0 {
+        let job = bits.trailing_zeros() as usize;
+        if n <= job {
+            return start;
+        }
+        start = start.max(ends[job]);
+        bits &= bits - 1;
+    }
+    start
+}
+
+// Rule 2 by itself, for any durations: the ends of the jobs below n, by their predecessors and slots. The ends of lower
+// jobs come from the call below.
+pub fn ends(predecessors: &[u64], slots: &[u32], n: usize, all: &mut [u32])
+    requires { (n ≤ 64) × (n ≤ length predecessors.now) × (n ≤ length slots.now) × (n ≤ length all.old) × ((i : ℕ) → i < n → get_or slots.now i 0 ≤ 1000000) }
+    ensures { all.new ≡ ends_by predecessors.now slots.now n ++ drop n all.old }
+{
+    if n == 0 {
+        return;
+    }
+    let k = n - 1;
+    ends(predecessors, slots, k, all);
+    let start = start_of(all, predecessors[k], k);
+    all[k] = start + slots[k];
+}
+
+// The first n jobs' starts: each stands the job's slots before its end.
+pub fn starts_of(ends: &[u32], slots: &[u32], n: usize, starts: &mut [u32])
+    requires { (n ≤ length ends.now) × (n ≤ length slots.now) × (n ≤ length starts.old) × ((i : ℕ) → i < n → get_or slots.now i 0 ≤ get_or ends.now i 0) }
+    ensures { (i : ℕ) → i < n → get_or starts.new i 0 ≡ get_or ends.now i 0 - get_or slots.now i 0 }
+{
+    for i in 0..n {
+        starts[i] = ends[i] - slots[i];
     }
 }
 
