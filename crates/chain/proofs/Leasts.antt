@@ -1,5 +1,5 @@
 -- The least of a list's numbers from each index on, found from the last index downwards. Assumes nothing.
-use mathlib.Core.Path.{◌≡◌, ap, ◌∙◌}
+use mathlib.Core.Path.{◌≡◌, refl, ap, ◌∙◌}
 use mathlib.Core.List.{List}
 use mathlib.Core.Logic.{◌⊎◌, inl, inr, ⊎_elim}
 use Prim.Native.Nat.{ℕ, suc, ◌≤◌, ◌<◌, min}
@@ -18,6 +18,16 @@ pub record LeastsFrom (l : List ℕ) (n k v : ℕ) (before leasts : List ℕ) : 
   pub none : k ≡ n → v ≡ 4294967295
   pub held : k < n → LeastFrom l n k v
   pub each : (i : ℕ) → k ≤ i → i < n → LeastFrom l n i (get_or leasts i 0)
+
+-- no index has one yet
+pub leasts-none : (l : List ℕ) (n : ℕ) (leasts : List ℕ) → LeastsFrom l n n 4294967295 leasts leasts
+leasts-none l n leasts = record {
+  size = refl;
+  within = le_refl n;
+  none = λ e. refl;
+  held = λ h. absurd (omega arith);
+  each = λ i h g. absurd (omega arith);
+}
 
 -- one index lower
 module _ (l : List ℕ) (n m k v r : ℕ) (first leasts : List ℕ) (em : m ≡ suc k) (before : LeastsFrom l n m v first leasts) (fits : get_or l k 0 ≤ 4294967295)

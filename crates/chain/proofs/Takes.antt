@@ -138,6 +138,15 @@ module _ (start end last cap t limit : ℕ) where
     module _ (turn running next cut : ℕ) (fits : t + limit ≤ 4294967295) (et : turn ≡ (if eqb last cap then end else end - 1))
         (er : running ≡ (if ltb t turn then turn else end)) (en : next ≡ (if ltb t start then start else running))
         (ec : cut ≡ (if leb end t then 4294967295 else next)) where
+      pub cut-ahead : t ≤ cut
+      cut-ahead = go (chosen (leb end t) ec) (chosen (ltb t start) en) (chosen (ltb t turn) er)
+        where
+          go : Chosen (leb end t) cut 4294967295 next → Chosen (ltb t start) next start running → Chosen (ltb t turn) running turn end → t ≤ cut
+          go (inl (a, c)) _ _ = omega arith
+          go (inr (a, c)) (inl (b, d)) _ = omega (arith, ltb-true t start b)
+          go (inr (a, c)) (inr (b, d)) (inl (f, g)) = omega (arith, ltb-true t turn f)
+          go (inr (a, c)) (inr (b, d)) (inr (f, g)) = omega (arith, leb-false end t a)
+
       pub change-at-cut : (n : ℕ) → n ≡ min (cut - t) limit → NextChange (take_between start end last cap) t limit n
       change-at-cut n e =
           go (chosen (leb end t) ec) (chosen (ltb t start) en) (chosen (ltb t turn) er) (chosen (eqb last cap) et)
