@@ -113,16 +113,12 @@ pub fn first_mismatch(jobs: &[JobState]) -> Option<u8>
     Some(i as u8)
 }
 
-// The rows of the current flow, from its first one at `from` on, with room lent for its jobs.
-pub fn walk_flow(
-    current: &Current,
-    room: &mut [JobState],
-    work: &mut [u8],
-    from: usize,
-) -> Result<FlowStop, Refusal>
-    requires { FlowBegins current.now.book.now.bytes.now (open_by current.now.shut.now) current.now.table.now work.old current.now.flow from × (current.now.head.jobs ≤ length room.old) }
+// The rows of the current flow, from its first one at `from` on.
+pub fn walk_flow(current: &Current, work: &mut [u8], from: usize) -> Result<FlowStop, Refusal>
+    requires { FlowBegins current.now.book.now.bytes.now (open_by current.now.shut.now) current.now.table.now work.old current.now.flow from }
     ensures { FlowWalked (book_of current.now.book.now.bytes.now) (open_by current.now.shut.now) current.now.table.now current.now.flow from work.old work.new result }
 {
+    let mut room = [JobState::default(); 64];
     let jobs = &mut room[..usize::from(current.head.jobs)];
     row::load_jobs(current, jobs);
     let stop = walk_rows(current, jobs, work, from)?;
@@ -161,7 +157,6 @@ pub fn walk_flows<'a>(
     };
     // An array, since flows are stored in service order.
     let mut ends = [without_rows; 64];
-    let mut room = [JobState::default(); 64];
     let flows = book.flow_count();
     let mut least: u32 = 0;
     let mut at = TABLE_HEAD + 2 * flows;
@@ -184,7 +179,7 @@ pub fn walk_flows<'a>(
             flow,
             head,
         };
-        let stop = walk_flow(&current, &mut room, work, at)?;
+        let stop = walk_flow(&current, work, at)?;
         ends[flow] = stop.end;
         at = stop.next;
         least = key + 1;

@@ -1,7 +1,6 @@
 -- `table_check::walk::walk_flows` meets its contract. The invariant: the rows so far pass, every flow is closed, and
 -- the next row is another flow's than the last one (`Between`). The measure is the bytes of the table that are left.
 -- Assumes nothing.
-use mathlib.Core.Path.{◌≡◌}
 use Prim.Native.Nat.{◌-◌}
 use lib.ListN.{length}
 use Rattle.rules.specs.Reading.{book_of}
@@ -13,7 +12,6 @@ use Rattle.table_check.proofs.walk.walk_flows.Given as goal
 abbrev pub invariant-loop-at : goal.invariant-loop-at
 invariant-loop-at l =
     Between l.book.bytes.now (open_by l.shut) l.table l.flows l.initial.work l.work l.ends l.least l.at (rows_to (book_of l.book.bytes.now) l.at)
-    × (length l.room ≡ 64)
 
 abbrev pub decreases-loop-at : goal.decreases-loop-at
 decreases-loop-at l = length l.table - l.at
