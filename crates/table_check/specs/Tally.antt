@@ -1,7 +1,7 @@
 -- What the walk over a table's rows keeps of the rows so far, and how it is read off them: of the flow whose rows are
 -- walked each job's total and the slot from which it is complete; the use of each slot in the work area. Assumes
 -- nothing.
-use Rattle.std.specs.Prelude.{◌≡◌, ℕ, ◌+◌, ◌*◌, ◌-◌, ◌/◌, ◌≤◌, ◌<◌, Bool, true, false, List, length, get_or, take, set, map, ltb, Option, None, Result, IfOk, MatchOption}
+use Rattle.std.specs.Prelude.{◌≡◌, ℕ, ◌+◌, ◌*◌, ◌-◌, ◌/◌, ◌≤◌, ◌<◌, Bool, List, length, get_or, take, set, map, ltb, Option, None, Result, IfOk}
 use Rattle.std.proofs.lemmas.List.Edits.{sets}
 use Rattle.rules.specs.declared.Fault.{Fault}
 use Rattle.rules.specs.Verdicts.{Pass}
@@ -15,6 +15,7 @@ use Rattle.rules.specs.Table.{table_head, row_length}
 use Rattle.rules.specs.Check.{table_rows, row_fault}
 use Rattle.book.specs.Promise.{job_from}
 use Rattle.table_check.specs.declared.row.JobState.{JobState}
+use Rattle.table_check.specs.declared.row.Asks.{Asks}
 use Rattle.book.specs.Records.{number_by}
 use Rattle.table_check.specs.Tests.{not_yet, test_number, asked_release, asked, ready_after}
 
@@ -44,11 +45,10 @@ pub record RowTested (b : Book) (opened : ℕ → Bool) (f : ℕ) (work : List �
   pub number : number_by t ≡ test_number b opened f (field 2 work (2 * r.slot)) least r
   pub used : IfOk t (λ used. used ≡ field 2 work (2 * r.slot))
 
--- what 19 asks at a row of a job: none where it stands before the release
-abbrev pub AskedAt : JobState → ℕ → ℕ → Option ℕ → Type 0
-AskedAt j release slot a =
-    MatchOption a (asked_release j.total release slot ≡ true)
-    (λ bits. (asked_release j.total release slot ≡ false) × (bits ≡ asked j.total j.job.predecessors))
+-- what 19 asks at a row in a slot, of a job
+pub record AskedAt (j : JobState) (release slot : ℕ) (a : Asks) : Type 0 where
+  pub unreleased : a.unreleased ≡ asked_release j.total release slot
+  pub bits : a.bits ≡ asked j.total j.job.predecessors
 
 -- there is room to count the row
 pub record Countable (jobs : List JobState) (work : List ℕ) (used : ℕ) (r : rules.Row) : Type 0 where

@@ -115,20 +115,29 @@ pub fn test_row(
     Ok(used)
 }
 
-// What 19 asks at a row in a slot: which predecessors of its job are to be complete, a bit each, or none where it
-// stands before the release. 19 is asked whole at a job's first row, and not at all once the job has a total, since it
-// was asked then and slots only rise.
+// What 19 asks at a row: whether it stands before the release, and which predecessors are to be complete, a bit each.
+#[derive(Clone, Copy)]
+pub struct Asks {
+    pub unreleased: bool,
+    pub bits: u64,
+}
+
+// 19 is asked whole at a job's first row, and not at all once the job has a total, since it was asked then and slots
+// only rise.
 #[tactic(auto, unfolding(crate::specs::Tests::asked_release, crate::specs::Tests::asked))]
-pub fn predecessors_due(job: &JobState, release: u16, slot: u16) -> Option<u64>
+pub fn predecessors_due(job: &JobState, release: u16, slot: u16) -> Asks
     ensures { AskedAt job.now release slot result }
 {
     if 0 < job.total {
-        return Some(0);
+        return Asks {
+            unreleased: false,
+            bits: 0,
+        };
     }
-    if slot < release {
-        return None;
+    Asks {
+        unreleased: slot < release,
+        bits: job.job.predecessors,
     }
-    Some(job.job.predecessors)
 }
 
 // Whether a job that is complete from a slot on, or not at all, is not yet so in `slot`.

@@ -78,9 +78,11 @@ pub fn walk_rows(
             Err(fault) => break 'rows Err(fault.at(r.flow, r.job)),
         };
         let job = &jobs[usize::from(r.job)];
-        let Some(mut bits) = row::predecessors_due(job, current.head.release, r.slot) else {
+        let asks = row::predecessors_due(job, current.head.release, r.slot);
+        if asks.unreleased {
             break 'rows Err(Fault::Precedence.at(r.flow, r.job));
-        };
+        }
+        let mut bits = asks.bits;
         let mut k: usize = 0;
         while bits != 0 {
             if row::lacks(bits, r.slot, jobs[k].ready) {

@@ -29,9 +29,9 @@ loop-bits-init c =
     let g = c.rows.invariant.0 in
     let here = c.if-current-at.false in
     let turn = turn_of g here c.read-r.result c.read-r.ensures (sym c.from.ensures ∙ c.if-from-current.false) c.test_row.ensures c.in-Ok.is in
-    let asked = c.in-Some.ensures in
-    asking-first g turn here (is-released g turn (asked_here g turn c.from-in-rows.ensures c.args.current.now.head_is.release asked.0))
-    (bits_here g turn c.from-in-rows.ensures asked.1)
+    let asked = c.predecessors_due-asks.ensures in
+    asking-first g turn here (is-released g turn (asked_here g turn c.from-in-rows.ensures c.args.current.now.head_is.release (sym asked.unreleased ∙ c.if-asks.false)))
+    (bits_here g turn c.from-in-rows.ensures asked.bits)
 
 pub offset_bounds-jobs-k : goal.offset_bounds-jobs-k
 offset_bounds-jobs-k c = omega (arith, asks-few c.loop-bits.invariant c.loop-bits-test.true)
@@ -70,13 +70,13 @@ returns-in-Err c =
     (walk_stops g c.rows.invariant.1 (more_rows g.headed g.reached here)
     (test_refused g here c.read-r.result c.read-r.ensures (sym c.from.ensures ∙ c.if-from-current.false) c.test_row.ensures c.in-Err.is))
 
-pub returns-in_default : goal.returns-in_default
-returns-in_default c =
+pub returns-then-asks : goal.returns-then-asks
+returns-then-asks c =
     let g = c.rows.invariant.0 in
     let turn = turn_of g c.if-current-at.false c.read-r.result c.read-r.ensures (sym c.from.ensures ∙ c.if-from-current.false) c.test_row.ensures c.in-Ok.is in
-    rw c.at-in_default.ensures
+    rw c.at-then-asks.ensures
     (walk_stops g c.rows.invariant.1 turn.more
-    (unreleased_stops g turn (asked_here g turn c.from-in-rows.ensures c.args.current.now.head_is.release c.in_default.ensures)))
+    (unreleased_stops g turn (asked_here g turn c.from-in-rows.ensures c.args.current.now.head_is.release (sym c.predecessors_due-asks.ensures.unreleased ∙ c.if-asks.true))))
 
 pub returns-then-lacks : goal.returns-then-lacks
 returns-then-lacks c =
