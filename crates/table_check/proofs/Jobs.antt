@@ -17,7 +17,7 @@ use Rattle.rules.specs.Rows.{Row}
 use Rattle.book.specs.Promise.{job_from}
 use Rattle.table_check.specs.declared.row.JobState.{JobState}
 use Rattle.table_check.specs.Tests.{ready_after}
-use Rattle.table_check.specs.Tally.{records_of, totals_of, readies_of, JobsHeld, JobsLoaded, Countable, RowCounted}
+use Rattle.table_check.specs.Tally.{records_of, totals_of, readies_of, JobsHeld, CapsHeld, JobsLoaded, Countable, RowCounted}
 
 -- past the last job
 abbrev pub blank : JobState
@@ -43,6 +43,9 @@ module _ {b : Book} {f : ℕ} {jobs : List JobState} (held : JobsHeld b f jobs) 
 
   pub held_record : (i : ℕ) → job_from (get_or jobs i blank).job ≡ job_of (flow_of b f) i
   held_record i = sym (record_at jobs i) ∙ held_job i
+
+  pub held_caps : CapsHeld b f jobs
+  held_caps = record { enough = omega (arith, held_count); cap_of = λ i h. ap (λ (j : Job). j.cap) (held_job i) }
 
 -- what holds of the value that is stored at index n, and of the values before at the other ones, holds of each value
 -- after

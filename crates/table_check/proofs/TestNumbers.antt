@@ -21,8 +21,8 @@ use Rattle.table_check.specs.declared.current.Current.{Current}
 use Rattle.table_check.specs.declared.row.JobState.{JobState}
 use Rattle.book.specs.Records.{number_by}
 use Rattle.table_check.specs.Tests.{rank_of, standing_number, amount_number, first_number, test_number}
-use Rattle.table_check.specs.Tally.{JobsHeld, RowTested}
-use Rattle.table_check.proofs.Jobs.{blank, held_record}
+use Rattle.table_check.specs.Tally.{CapsHeld, RowTested}
+use Rattle.table_check.proofs.Jobs.{blank, record_at}
 
 pub first-stands : (m n : ℕ) → (m ≡ 0 → ⊥) → first_number m n ≡ m
 unfolding first_number
@@ -119,12 +119,12 @@ module _ (current : Current) (least : ℕ) (r : Row) {key : ℕ} (key_is : key �
     tested-inside = standing-inside (job_count (flow_of b f)) (opened r.slot) least (rank_of r) r (sym standing_right ∙ none)
 
     -- 17 and 18
-    module _ (work : List ℕ) {held : List JobState} {used cap : ℕ} (jobs_held : JobsHeld (book_of current.book.now.bytes.now) current.flow held) (used_is : used ≡ field 2 work (2 * r.slot)) (cap_is : cap ≡ (get_or held r.job blank).job.cap)
+    module _ (work : List ℕ) {held : List JobState} {used cap : ℕ} (caps : CapsHeld (book_of current.book.now.bytes.now) current.flow held) (used_is : used ≡ field 2 work (2 * r.slot)) (cap_is : cap ≡ (get_or held r.job blank).job.cap)
         {U : Type 0} (amount : Result U Fault) (amount_is : number_by amount ≡ amount_number cap used current.book.now.processors r) where
       amount_right : number_by amount ≡ test_number (book_of current.book.now.bytes.now) (open_by current.shut.now) current.flow (field 2 work (2 * r.slot)) least r
       unfolding test_number
       amount_right =
-          amount_is ∙ rw (cap_is ∙ ap (λ (j : Job). j.cap) (held_record jobs_held r.job), current.book.now.processors_are, used_is)
+          amount_is ∙ rw (cap_is ∙ ap (λ (j : Job). j.cap) (sym (record_at held r.job)) ∙ caps.cap_of r.job tested-inside.1, current.book.now.processors_are, used_is)
           (sym (first_passes (standing_number (job_count (flow_of b f)) (opened r.slot) least (rank_of r) r) _ (sym standing_right ∙ none)))
 
       pub tested-amount : {e : Fault} → amount ≡ Err e → RowTested (book_of current.book.now.bytes.now) (open_by current.shut.now) current.flow work least r (Err e)

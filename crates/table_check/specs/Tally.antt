@@ -33,7 +33,12 @@ readies_of jobs = map (λ (j : JobState). j.ready) jobs
 pub record JobsHeld (b : Book) (f : ℕ) (jobs : List JobState) : Type 0 where
   pub same : records_of jobs ≡ (flow_of b f).jobs
 
--- the same before any row
+-- each job of flow f has its cap
+pub record CapsHeld (b : Book) (f : ℕ) (jobs : List JobState) : Type 0 where
+  pub enough : job_count (flow_of b f) ≤ length jobs
+  pub cap_of : (i : ℕ) → i < job_count (flow_of b f) → (get_or (records_of jobs) i no_job).cap ≡ (job_of (flow_of b f) i).cap
+
+-- the jobs of flow f before any row
 pub record JobsLoaded (b : Book) (f : ℕ) (jobs : List JobState) : Type 0 where
   pub held : JobsHeld b f jobs
   pub no_total : (i : ℕ) → i < job_count (flow_of b f) → get_or (totals_of jobs) i 0 ≡ 0

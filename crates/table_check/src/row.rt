@@ -6,7 +6,7 @@ ghost use Rattle.calendar.specs.Area.{open_by};
 ghost use Rattle.book.specs.Records.{number_by};
 ghost use Rattle.book.specs.Rows.{row_from};
 ghost use Rattle.table_check.specs.Tests.{rank_of, standing_number, amount_number, not_yet, lacks_at, ready_after};
-ghost use Rattle.table_check.specs.Tally.{JobsHeld, JobsLoaded, RowTested, AskedAt, Countable, RowCounted};
+ghost use Rattle.table_check.specs.Tally.{CapsHeld, JobsLoaded, RowTested, AskedAt, Countable, RowCounted};
 
 use super::current::Current;
 use book::JobRecord;
@@ -105,7 +105,7 @@ pub fn test_row(
     least: u32,
     row: Row,
 ) -> Result<u16, Fault>
-    requires { JobsHeld (book_of current.now.book.now.bytes.now) current.now.flow jobs.now × (work_bytes ≤ length work.now) }
+    requires { CapsHeld (book_of current.now.book.now.bytes.now) current.now.flow jobs.now × (work_bytes ≤ length work.now) }
     ensures { RowTested (book_of current.now.book.now.bytes.now) (open_by current.now.shut.now) current.now.flow work.now least (row_from row) result }
 {
     standing_fault(current.shut, current.head.jobs, least, rank_of(row), row)?;

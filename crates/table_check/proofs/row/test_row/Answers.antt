@@ -4,7 +4,6 @@ use mathlib.Core.Path.{refl}
 use native.Mathlib.Omega.{arith}
 use Rattle.std.proofs.lemmas.Result.{err_from_is_err_and}
 use Rattle.book.proofs.Starts.{jobs-few}
-use Rattle.table_check.proofs.Jobs.{held_count}
 use Rattle.table_check.proofs.TestNumbers.{tested-standing, tested-inside, tested-amount, tested-passes}
 use Rattle.table_check.proofs.row.test_row.Goals as goal
 
@@ -24,7 +23,7 @@ read-used-requires c =
 pub bounds-jobs-from : goal.bounds-jobs-from
 bounds-jobs-from c =
     let inside = tested-inside c.args.current.now _ _ c.rank_of.ensures.0 _ c.standing_fault.ensures c.in_ok-standing_fault.was in
-    omega (arith, inside.1, c.from-2.ensures, held_count c.requires.0)
+    omega (arith, inside.1, c.from-2.ensures, c.requires.0.enough)
 
 pub returns-in_err-amount_fault : goal.returns-in_err-amount_fault
 returns-in_err-amount_fault c =
