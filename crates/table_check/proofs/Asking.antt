@@ -19,7 +19,7 @@ use Rattle.book.specs.declared.row.Row.{Row}
 use Rattle.table_check.specs.declared.row.JobState.{JobState}
 use Rattle.book.specs.Rows.{row_from}
 use Rattle.table_check.specs.Tests.{not_yet, lacks_at, asked}
-use Rattle.table_check.specs.Tally.{totals_of, readies_of, rows_to}
+use Rattle.table_check.specs.Tally.{totals_of, ready_of, readies_of, rows_to}
 use Rattle.table_check.proofs.Jobs.{ready_at, blank, held_count}
 use Rattle.table_check.proofs.Turns.{Going, Turn}
 use Rattle.table_check.proofs.Counting.{unset_lacks, job_in, job_few, bits-few, lacks_stops, none_lacks}
@@ -69,7 +69,7 @@ module _ {book : List ℕ} {opened : ℕ → Bool} {table : List ℕ} {f : ℕ} 
     pub asks-in : (bits ≡ 0 → ⊥) → j < length jobs
     asks-in some = omega (arith, below-job some, job_in asking.going asking.turn, held_count asking.going.held)
 
-    module _ (some : bits ≡ 0 → ⊥) {lacking : Bool} (is : lacking ≡ lacks_at bits 0 r.slot (get_or jobs j blank).ready) where
+    module _ (some : bits ≡ 0 → ⊥) {lacking : Bool} (is : lacking ≡ lacks_at bits 0 r.slot (ready_of (get_or jobs j blank).ready)) where
       here : lacking ≡ lacks_at asking.all j r.slot (get_or (readies_of jobs) j None)
       here =
           is ∙ ap (lacks_at bits 0 r.slot) (sym (ready_at jobs j))

@@ -1,7 +1,8 @@
 -- What the walk over a table's rows keeps of the rows so far, and how it is read off them: of the flow whose rows are
 -- walked each job's total and the slot from which it is complete; the use of each slot in the work area. Assumes
 -- nothing.
-use Rattle.std.specs.Prelude.{◌≡◌, ℕ, ◌+◌, ◌*◌, ◌-◌, ◌/◌, ◌≤◌, ◌<◌, Bool, List, length, get_or, take, set, map, ltb, Option, None, Result, IfOk}
+use Rattle.std.specs.Prelude.{◌≡◌, ℕ, ◌+◌, ◌*◌, ◌-◌, ◌/◌, ◌≤◌, ◌<◌, Bool, List, length, get_or, take, set, map, ltb, eqb, if◌then◌else◌}
+use Rattle.std.specs.Prelude.{Option, Some, None, Result, IfOk}
 use Rattle.std.proofs.lemmas.List.Edits.{sets}
 use Rattle.rules.specs.declared.Fault.{Fault}
 use Rattle.rules.specs.Verdicts.{Pass}
@@ -15,6 +16,7 @@ use Rattle.rules.specs.Table.{table_head, row_length}
 use Rattle.rules.specs.Check.{table_rows, row_fault}
 use Rattle.book.specs.Promise.{job_from}
 use Rattle.table_check.specs.declared.row.JobState.{JobState}
+use Rattle.table_check.specs.declared.row.Ready.{Ready}
 use Rattle.table_check.specs.declared.row.Asks.{Asks}
 use Rattle.book.specs.Records.{number_by}
 use Rattle.table_check.specs.Tests.{not_yet, test_number, asked_release, asked, ready_after}
@@ -26,8 +28,13 @@ records_of jobs = map (λ (j : JobState). job_from j.job) jobs
 abbrev pub totals_of : List JobState → List ℕ
 totals_of jobs = map (λ (j : JobState). j.total) jobs
 
+-- a job that is complete in the last n of the 65,536 slots that a `u16` has is so from the first of these on, and where
+-- n is 0 from none on
+unfoldable pub ready_of : Ready → Option ℕ
+ready_of r = if eqb r.last 0 then None else Some (65536 - r.last)
+
 abbrev pub readies_of : List JobState → List (Option ℕ)
-readies_of jobs = map (λ (j : JobState). j.ready) jobs
+readies_of jobs = map (λ (j : JobState). ready_of j.ready) jobs
 
 -- the jobs are those of flow f, in order
 pub record JobsHeld (b : Book) (f : ℕ) (jobs : List JobState) : Type 0 where

@@ -1,12 +1,12 @@
 // One row of a table: tested by 15 to 18 and 25, asked for its release and predecessors, counted.
-ghost use Rattle.std.specs.Prelude.{◌≡◌, ◌+◌, ◌<◌, ◌≤◌, length};
+ghost use Rattle.std.specs.Prelude.{◌≡◌, ◌+◌, ◌<◌, ◌≤◌, length, Some};
 ghost use Rattle.rules.specs.Limits.{slots, work_bytes};
 ghost use Rattle.rules.specs.Reading.{book_of};
 ghost use Rattle.calendar.specs.Area.{open_by};
 ghost use Rattle.book.specs.Records.{number_by};
 ghost use Rattle.book.specs.Rows.{row_from};
 ghost use Rattle.table_check.specs.Tests.{rank_of, standing_number, amount_number, not_yet, lacks_at, ready_after};
-ghost use Rattle.table_check.specs.Tally.{CapsHeld, JobsLoaded, RowTested, AskedAt, Countable, RowCounted};
+ghost use Rattle.table_check.specs.Tally.{ready_of, CapsHeld, JobsLoaded, RowTested, AskedAt, Countable, RowCounted};
 
 use super::current::Current;
 use book::JobRecord;
@@ -17,13 +17,39 @@ use rules::Fault;
 // One past the greatest rank of a row in a slot: 8,192 slots of 64 jobs each.
 const RANKS: u32 = 524288;
 
+// From which slot on a job is complete: in how many of the last slots that a `u16` has, 0 where it is not. A number in
+// place of an `Option`, so that one comparison tells whether the job is complete in a slot: a row may ask that of 63.
+#[derive(Clone, Copy, Default)]
+pub struct Ready {
+    last: u16,
+}
+
+impl Ready {
+    // From the slot after this one on.
+    pub fn after(slot: u16) -> Ready
+        requires { slot < slots }
+        ensures { ready_of result ≡ Some (slot + 1) }
+    {
+        Ready {
+            last: u16::MAX - slot,
+        }
+    }
+
+    // Whether the job is not complete in a slot.
+    pub fn is_not_yet(self, slot: u16) -> bool
+        ensures { result ≡ not_yet slot (ready_of self) }
+    {
+        self.last <= u16::MAX - slot
+    }
+}
+
 // A job of the current flow: as the book has it, and by the rows so far its total and the slot from which it is
 // complete, none where it is not.
 #[derive(Clone, Copy, Default)]
 pub struct JobState {
     pub job: JobRecord,
     pub total: u32,
-    pub ready: Option<u16>,
+    pub ready: Ready,
 }
 
 impl JobState {
@@ -32,10 +58,11 @@ impl JobState {
     #[tactic(auto, unfolding(crate::specs::Tests::ready_after))]
     pub fn complete(&mut self, before: u32, slot: u16)
         requires { slot < slots }
-        ensures { self.new ≡ record self.old { ready = ready_after self.old.ready before self.old.total self.old.job.size slot } }
+        ensures kept { self.new ≡ record self.old { ready = self.new.ready } }
+        ensures ready { ready_of self.new.ready ≡ ready_after (ready_of self.old.ready) before self.old.total self.old.job.size slot }
     {
         if before < self.job.size && self.job.size <= self.total {
-            self.ready = Some(slot + 1);
+            self.ready = Ready::after(slot);
         }
     }
 }
@@ -49,7 +76,7 @@ pub fn load_jobs(current: &Current, jobs: &mut [JobState])
         *job = JobState {
             job: current.book.job(current.flow, i),
             total: 0,
-            ready: None,
+            ready: Ready::default(),
         };
     }
 }
@@ -140,18 +167,11 @@ pub fn predecessors_due(job: &JobState, release: u16, slot: u16) -> Asks
     }
 }
 
-// Whether a job that is complete from a slot on, or not at all, is not yet so in `slot`.
-fn is_not_yet(ready: Option<u16>, slot: u16) -> bool
-    ensures { result ≡ not_yet slot ready }
-{
-    ready.is_none_or(|from| slot < from)
-}
-
 // Whether the lowest bit names a predecessor that is not complete, or only from a later slot on.
-pub fn lacks(bits: u64, slot: u16, ready: Option<u16>) -> bool
-    ensures { result ≡ lacks_at bits 0 slot ready }
+pub fn lacks(bits: u64, slot: u16, ready: Ready) -> bool
+    ensures { result ≡ lacks_at bits 0 slot (ready_of ready) }
 {
-    bits % 2 == 1 && is_not_yet(ready, slot)
+    bits % 2 == 1 && ready.is_not_yet(slot)
 }
 
 // A row that passed is counted: in its slot's use, in its job's total, and where that completes the job.

@@ -47,7 +47,8 @@ pub walk_flow-requires : goal.walk_flow-requires
 walk_flow-requires c =
     let r = c.read-r in
     flow_begins c.loop-at.invariant c.loop-at-test.true r.result r.ensures c.from-flow.ensures c.if-flows-flow.false
-    c.head-head.ensures.jobs (rw (← c.head-head.ensures.deadline) c.service_key-key.ensures.0) c.standing_fault.ensures (passed c.standing_fault.result c.map_err.result c.map_err.ensures.variant _ c.in_ok-map_err.was) refl
+    c.head-head.ensures.jobs (rw (← c.head-head.ensures.deadline) c.service_key-key.ensures.0) c.standing_fault.ensures
+    (passed c.standing_fault.result c.map_err.result c.map_err.ensures.variant _ c.in_ok-map_err.was) refl
 
 pub returns-in_err-stop : goal.returns-in_err-stop
 returns-in_err-stop c =
@@ -64,7 +65,8 @@ loop-at-preserved c =
     let f = c.from-flow in
     let l = c.loop-at.invariant in
     let inside : f.result < flow_count (book_of c.args.book.now.bytes.now) = omega (arith, c.if-flows-flow.false, l.flows_are) in
-    between_next l c.in_ok-stop.ensures refl inside (omega (arith, c.service_key-key.ensures.0, c.head-head.ensures.deadline, f.ensures)) c.walk_flow.auto.work
+    between_next l c.in_ok-stop.ensures refl inside (omega (arith, c.service_key-key.ensures.0, c.head-head.ensures.deadline, f.ensures))
+    c.walk_flow.auto.work
 
 pub returns : goal.returns
 returns c = table-ends c.loop-at.invariant _ c.clear.ensures c.loop-at-test.false

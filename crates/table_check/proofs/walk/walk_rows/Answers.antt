@@ -33,7 +33,8 @@ loop-bits-init c =
     let here = c.if-current-at.false in
     let turn = turn_of g here c.read-r.result c.read-r.ensures (sym c.from.ensures ∙ c.if-from-current.false) c.test_row.ensures c.in-Ok.is in
     let asked = c.predecessors_due-asks.ensures in
-    asking-first g turn here (is-released g turn (asked_here g turn c.from-in-rows.ensures c.args.current.now.head_is.release (sym asked.unreleased ∙ c.if-asks.false)))
+    asking-first g turn here
+    (is-released g turn (asked_here g turn c.from-in-rows.ensures c.args.current.now.head_is.release (sym asked.unreleased ∙ c.if-asks.false)))
     (bits_here g turn c.from-in-rows.ensures asked.bits)
 
 pub offset_bounds-jobs-k : goal.offset_bounds-jobs-k
@@ -79,7 +80,8 @@ returns-then-asks c =
     let turn = turn_of g c.if-current-at.false c.read-r.result c.read-r.ensures (sym c.from.ensures ∙ c.if-from-current.false) c.test_row.ensures c.in-Ok.is in
     rw c.at-then-asks.ensures
     (walk_stops g c.rows.invariant.1 turn.more
-    (unreleased_stops g turn (asked_here g turn c.from-in-rows.ensures c.args.current.now.head_is.release (sym c.predecessors_due-asks.ensures.unreleased ∙ c.if-asks.true))))
+    (unreleased_stops g turn
+    (asked_here g turn c.from-in-rows.ensures c.args.current.now.head_is.release (sym c.predecessors_due-asks.ensures.unreleased ∙ c.if-asks.true))))
 
 pub returns-then-lacks : goal.returns-then-lacks
 returns-then-lacks c =
