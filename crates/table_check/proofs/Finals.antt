@@ -39,6 +39,9 @@ module _ (g : ℕ → Verdict) where
   pub one_walked : (k : ℕ) → first_fault g k ≡ Pass → g k ≡ Pass → first_fault g (k + 1) ≡ Pass
   one_walked k e d = rw add-one (fault-next g k e d)
 
+  pub all_walked : (k n : ℕ) → k ≤ n → n ≤ k → first_fault g k ≡ Pass → first_fault g n ≡ Pass
+  all_walked k n h l e = let same : n ≡ k = omega arith in ap (first_fault g) same ∙ e
+
   pub stopped : (k n m f j : ℕ) → k < n → first_fault g k ≡ Pass → g k ≡ Refused m f j → first_fault g n ≡ Refused m f j
   stopped k n m f j h e d = fault_stop g n k (Refused m f j) h (not-pass m f j) e d
 
@@ -51,11 +54,11 @@ module _ {b : Book} {f : ℕ} {jobs : List JobState} (held : JobsHeld b f jobs) 
   size_at : (i : ℕ) → (get_or jobs i blank).job.size ≡ (job_of (flow_of b f) i).size
   size_at i = ap (λ (j : Job). j.size) (held_record held i)
 
-  total_right : (i : ℕ) → (get_or jobs i blank).total ≡ (get_or jobs i blank).job.size → total_fault_by b f (totals_of jobs) i ≡ Pass
+  pub total_right : (i : ℕ) → (get_or jobs i blank).total ≡ (get_or jobs i blank).job.size → total_fault_by b f (totals_of jobs) i ≡ Pass
   unfolding total_fault_by
   total_right i e = rw (eq-eqb _ _ (total_at jobs i ∙ e ∙ size_at i)) refl
 
-  total_wrong : (i : ℕ) → ((get_or jobs i blank).total ≡ (get_or jobs i blank).job.size → ⊥) → total_fault_by b f (totals_of jobs) i ≡ Refused 20 f i
+  pub total_wrong : (i : ℕ) → ((get_or jobs i blank).total ≡ (get_or jobs i blank).job.size → ⊥) → total_fault_by b f (totals_of jobs) i ≡ Refused 20 f i
   unfolding total_fault_by
   total_wrong i n = rw (ne_eqb _ _ (λ e. n (sym (total_at jobs i) ∙ e ∙ sym (size_at i)))) refl
 
@@ -105,34 +108,49 @@ flow-totals b f so_far totals total =
 
 -- ---- the table's own
 -- of each of the first n flows, what the code holds
-module _ (ends : List FlowEnd) (n : ℕ) (enough : n ≤ length ends) where
-  mismatch-front : (f : ℕ) → f < n → get_or (mismatches_of (take n ends)) f without_rows ≡ get_or (mismatches_of ends) f without_rows
-  mismatch-front f h =
+module _ (ends : List FlowEnd) (n f : ℕ) (h : f < n) where
+  mismatch-front : get_or (mismatches_of (take n ends)) f without_rows ≡ get_or (mismatches_of ends) f without_rows
+  mismatch-front =
       ap (λ (l : List (Option ℕ)). get_or l f without_rows) (sym (take-map (λ (e : FlowEnd). e.mismatch) n ends)) ∙ get_or-take n (mismatches_of ends) f without_rows h
 
-  finish-front : (f : ℕ) → f < n → get_or (finishes_of (take n ends)) f 0 ≡ get_or (finishes_of ends) f 0
-  finish-front f h =
-      ap (λ (l : List ℕ). get_or l f 0) (sym (take-map (λ (e : FlowEnd). e.finish) n ends)) ∙ get_or-take n (finishes_of ends) f 0 h
+  finish-front : get_or (finishes_of (take n ends)) f 0 ≡ get_or (finishes_of ends) f 0
+  finish-front = ap (λ (l : List ℕ). get_or l f 0) (sym (take-map (λ (e : FlowEnd). e.finish) n ends)) ∙ get_or-take n (finishes_of ends) f 0 h
 
-module _ (b : Book) (range : InRange b) (rows : List Row) (ends : List FlowEnd) (closed : Closed b rows ends) (n : ℕ) (n-is : n ≡ flow_count b)
-    (enough : n ≤ length ends) where
-  pub mismatches-same : mismatches_fault (mismatches_of (take n ends)) (length (take n ends))
+module _ (b : Book) (range : InRange b) (rows : List Row) (ends : List FlowEnd) (closed : Closed b rows ends) where
+  pub mismatches-same : mismatches_fault (mismatches_of ends) (flow_count b)
       ≡ first_fault (λ f. first_fault (total_fault b rows f) (job_count (flow_of b f))) (flow_count b)
   unfolding mismatches_fault flow_totals
   mismatches-same =
-      ap (first_fault _) (length-take-le n ends enough ∙ n-is)
-      ∙ fault_ext (λ f. mismatch_fault f (get_or (mismatches_of (take n ends)) f without_rows))
-      (λ f. first_fault (total_fault b rows f) (job_count (flow_of b f))) (flow_count b)
-      (λ f h. ap (mismatch_fault f) (mismatch-front ends n enough f (omega (arith, n-is))) ∙ closed.mismatch_of f h)
+      fault_ext (λ f. mismatch_fault f (get_or (mismatches_of ends) f without_rows))
+      (λ f. first_fault (total_fault b rows f) (job_count (flow_of b f))) (flow_count b) (λ f h. closed.mismatch_of f h)
 
-  pub finishes-same : (table : List ℕ) → first_fault (finish_fault_by table (finishes_of (take n ends))) (length (take n ends))
+  pub finishes-same : (table : List ℕ) → first_fault (finish_fault_by table (finishes_of ends)) (flow_count b)
       ≡ first_fault (finish_fault table rows) (flow_count b)
   unfolding finish_fault_by finish_fault
   finishes-same table =
-      ap (first_fault _) (length-take-le n ends enough ∙ n-is)
-      ∙ fault_ext (finish_fault_by table (finishes_of (take n ends))) (finish_fault table rows) (flow_count b)
-      (λ f h. ap (λ (t : ℕ). if eqb (finish_in table f) t then Pass else Refused 21 f 255)
-      (finish-front ends n enough f (omega (arith, n-is)) ∙ closed.finish_of_is f (omega (arith, range.flows_most))))
+      fault_ext (finish_fault_by table (finishes_of ends)) (finish_fault table rows) (flow_count b)
+      (λ f h. ap (λ (t : ℕ). if eqb (finish_in table f) t then Pass else Refused 21 f 255) (closed.finish_of_is f (omega (arith, range.flows_most))))
 
   pub late-same : late_among b (finishes_of ends) ≡ late_flows b rows
   late-same = late-among b rows (finishes_of ends) (λ f h. closed.finish_of_is f (omega (arith, range.flows_most)))
+
+  -- of the ends of the book's flows alone
+  module _ (n : ℕ) (n-is : n ≡ flow_count b) (enough : n ≤ length ends) where
+    pub mismatches-taken : mismatches_fault (mismatches_of (take n ends)) (length (take n ends))
+        ≡ first_fault (λ f. first_fault (total_fault b rows f) (job_count (flow_of b f))) (flow_count b)
+    unfolding mismatches_fault
+    mismatches-taken =
+        ap (first_fault _) (length-take-le n ends enough ∙ n-is)
+        ∙ fault_ext (λ f. mismatch_fault f (get_or (mismatches_of (take n ends)) f without_rows))
+        (λ f. mismatch_fault f (get_or (mismatches_of ends) f without_rows)) (flow_count b)
+        (λ f h. ap (mismatch_fault f) (mismatch-front ends n f (omega (arith, n-is))))
+        ∙ mismatches-same
+
+    pub finishes-taken : (table : List ℕ) → first_fault (finish_fault_by table (finishes_of (take n ends))) (length (take n ends))
+        ≡ first_fault (finish_fault table rows) (flow_count b)
+    unfolding finish_fault_by
+    finishes-taken table =
+        ap (first_fault _) (length-take-le n ends enough ∙ n-is)
+        ∙ fault_ext (finish_fault_by table (finishes_of (take n ends))) (finish_fault_by table (finishes_of ends)) (flow_count b)
+        (λ f h. ap (λ (t : ℕ). if eqb (finish_in table f) t then Pass else Refused 21 f 255) (finish-front ends n f (omega (arith, n-is))))
+        ∙ finishes-same table

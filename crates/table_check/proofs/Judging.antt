@@ -29,7 +29,8 @@ use Rattle.table_check.specs.Tests.{head_fault}
 use Rattle.table_check.specs.Walk.{rows_fault, flow_totals, Ready, TableWalked, mismatches_of, finishes_of, mismatches_fault, finish_fault_by, fault_by, TableJudged, answer_by}
 use Rattle.book.specs.declared.passing.Book.{Book as Passing}
 use Rattle.book.specs.Late.{late_among}
-use Rattle.table_check.proofs.Finals.{mismatches-same, finishes-same, late-same}
+use Rattle.table_check.proofs.Heads.{head_of_book}
+use Rattle.table_check.proofs.Finals.{mismatches-taken, finishes-taken, late-same}
 
 -- ---- stages
 stop-here : (v w : Verdict) (n f j : ℕ) → v ≡ Refused n f j → (v and_then w) ≡ v
@@ -51,11 +52,6 @@ unfolding fault_by flow_totals totals_fault finishes_fault
 by_stages b opened table = refl
 
 -- ---- the stages in the values of the code
--- 14 by P and the number of flows is the book's
-head_of_book : (b : Book) (s : List ℕ) → head_fault b.processors (flow_count b) s ≡ table_head_fault b s
-unfolding head_fault table_head_fault
-head_of_book b s = refl
-
 module _ (k : Passing) {flows : ℕ} (flows-are : flows ≡ flow_count (book_of k.bytes.now)) (table : List ℕ) where
   abbrev b : Book
   b = book_of k.bytes.now
@@ -122,8 +118,8 @@ module _ (k : Passing) {flows : ℕ} (flows-are : flows ≡ flow_count (book_of 
         found_right =
             after-head opened Pass walked.verdict
             ∙ rw (
-              mismatches-same b range (table_rows b table) ends walked.closed flows flows-are ends_enough,
-              finishes-same b range (table_rows b table) ends walked.closed flows flows-are ends_enough table,
+              mismatches-taken b range (table_rows b table) ends walked.closed flows flows-are ends_enough,
+              finishes-taken b range (table_rows b table) ends walked.closed flows flows-are ends_enough table,
             ) refl
 
         pub ends_stop : {e : Refusal} → Refused (fault_number e.fault) e.flow e.job ≡ found → TableJudged (book_of k.bytes.now) opened table before after (Err e)
@@ -135,7 +131,7 @@ module _ (k : Passing) {flows : ℕ} (flows-are : flows ≡ flow_count (book_of 
           verdict = is ∙ sym found_right;
           cleared = walked.cleared;
           area = walked.area;
-          late = late_is ∙ late-same b range (table_rows b table) ends walked.closed flows flows-are ends_enough;
+          late = late_is ∙ late-same b range (table_rows b table) ends walked.closed;
         }
 
 -- ---- a call
@@ -173,12 +169,12 @@ module _ (book calendar table area : List ℕ) where
             (table_fault (book_with book calendar) table))
 
       module _ (room : work_bytes ≤ length area) {after : List ℕ} where
-        call-refused : {e : Refusal} → TableJudged (book_of book) (is_open (calendar_of calendar)) table area after (Err e) →
+        pub call-refused : {e : Refusal} → TableJudged (book_of book) (is_open (calendar_of calendar)) table area after (Err e) →
             check_call book calendar table area ≡ record { answer = check_refused (fault_number e.fault) e.flow e.job; area = work_zero slots after }
         unfolding check_outcome
         call-refused judged = call-read room judged ∙ rw judged.cleared refl
 
-        call-accepted : {late : ℕ} → TableJudged (book_of book) (is_open (calendar_of calendar)) table area after (Ok late) →
+        pub call-accepted : {late : ℕ} → TableJudged (book_of book) (is_open (calendar_of calendar)) table area after (Ok late) →
             check_call book calendar table area ≡ record { answer = check_accepted late; area = after }
         unfolding check_outcome
         call-accepted judged = call-read room judged ∙ rw (judged.area, judged.late) refl

@@ -12,6 +12,7 @@ pub mod Turns
 pub mod Counting
 pub mod Leaving
 pub mod Asking
+pub mod Heads
 pub mod Finals
 pub mod Flows
 pub mod Judging

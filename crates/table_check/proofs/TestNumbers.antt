@@ -1,12 +1,12 @@
 -- Laws of the tests of a row as numbers: the first that is not 0 counts. Assumes nothing.
 use mathlib.Core.Path.{◌≡◌, refl, sym, ap, ◌∙◌}
-use Prim.Native.Nat.{ℕ, ◌*◌, ◌<◌}
-use mathlib.Core.Bool.{Bool, true, false, not}
+use Prim.Native.Nat.{ℕ, ◌*◌, ◌≤◌, ◌<◌}
+use mathlib.Core.Bool.{Bool, true, false, not, or-true}
 use mathlib.Core.List.{List}
 use native.Mathlib.Omega.{arith}
 use lib.ListN.{get_or}
 use lib.Dec.{ltb, leb, eqb}
-use borrow.Author.Tests.{lt-leb, eq-eqb, ne_eqb, eqb-true, eqb-false, leb-false}
+use borrow.Author.Tests.{lt-ltb, le-ltb, le-leb, lt-leb, eq-eqb, ne_eqb, eqb-true, eqb-false, leb-false}
 use Rattle.std.specs.Prelude.{if◌then◌else◌, Result, Ok, Err}
 use Rattle.rules.specs.declared.Fault.{Fault}
 use Rattle.rules.specs.declared.Fault.TheVariants as fault
@@ -20,7 +20,7 @@ use Rattle.calendar.specs.Area.{open_by}
 use Rattle.table_check.specs.declared.current.Current.{Current}
 use Rattle.table_check.specs.declared.row.JobState.{JobState}
 use Rattle.book.specs.Records.{number_by}
-use Rattle.table_check.specs.Tests.{rank_of, standing_number, amount_number, first_number, test_number}
+use Rattle.table_check.specs.Tests.{rank_of, ranks, standing_number, amount_number, first_number, test_number}
 use Rattle.table_check.specs.Tally.{CapsHeld, RowTested}
 use Rattle.table_check.proofs.Jobs.{blank, record_at}
 
@@ -41,8 +41,28 @@ first-none m n e = go (eqb m 0) refl
     go true d = let m-none : m ≡ 0 = eqb-true m 0 d in (m-none, rw d at e)
     go false d = absurd (eqb-false m 0 d (rw d at e))
 
--- 25, past the range
+-- 15 by the job, and by the slot
+pub standing_by-job : (jobs : ℕ) (opened : Bool) (least key : ℕ) (r : Row) → jobs ≤ r.job → 15 ≡ standing_number jobs opened least key r
+unfolding standing_number
+standing_by-job jobs opened least key r h = rw (le-leb jobs r.job h, or-true (leb slots r.slot)) refl
+
+pub standing_by-slot : (jobs : ℕ) (opened : Bool) (least key : ℕ) (r : Row) → slots ≤ r.slot → 15 ≡ standing_number jobs opened least key r
+unfolding standing_number
+standing_by-slot jobs opened least key r h = rw (le-leb slots r.slot h) refl
+
+-- the rank of a row whose job is in range tells whether its slot is
+pub rank-outside : (r : Row) {jobs rank : ℕ} → jobs ≤ 64 → r.job < jobs → rank ≡ rank_of r → ranks ≤ rank → slots ≤ r.slot
+rank-outside r few job_in rank_is past = omega arith
+
+pub rank-inside : (r : Row) {rank : ℕ} → rank ≡ rank_of r → rank < ranks → r.slot < slots
+rank-inside r rank_is below = omega arith
+
+-- past these, 15 by the processors, then 25, then 16
 module _ (jobs : ℕ) (opened : Bool) (least key : ℕ) (r : Row) (slot_in : r.slot < slots) (job_in : r.job < jobs) where
+  pub standing_by-processors : r.processors ≡ 0 → 15 ≡ standing_number jobs opened least key r
+  unfolding standing_number
+  standing_by-processors e = rw (lt-leb slots r.slot slot_in, lt-leb jobs r.job job_in, eq-eqb r.processors 0 e) refl
+
   module _ (takes : r.processors ≡ 0 → ⊥) where
     past-range : standing_number jobs opened least key r ≡ (if not opened then 25 else if ltb key least then 16 else 0)
     unfolding standing_number
@@ -50,6 +70,12 @@ module _ (jobs : ℕ) (opened : Bool) (least key : ℕ) (r : Row) (slot_in : r.s
 
     pub standing_by-shut : opened ≡ false → 25 ≡ standing_number jobs opened least key r
     standing_by-shut e = sym (past-range ∙ rw e refl)
+
+    pub standing_by-order : opened ≡ true → key < least → 16 ≡ standing_number jobs opened least key r
+    standing_by-order e h = sym (past-range ∙ rw (e, lt-ltb key least h) refl)
+
+    pub standing_by-none : opened ≡ true → least ≤ key → 0 ≡ standing_number jobs opened least key r
+    standing_by-none e h = sym (past-range ∙ rw (e, le-ltb key least h) refl)
 
 -- a row that passes these stands in a slot and is one of the flow's jobs
 pub standing-inside : (jobs : ℕ) (opened : Bool) (least key : ℕ) (r : Row) → standing_number jobs opened least key r ≡ 0 → (r.slot < slots) × (r.job < jobs)
@@ -119,12 +145,14 @@ module _ (current : Current) (least : ℕ) (r : Row) {key : ℕ} (key_is : key �
     tested-inside = standing-inside (job_count (flow_of b f)) (opened r.slot) least (rank_of r) r (sym standing_right ∙ none)
 
     -- 17 and 18
-    module _ (work : List ℕ) {held : List JobState} {used cap : ℕ} (caps : CapsHeld (book_of current.book.now.bytes.now) current.flow held) (used_is : used ≡ field 2 work (2 * r.slot)) (cap_is : cap ≡ (get_or held r.job blank).job.cap)
+    module _ (work : List ℕ) {held : List JobState} {used cap : ℕ} (caps : CapsHeld (book_of current.book.now.bytes.now) current.flow held)
+        (used_is : used ≡ field 2 work (2 * r.slot)) (cap_is : cap ≡ (get_or held r.job blank).job.cap)
         {U : Type 0} (amount : Result U Fault) (amount_is : number_by amount ≡ amount_number cap used current.book.now.processors r) where
       amount_right : number_by amount ≡ test_number (book_of current.book.now.bytes.now) (open_by current.shut.now) current.flow (field 2 work (2 * r.slot)) least r
       unfolding test_number
       amount_right =
-          amount_is ∙ rw (cap_is ∙ ap (λ (j : Job). j.cap) (sym (record_at held r.job)) ∙ caps.cap_of r.job tested-inside.1, current.book.now.processors_are, used_is)
+          amount_is
+          ∙ rw (cap_is ∙ ap (λ (j : Job). j.cap) (sym (record_at held r.job)) ∙ caps.cap_of r.job tested-inside.1, current.book.now.processors_are, used_is)
           (sym (first_passes (standing_number (job_count (flow_of b f)) (opened r.slot) least (rank_of r) r) _ (sym standing_right ∙ none)))
 
       pub tested-amount : {e : Fault} → amount ≡ Err e → RowTested (book_of current.book.now.bytes.now) (open_by current.shut.now) current.flow work least r (Err e)

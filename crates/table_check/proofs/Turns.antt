@@ -155,7 +155,7 @@ module _ {book : List ℕ} {opened : ℕ → Bool} {table : List ℕ} {f : ℕ} 
         cap_right : (job_of (flow_of (book_of book) f) r.job).cap ≡ (job_of (flow_of (book_of book) r.flow) r.job).cap
         cap_right = rw own refl
 
-      test_stops : (number_by t ≡ 0 → ⊥) → row_fault (book_of book) opened (table_rows (book_of book) table) k ≡ Refused (number_by t) r.flow r.job
+      pub test_stops : (number_by t ≡ 0 → ⊥) → row_fault (book_of book) opened (table_rows (book_of book) table) k ≡ Refused (number_by t) r.flow r.job
       unfolding test_number
       test_stops n = go (eqb first 0) refl
         where
