@@ -1,6 +1,6 @@
 -- The search for a flow's first row: rows that are served before the flow stand in front of all others, so that the
--- row in the middle tells of all on one side of it, and the point that parts them is the first row. `Between` and
--- `halved` are the law of halving, by which such a search is made. Assumes nothing.
+-- row in the middle tells of all on one side of it, and the point that parts them is the first row. `Between` is what
+-- the search knows of the rows left. Assumes nothing.
 use mathlib.Core.Path.{◌≡◌, refl, ◌∙◌, sym, ap}
 use mathlib.Core.Bool.{Bool, true, false, false≢true, ◌&&◌}
 use Prim.Native.Nat.{ℕ, ◌+◌, ◌-◌, ◌/◌, ◌≤◌, ◌<◌}
@@ -41,12 +41,12 @@ module _ (b : Book) (rows : List Row) (f : ℕ) where
       record { within = omega (arith, w.span, w.within); earlier = w.earlier; others = λ k l m. w.others k (omega (arith, w.span)) m }
 
   module _ (low high middle : ℕ) (some : low < high) (half : middle ≡ (low + high) / 2) where
-    pub halved-less : (t : Bool) → (halved low high middle t).1 - (halved low high middle t).0 < high - low
+    pub halved-less : (t : Bool) → (halved low high middle t).high - (halved low high middle t).low < high - low
     halved-less true = omega arith
     halved-less false = omega arith
 
     pub between_half : Rising (Before b) rows → Between b rows f low high → (t : Bool) → served_before b (get_or rows middle no_row).flow f ≡ t →
-        Between b rows f (halved low high middle t).0 (halved low high middle t).1
+        Between b rows f (halved low high middle t).low (halved low high middle t).high
     between_half rising w true e = record {
       span = omega arith;
       within = w.within;
@@ -73,7 +73,7 @@ module _ (book table : List ℕ) (accepted : Accepted book table) (f : ℕ) wher
   earlier row = ltb (byte row 2) (flow_count b) && served_before b (byte row 2) f
 
   -- it is so of row k just where its flow is served before
-  earlier-is : (k : ℕ) (d : List ℕ) → k < length rows → earlier (get_or (map row_bytes rows) k d) ≡ served_before b (get_or rows k no_row).flow f
+  pub earlier-is : (k : ℕ) (d : List ℕ) → k < length rows → earlier (get_or (map row_bytes rows) k d) ≡ served_before b (get_or rows k no_row).flow f
   earlier-is k d l =
       ap (λ (row : List ℕ). earlier row) (get_or_default (map row_bytes rows) k d [] (omega (arith, length-map rows row_bytes)))
       ∙ ap (λ (g : ℕ). ltb g (flow_count b) && served_before b g f) (held-flow book table accepted k l)

@@ -12,6 +12,7 @@ use Rattle.rules.specs.Check.{no_row}
 use Rattle.rules.specs.Service.{served_before}
 use Rattle.dispatch.specs.declared.accepted.AcceptedTable.{AcceptedTable}
 use Rattle.dispatch.specs.declared.merge.Cursor as code
+use Rattle.dispatch.specs.declared.merge.Span.{Span}
 use Rattle.dispatch.specs.Accepted.{accepted_rows}
 use Rattle.dispatch.specs.Runs.{due_at}
 
@@ -76,11 +77,10 @@ pub record Cursors (b : Book) (rows : List Row) (t n : ℕ) (cursors : List code
   pub passed : (f : ℕ) → f < n → CursorAt rows (suc t) (get_or cursors f no_cursor)
   pub ahead : (f : ℕ) → n ≤ f → f < flow_count b → CursorAt rows t (get_or cursors f no_cursor)
 
--- what is left of the rows from `low` to below `high` after one look at the row in the middle: the law of halving, by
--- which such a search is made
-abbrev pub halved : ℕ → ℕ → ℕ → Bool → ℕ × ℕ
-halved low high middle true = (middle + 1, high)
-halved low high middle false = (low, middle)
+-- what is left of the rows from `low` to below `high`, in which it is looked for
+abbrev pub halved : ℕ → ℕ → ℕ → Bool → Span
+halved low high middle true = record { low = middle + 1; high = high }
+halved low high middle false = record { low = low; high = middle }
 
 -- the first row that is not of a flow served before flow f
 pub record FirstRow (b : Book) (rows : List Row) (f c : ℕ) : Type 0 where

@@ -8,7 +8,7 @@ ghost use Rattle.rules.specs.Service.{served_before};
 ghost use Rattle.rules.specs.Table.{rows_bytes};
 ghost use Rattle.rules.specs.Dispatch.{in_list_order};
 ghost use Rattle.book.specs.Promise.{DeadlinesOf};
-ghost use Rattle.dispatch.specs.Merge.{book_beside, rows_of, InUse, CursorStands, Cursors, FirstRow, FlowAsked, FlowListed, SlotAsked, SlotListed};
+ghost use Rattle.dispatch.specs.Merge.{book_beside, rows_of, InUse, CursorStands, Cursors, halved, FirstRow, FlowAsked, FlowListed, SlotAsked, SlotListed};
 
 use super::accepted::AcceptedTable;
 use super::run;
@@ -50,14 +50,42 @@ pub fn is_before(table: &AcceptedTable, deadlines: &[u16], row: &[u8; Row::SIZE]
     g < table.book.flow_count() && (deadlines[g], g) < (deadlines[f], f)
 }
 
+// The rows among which a flow's first one is looked for.
+#[derive(Clone, Copy)]
+pub struct Span {
+    pub low: usize,
+    pub high: usize,
+}
+
+// What is left of them, by whether the one in the middle comes earlier.
+pub fn halve(low: usize, high: usize, middle: usize, earlier: bool) -> Span
+    requires { middle < high }
+    ensures { result ≡ halved low high middle earlier }
+{
+    if earlier {
+        return Span {
+            low: middle + 1,
+            high,
+        };
+    }
+    Span { low, high: middle }
+}
+
 // The first row that is not of a flow served before flow f: that flow's own first row, where it has one.
 pub fn first_row(table: &AcceptedTable, deadlines: &[u16], f: usize) -> usize
     requires { DeadlinesOf table.now.book.now.bytes.now deadlines.now × (f < flow_count (book_beside table.now)) }
     ensures { FirstRow (book_beside table.now) (rows_of table.now) f result }
 {
-    table
-        .rows
-        .partition_point(|row| is_before(table, deadlines, row, f))
+    let mut low: usize = 0;
+    let mut high = table.rows.len();
+    while low < high {
+        let middle = (low + high) / 2;
+        let earlier = is_before(table, deadlines, &table.rows[middle], f);
+        let left = halve(low, high, middle, earlier);
+        low = left.low;
+        high = left.high;
+    }
+    low
 }
 
 // Each flow's cursor at its first row.
