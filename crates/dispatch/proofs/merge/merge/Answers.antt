@@ -21,12 +21,12 @@ loop-count-init c = (omega arith, c.requires.0, listed-none _ _)
 pub list_used-count-requires : goal.list_used-count-requires
 list_used-count-requires c =
     let i = c.loop-count.invariant in
-    (slot_asked c.args.table.now c.requires.2 i.0 c.loop-count-test.true i.1 i.2, c.requires.1)
+    (slot_asked c.args.table.now c.requires.2 i.0 (omega (arith, c.loop-count-test.true)) i.1 i.2, c.requires.1)
 
 pub loop-count-smaller : goal.loop-count-smaller
 loop-count-smaller c =
     let i = c.loop-count.invariant in
-    omega (arith, (slot_asked c.args.table.now c.requires.2 i.0 c.loop-count-test.true i.1 i.2).a_slot)
+    omega (arith, (slot_asked c.args.table.now c.requires.2 i.0 (omega (arith, c.loop-count-test.true)) i.1 i.2).a_slot)
 
 pub loop-count-preserved : goal.loop-count-preserved
 loop-count-preserved c =
@@ -35,7 +35,7 @@ loop-count-preserved c =
     let i = l.invariant in
     let r = c.list_used-count.ensures in
     let e : suc l.slot ≡ l.slot + 1 = omega arith in (
-      omega (arith, (slot_asked t c.requires.2 i.0 c.loop-count-test.true i.1 i.2).a_slot),
+      omega (arith, (slot_asked t c.requires.2 i.0 (omega (arith, c.loop-count-test.true)) i.1 i.2).a_slot),
       rw e at r.cursors_are,
       rw (sym e, below_next _ _ t.accepted) (listed-append i.2 r.listed),
     )
