@@ -106,19 +106,26 @@ impl PlanAnswer {
             length,
         }
     }
+
+    // Turned down with this number, at this flow and job.
+    pub fn refused(number: u8, flow: u8, job: u8) -> Self
+        ensures { result ≡ plan_refused number flow job }
+    {
+        Self {
+            number,
+            flow,
+            job,
+            late: 0,
+            length: 0,
+        }
+    }
 }
 
 impl From<Refusal> for PlanAnswer {
     ghost from_gives = { λ r answer. answer ≡ plan_refused (fault_number r.fault) r.flow r.job };
 
     fn from(r: Refusal) -> Self {
-        Self {
-            number: r.fault.number(),
-            flow: r.flow,
-            job: r.job,
-            late: 0,
-            length: 0,
-        }
+        Self::refused(r.fault.number(), r.flow, r.job)
     }
 }
 
@@ -144,18 +151,25 @@ impl CheckAnswer {
             late,
         }
     }
+
+    // Turned down with this number, at this flow and job.
+    pub fn refused(number: u8, flow: u8, job: u8) -> Self
+        ensures { result ≡ check_refused number flow job }
+    {
+        Self {
+            number,
+            flow,
+            job,
+            late: 0,
+        }
+    }
 }
 
 impl From<Refusal> for CheckAnswer {
     ghost from_gives = { λ r answer. answer ≡ check_refused (fault_number r.fault) r.flow r.job };
 
     fn from(r: Refusal) -> Self {
-        Self {
-            number: r.fault.number(),
-            flow: r.flow,
-            job: r.job,
-            late: 0,
-        }
+        Self::refused(r.fault.number(), r.flow, r.job)
     }
 }
 
@@ -181,18 +195,25 @@ impl ListAnswer {
             length,
         }
     }
+
+    // Turned down with this number, at this flow and job.
+    pub fn refused(number: u8, flow: u8, job: u8) -> Self
+        ensures { result ≡ list_refused number flow job }
+    {
+        Self {
+            number,
+            flow,
+            job,
+            length: 0,
+        }
+    }
 }
 
 impl From<Refusal> for ListAnswer {
     ghost from_gives = { λ r answer. answer ≡ list_refused (fault_number r.fault) r.flow r.job };
 
     fn from(r: Refusal) -> Self {
-        Self {
-            number: r.fault.number(),
-            flow: r.flow,
-            job: r.job,
-            length: 0,
-        }
+        Self::refused(r.fault.number(), r.flow, r.job)
     }
 }
 
@@ -218,17 +239,24 @@ impl FinishAnswer {
             finish,
         }
     }
+
+    // Turned down with this number, at this flow and job.
+    pub fn refused(number: u8, flow: u8, job: u8) -> Self
+        ensures { result ≡ finish_refused number flow job }
+    {
+        Self {
+            number,
+            flow,
+            job,
+            finish: 0,
+        }
+    }
 }
 
 impl From<Refusal> for FinishAnswer {
     ghost from_gives = { λ r answer. answer ≡ finish_refused (fault_number r.fault) r.flow r.job };
 
     fn from(r: Refusal) -> Self {
-        Self {
-            number: r.fault.number(),
-            flow: r.flow,
-            job: r.job,
-            finish: 0,
-        }
+        Self::refused(r.fault.number(), r.flow, r.job)
     }
 }
