@@ -1,4 +1,4 @@
--- The rows that pass a test: of rows one after the other, where none passes, where all do. Assumes nothing.
+-- The rows that pass a test: of rows one after the other, where none passes, where all do; no rows. Assumes nothing.
 use mathlib.Core.Path.{◌≡◌, refl, sym, ap, ◌∙◌}
 use mathlib.Core.Logic.{◌⊎◌, inl, inr}
 use mathlib.Core.Bool.{Bool, true, false, false≢true}
@@ -8,10 +8,14 @@ use mathlib.Core.List.Memᴰ
 use mathlib.Core.List.{List, [], ◌∷◌, ◌++◌}
 use lib.ListN.{length, get_or}
 use Rattle.std.specs.Prelude.{if◌then◌else◌}
+use Rattle.std.proofs.lemmas.List.{nil_from_length}
 use Rattle.rules.specs.Rows.{Row}
 use Rattle.rules.specs.Check.{no_row}
 use Rattle.rules.proofs.Rows.Rising.{◌∈◌, first_in, Rising}
 use Rattle.dispatch.specs.Merge.{keep_rows}
+
+pub no_rows : (xs : List Row) → length xs ≡ 0 → xs ≡ []
+no_rows = nil_from_length
 
 module _ (q : Row → Bool) where
   pub keep_append : (xs ys : List Row) → keep_rows q (xs ++ ys) ≡ keep_rows q xs ++ keep_rows q ys

@@ -25,8 +25,7 @@ use Rattle.rules.proofs.Rows.ListOrder as order
 use Rattle.rules.proofs.Rows.ListOrder.{listed_asymmetric, list_in, in_list, length-in_list_order, list-rising}
 use Rattle.dispatch.specs.Accepted.{Accepted, accepted_rows}
 use Rattle.dispatch.specs.Merge.{keep_rows, rows_at, rows_in, rows_below}
-use Rattle.std.proofs.lemmas.List.{nil_from_length}
-use Rattle.dispatch.proofs.Keeping.{keep_in, in_keep, keep-rising}
+use Rattle.dispatch.proofs.Keeping.{no_rows, keep_in, in_keep, keep-rising}
 use Rattle.dispatch.proofs.Cursors.{is_in, is_in_lem, in_is}
 use Rattle.dispatch.proofs.Tables.{row-passes, rows-rising}
 
@@ -139,7 +138,7 @@ module _ (book table : List ℕ) (accepted : Accepted book table) where
   whole-front t l h =
       let e = ap length (front t l) ∙ length-append (rows_below rows flows t) (join_from (rows_in rows flows) (slots - t) t) in
       let z : length (join_from (rows_in rows flows) (slots - t) t) ≡ 0 = omega (arith, e, length-in_list_order rows) in
-      sym (append-nil (rows_below rows flows t)) ∙ ap (rows_below rows flows t ++◌) (sym (nil_from_length (join_from (rows_in rows flows) (slots - t) t) z)) ∙ sym (front t l)
+      sym (append-nil (rows_below rows flows t)) ∙ ap (rows_below rows flows t ++◌) (sym (no_rows (join_from (rows_in rows flows) (slots - t) t) z)) ∙ sym (front t l)
 
   -- while the list is longer, a slot is left
   pub slot-left : (t : ℕ) → t ≤ slots → length (rows_below rows flows t) < length rows → t < slots

@@ -8,7 +8,7 @@ use mathlib.Core.Bool.{Bool, true, false, not, false≢true}
 use Prim.Native.Nat.{ℕ, zero, suc, ◌+◌, ◌*◌, ◌-◌, ◌/◌, ◌≤◌, ◌<◌}
 use native.Mathlib.Omega.{arith}
 use mathlib.Core.List.{List, [], ◌∷◌, ◌++◌}
-use lib.ListN.{length, get_or, take, drop, length-drop, length-append}
+use lib.ListN.{length, get_or, set, take, drop, length-drop, length-append}
 use lib.Seq.{sets, length-sets}
 use lib.Dec.{eqb}
 use borrow.Author.Tests.{le-leb, lt-leb, eqb-true, eq-eqb, ne_eqb}
@@ -195,18 +195,25 @@ sets_behind out xs ys n e =
     let z : n ≡ 0 + length xs = omega (arith, e) in
     rw z (sets-append out 0 xs ys)
 
--- what is written to the start of the rest
-pub sets_rest : (l ys zs : List ℕ) (n k : ℕ) → n + length ys ≤ length l → k ≡ length l - n → zs ≡ sets (drop n l) 0 ys → put_mid n k l zs ≡ sets l n ys
-sets_rest l ys zs n k fits e is =
-    let long = length-drop n l in
-    let z : 0 + length ys ≡ length ys = omega arith in
-    let tail : zs ≡ ys ++ drop (n + length ys) l =
-    is ∙ sets-eq ys (drop n l) 0 (omega (arith, long)) ∙ ap (λ (j : ℕ). ys ++ drop j (drop n l)) z ∙ ap (ys ++◌) (drop-drop (length ys) n l) in
-    let none : drop k (drop n l) ≡ [] = drop_all k (drop n l) (omega (arith, long)) in
-    ap (λ (t : List ℕ). take n l ++ (zs ++ t)) none
-    ∙ ap (take n l ++◌) (append-nil zs ∙ tail)
-    ∙ sym (append_assoc (take n l) ys (drop (n + length ys) l))
-    ∙ sym (sets-eq ys l n fits)
+-- what is written to a list without places, and what is written behind the first place
+sets_none : (ys : List ℕ) (k : ℕ) → sets [] k ys ≡ []
+sets_none [] k = refl
+sets_none (y ∷ ys) k = sets_none ys (suc k)
+
+sets-cons : (x : ℕ) (l ys : List ℕ) (k : ℕ) → sets (x ∷ l) (suc k) ys ≡ x ∷ sets l k ys
+sets-cons x l [] k = refl
+sets-cons x l (y ∷ ys) k = sets-cons x (set l k y) ys (suc k)
+
+-- what is written to the start of the rest, whether there is room for it or not
+sets_drop : (l ys : List ℕ) (n : ℕ) → take n l ++ sets (drop n l) 0 ys ≡ sets l n ys
+sets_drop l ys zero = refl
+sets_drop [] ys (suc n) = sets_none ys 0 ∙ sym (sets_none ys (suc n))
+sets_drop (x ∷ l) ys (suc n) = ap (x ∷◌) (sets_drop l ys n) ∙ sym (sets-cons x l ys n)
+
+pub sets_rest : (l ys zs : List ℕ) (n k : ℕ) → k ≡ length l - n → zs ≡ sets (drop n l) 0 ys → put_mid n k l zs ≡ sets l n ys
+sets_rest l ys zs n k e is =
+    let none : drop k (drop n l) ≡ [] = drop_all k (drop n l) (omega (arith, length-drop n l)) in
+    ap (λ (t : List ℕ). take n l ++ (zs ++ t)) none ∙ ap (take n l ++◌) (append-nil zs ∙ is) ∙ sets_drop l ys n
 
 -- ---- copies, one behind the other
 pub front-add : (rows : List (List ℕ)) (n m : ℕ) → front rows (n + m) ≡ front rows n ++ front (drop n rows) m
@@ -236,36 +243,34 @@ front_length rows six (suc n) h =
     ∙ length-append (front rows n) (get_or rows n [])
     ∙ omega (arith, front_length rows six n (omega arith), six.six n (omega arith))
 
--- behind a copy of its first rows there is room for the rest of a run, and a copy of that makes one copy of both
-module _ {rows : List (List ℕ)} {flow slot n : ℕ} {out mid : List ℕ} (six : SixEach rows) (asked : RunAsked rows flow slot (length out))
-    (p : Copied rows flow slot out mid n) where
-  pub rest_asked : RunAsked (behind rows n) flow slot (length (behind mid (6 * n)))
-  rest_asked =
+module _ {rows : List (List ℕ)} {flow slot n : ℕ} {out mid : List ℕ} (p : Copied rows flow slot out mid n) where
+  -- behind a copy of its first rows there is room for the rest of a run
+  pub rest_asked : RunAsked rows flow slot (length out) → RunAsked (behind rows n) flow slot (length (behind mid (6 * n)))
+  rest_asked asked =
       rw (rest_is rows n, rest_is mid (6 * n), length-drop (6 * n) mid, copied-length p)
       (room_after rows flow slot (length out) asked n p.each)
 
-  module _ {m : ℕ} {rest : List ℕ} where
-    pub copied-append : Copied (behind rows n) flow slot (behind mid (6 * n)) rest m →
-        Copied rows flow slot out (put_mid (6 * n) (length mid - 6 * n) mid rest) (n + m)
+  -- so many bytes are copied
+  pub copied-size : SixEach rows → 6 * n ≡ length (front rows n)
+  copied-size six = sym (front_length rows six n (run-inside rows flow slot n p.each))
+
+  -- and a copy of the rest behind the k bytes that are copied makes one copy of both
+  module _ {m k : ℕ} {rest : List ℕ} (size : k ≡ length (front rows n)) where
+    pub copied-append : Copied (behind rows n) flow slot (behind mid k) rest m →
+        Copied rows flow slot out (put_mid k (length mid - k) mid rest) (n + m)
     copied-append q =
-        let r : Copied (drop n rows) flow slot (drop (6 * n) mid) rest m = rw (rest_is rows n, rest_is mid (6 * n)) at q in
-        let each = run_of_joined rows flow slot n m p.each r.each in
-        let inside = run-inside rows flow slot (n + m) each in
-        let long = front_length rows six n (omega arith) in
-        let whole = front_length rows six (n + m) inside in
-        let both = ap length (front-add rows n m) ∙ length-append (front rows n) (front (drop n rows) m) in
+        let r : Copied (drop n rows) flow slot (drop k mid) rest m = rw (rest_is rows n, rest_is mid k) at q in
         record {
-          each = each;
+          each = run_of_joined rows flow slot n m p.each r.each;
           copied =
-              sets_rest mid (front (drop n rows) m) rest (6 * n) (length mid - 6 * n)
-              (omega (arith, long, whole, both, copied-length p, asked.fits (n + m) each)) refl r.copied
-              ∙ ap (λ (o : List ℕ). sets o (6 * n) (front (drop n rows) m)) p.copied
-              ∙ sets_behind out (front rows n) (front (drop n rows) m) (6 * n) long
+              sets_rest mid (front (drop n rows) m) rest k (length mid - k) refl r.copied
+              ∙ ap (λ (o : List ℕ). sets o k (front (drop n rows) m)) p.copied
+              ∙ sets_behind out (front rows n) (front (drop n rows) m) k (sym size)
               ∙ ap (sets out 0) (sym (front-add rows n m));
         }
 
-    pub run-copied-behind : RunCopied (behind rows n) flow slot (behind mid (6 * n)) rest m →
-        RunCopied rows flow slot out (put_mid (6 * n) (length mid - 6 * n) mid rest) (n + m)
+    pub run-copied-behind : RunCopied (behind rows n) flow slot (behind mid k) rest m →
+        RunCopied rows flow slot out (put_mid k (length mid - k) mid rest) (n + m)
     run-copied-behind q =
         let ends : due_at (drop n rows) m flow ≡ Some slot → ⊥ = rw (rest_is rows n) at q.run.ends in
         run-copied (copied-append (record { each = q.run.each; copied = q.copied })) (λ d. ends (due-drop rows n m flow ∙ d))
@@ -284,21 +289,27 @@ module _ (rows : List (List ℕ)) (flow slot : ℕ) (out₀ : List ℕ) where
   pub going-copied : {out : List ℕ} {n : ℕ} → Going rows flow slot out₀ out n → Copied rows flow slot out₀ out n
   going-copied g = record { each = g.each; copied = g.copied }
 
-  -- m rows more, whose bytes are these
-  pub going_more : {out : List ℕ} (n m : ℕ) (bytes : List ℕ) → SixEach rows → 6 * (n + m) ≤ length out₀ → RunOf rows flow slot (n + m) →
+  -- m rows more, behind the k bytes that are copied
+  pub going_more : {out out' : List ℕ} (n m k : ℕ) → k ≡ length (front rows n) → RunOf rows flow slot (n + m) →
+      out' ≡ sets out k (front (drop n rows) m) → Going rows flow slot out₀ out n → Going rows flow slot out₀ out' (n + m)
+  going_more {out} {out'} n m k size each e g =
+      let copied : out' ≡ sets out₀ 0 (front rows (n + m)) =
+      e
+      ∙ ap (λ (o : List ℕ). sets o k (front (drop n rows) m)) g.copied
+      ∙ sets_behind out₀ (front rows n) (front (drop n rows) m) k (sym size)
+      ∙ ap (sets out₀ 0) (sym (front-add rows n m)) in
+      record { kept = ap length copied ∙ length-sets out₀ 0 (front rows (n + m)); each = each; copied = copied }
+
+  -- where each has six bytes, and these are put where there is room for them
+  pub going_put : {out : List ℕ} (n m : ℕ) (bytes : List ℕ) → SixEach rows → 6 * (n + m) ≤ length out₀ → RunOf rows flow slot (n + m) →
       bytes ≡ front (drop n rows) m → Going rows flow slot out₀ out n → Going rows flow slot out₀ (put_mid (6 * n) (6 * m) out bytes) (n + m)
-  going_more {out} n m bytes six fits each is g =
+  going_put {out} n m bytes six fits each is g =
       let inside = run-inside rows flow slot (n + m) each in
       let long = front_length rows six n (omega arith) in
       let whole = front_length rows six (n + m) inside in
       let both = ap length (front-add rows n m) ∙ length-append (front rows n) (front (drop n rows) m) in
-      let copied : put_mid (6 * n) (6 * m) out bytes ≡ sets out₀ 0 (front rows (n + m)) =
-      put_sets (6 * n) (6 * m) out bytes (ap length is ∙ omega (arith, long, whole, both)) (omega (arith, g.kept))
-      ∙ ap (sets out (6 * n)) is
-      ∙ ap (λ (o : List ℕ). sets o (6 * n) (front (drop n rows) m)) g.copied
-      ∙ sets_behind out₀ (front rows n) (front (drop n rows) m) (6 * n) long
-      ∙ ap (sets out₀ 0) (sym (front-add rows n m)) in
-      record { kept = ap length copied ∙ length-sets out₀ 0 (front rows (n + m)); each = each; copied = copied }
+      let put = put_sets (6 * n) (6 * m) out bytes (ap length is ∙ omega (arith, long, whole, both)) (omega (arith, g.kept)) in
+      going_more n m (6 * n) (sym long) each (put ∙ ap (sets out (6 * n)) is) g
 
   -- one row more
   pub going_row : {out : List ℕ} (n k : ℕ) (row : List ℕ) → SixEach rows → RunAsked rows flow slot (length out₀) → due_at rows n flow ≡ Some slot →
@@ -314,7 +325,7 @@ module _ (rows : List (List ℕ)) (flow slot : ℕ) (out₀ : List ℕ) where
       (front-next (drop n rows) 0 (omega (arith, length-drop n rows))
       ∙ get_or-drop n rows 0 []
       ∙ ap (λ (j : ℕ). get_or rows j []) first) in
-      rw six_is (going_more n 1 row six (asked.fits (n + 1) each) each one g)
+      rw six_is (going_put n 1 row six (asked.fits (n + 1) each) each one g)
 
   -- a block more
   pub going_block : {out : List ℕ} (k size : ℕ) (bytes : List ℕ) → SixEach rows → RunAsked rows flow slot (length out₀) →
@@ -324,4 +335,4 @@ module _ (rows : List (List ℕ)) (flow slot : ℕ) (out₀ : List ℕ) where
       let at : 96 * k ≡ 6 * (16 * k) = omega arith in
       let z : 16 * (k + 1) ≡ 16 * k + 16 = omega arith in
       let each = run_block rows flow slot (length out₀) asked (16 * k) due in
-      rw (size_is, at, z) (going_more (16 * k) 16 bytes six (asked.fits (16 * k + 16) each) each is g)
+      rw (size_is, at, z) (going_put (16 * k) 16 bytes six (asked.fits (16 * k + 16) each) each is g)

@@ -10,7 +10,6 @@ use lib.Dec.{eqb}
 use borrow.Author.Tests.{eqb-true, eqb-false, eq-eqb}
 use borrow.Rule.Slice.PartMut.{put_mid}
 use Rattle.std.specs.Prelude.{Some, unwrap_or}
-use Rattle.std.proofs.lemmas.List.{nil_from_length}
 use Rattle.rules.specs.Fields.{field}
 use Rattle.rules.specs.Walks.{join_from}
 use Rattle.rules.specs.Limits.{slots}
@@ -32,7 +31,7 @@ use Rattle.dispatch.specs.declared.accepted.AcceptedTable.{AcceptedTable}
 use Rattle.dispatch.specs.Merge.{book_beside, rows_of, InUse, rows_at, rows_in, rows_below, Cursor, CursorStands, CursorAt, Cursors, no_cursor, RowsListed, FlowAsked, SlotAsked}
 use Rattle.dispatch.proofs.Listing.{flow-room, slot-left, slot-room}
 use Rattle.dispatch.proofs.Runs.{behind, rest_is, run_none, due-drop, sets_rest}
-use Rattle.dispatch.proofs.Keeping.{keep-none}
+use Rattle.dispatch.proofs.Keeping.{no_rows, keep-none}
 use Rattle.dispatch.proofs.Cursors.{is_in, not_in}
 use Rattle.dispatch.proofs.Tables.{in_range, row-passes, use-within, due-within, due-row-slot, after_run, run-size, run-bytes}
 
@@ -157,17 +156,16 @@ module _ (book table : List ℕ) (accepted : Accepted book table) (f t at : ℕ)
   held = map row_bytes (accepted_rows book table)
 
   -- a run that is copied lists the flow's rows in the slot
-  pub run-listed : (count n : ℕ) (out out' : List ℕ) → 6 * (count + length (rows_at (accepted_rows book table) t f)) ≤ length out →
-      RunCopied (behind held at) f t (behind out (6 * count)) out' n →
+  pub run-listed : (count n : ℕ) (out out' : List ℕ) → RunCopied (behind held at) f t (behind out (6 * count)) out' n →
       RowsListed (rows_at (accepted_rows book table) t f) count out (put_mid (6 * count) (length out - 6 * count) out out') (count + n)
-  run-listed count n out out' fits r =
+  run-listed count n out out' r =
       let rows = rows_at (accepted_rows book table) t f in
       let written : out' ≡ sets (drop (6 * count) out) 0 (rows_bytes rows) =
       r.copied
       ∙ ap (λ (o : List ℕ). sets o 0 (front (behind held at) n)) (rest_is out (6 * count))
       ∙ ap (sets (drop (6 * count) out) 0) (run-bytes book table accepted f t at cursor n r.run) in
       record {
-        written = sets_rest out (rows_bytes rows) out' (6 * count) (length out - 6 * count) (omega (arith, rows-bytes-length rows)) refl written;
+        written = sets_rest out (rows_bytes rows) out' (6 * count) (length out - 6 * count) refl written;
         next_is = ap (count +◌) (run-size book table accepted f t at cursor n r.run);
       }
 
@@ -188,7 +186,7 @@ module _ (book table : List ℕ) (accepted : Accepted book table) (f t at : ℕ)
         rw here at (after_run book table accepted f t at cursor 0 nothing)
 
     none-there : rows_at (accepted_rows book table) t f ≡ []
-    none-there = nil_from_length (rows_at (accepted_rows book table) t f) (sym (run-size book table accepted f t at cursor 0 nothing))
+    none-there = no_rows (rows_at (accepted_rows book table) t f) (sym (run-size book table accepted f t at cursor 0 nothing))
 
     pub kept-listed : (count : ℕ) (out : List ℕ) → RowsListed (rows_at (accepted_rows book table) t f) count out out count
     kept-listed count out = rw none-there (listed-none count out)

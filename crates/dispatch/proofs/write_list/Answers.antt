@@ -8,8 +8,6 @@ use lib.Seq.{sets, length-sets}
 use Rattle.rules.specs.Reading.{book_of}
 use Rattle.rules.specs.Table.{rows_bytes}
 use Rattle.rules.specs.Dispatch.{in_list_order}
-use Rattle.rules.proofs.Tables.TableBytes.{rows-bytes-length}
-use Rattle.rules.proofs.Rows.ListOrder.{length-in_list_order}
 use Rattle.dispatch.specs.Accepted.{accepted_rows}
 use Rattle.dispatch.specs.Call.{list_head_bytes}
 use Rattle.dispatch.proofs.Runs.{behind, rest_is, sets_rest}
@@ -53,11 +51,8 @@ returns c =
     let rows = accepted_rows a.book.now a.table.now in
     let list = rows_bytes (in_list_order rows) in
     let head = c.put_head.new.out in
-    let size = c.requires.size_is ∙ list-length_is rows in
-    let kept = ap length c.put_head.ensures ∙ length-sets a.out.now 0 (list_head_bytes a.size c.passing_book-book.result.processors) in
     let merged : c.merge.new.out ≡ sets (behind head 7) 0 list = rw (t.ensures.book, t.ensures.table, same) at c.merge.ensures in
-    sets_rest head list c.merge.new.out 7 _
-    (omega (arith, rows-bytes-length (in_list_order rows), length-in_list_order rows, size, kept, c.requires.has_room)) refl
+    sets_rest head list c.merge.new.out 7 _ refl
     (merged ∙ ap (λ (o : List ℕ). sets o 0 list) (rest_is head 7))
     ∙ ap (λ (o : List ℕ). sets o 7 list) c.put_head.ensures
     ∙ ap (λ (p : ℕ). sets (sets a.out.now 0 (list_head_bytes a.size p)) 7 list) (c.passing_book-book.result.processors_are ∙ ap (λ (s : List ℕ). (book_of s).processors) same)

@@ -57,5 +57,5 @@ returns c =
     record {
       flow_is = c.set.ensures.flow_is;
       cursor = cursor_stands c.set.ensures (after_run _ _ t.accepted _ _ _ c.requires.cursor.stands _ copied.run);
-      listed = run-listed _ _ t.accepted _ _ _ c.requires.cursor.stands _ _ _ _ c.requires.fits copied;
+      listed = run-listed _ _ t.accepted _ _ _ c.requires.cursor.stands _ _ _ _ copied;
     }

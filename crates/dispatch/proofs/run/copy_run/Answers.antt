@@ -2,7 +2,7 @@
 -- all. Assumes nothing.
 use mathlib.Core.Path.{ap}
 use lib.ListN.{length, length-drop}
-use Rattle.dispatch.proofs.Runs.{rest_is, run-inside, rest_asked, run-copied, run-copied-behind}
+use Rattle.dispatch.proofs.Runs.{rest_is, run-inside, rest_asked, run-copied, copied-size, run-copied-behind}
 use native.Mathlib.Omega.{arith}
 use Rattle.dispatch.proofs.run.copy_run.Goals as goal
 
@@ -16,7 +16,7 @@ pub slice_bounds-copy_long-start : goal.slice_bounds-copy_long-start
 slice_bounds-copy_long-start c = let i = run-inside _ _ _ _ c.copy_some-count.ensures.some.each in omega (arith, i)
 
 pub copy_long-requires-2 : goal.copy_long-requires-2
-copy_long-requires-2 c = rest_asked (record { six = c.told-rows }) c.requires c.copy_some-count.ensures.some
+copy_long-requires-2 c = rest_asked c.copy_some-count.ensures.some c.requires
 
 pub overflow_add-result : goal.overflow_add-result
 overflow_add-result c =
@@ -26,4 +26,4 @@ overflow_add-result c =
     omega (arith, run-inside _ _ _ _ c.copy_some-count.ensures.some.each, more, ap length (rest_is a.rows.now n), length-drop n a.rows.now)
 
 pub returns : goal.returns
-returns c = run-copied-behind (record { six = c.told-rows }) c.requires c.copy_some-count.ensures.some c.copy_long-2.ensures
+returns c = let p = c.copy_some-count.ensures.some in run-copied-behind p (copied-size p (record { six = c.told-rows })) c.copy_long-2.ensures
