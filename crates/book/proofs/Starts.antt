@@ -8,7 +8,7 @@ use native.Mathlib.Omega.{arith}
 use lib.ListN.{length, get_or}
 use lib.Seq.{ext_get_or}
 use Rattle.std.specs.Prelude.{map}
-use Rattle.std.proofs.lemmas.List.{length-map}
+use Rattle.std.proofs.lemmas.List.{length-map, get_or-take}
 use Rattle.std.proofs.Math.ListN.{get_or-map}
 use Rattle.rules.specs.Walks.{list_from}
 use Rattle.rules.specs.Book.{Flow, no_job, flow_count, job_count, job_of}
@@ -52,16 +52,18 @@ flow-read-is w h jobs d r n each =
 
 -- ---- the flows of a book
 module _ (b : Book) where
-  pub flows-count : length b.starts.items ≡ flow_count (book_of b.bytes.now)
-  flows-count = ap length b.starts_are ∙ starts-length b.bytes.now (flow_count (book_of b.bytes.now))
+  pub flows-count : b.flows ≡ flow_count (book_of b.bytes.now)
+  flows-count = b.flows_are
 
   pub flows-few : flow_count (book_of b.bytes.now) ≤ 64
   flows-few = (pass_in-range b.bytes.now b.passes).flows_most
 
   module _ {f : ℕ} (flow_in : f < flow_count (book_of b.bytes.now)) where
-    pub start-is : get_or b.starts.items f 0 ≡ flow_start b.bytes.now f
+    pub start-is : get_or b.starts f 0 ≡ flow_start b.bytes.now f
     unfolding starts_of
-    start-is = rw b.starts_are (list-at-zero (flow_start b.bytes.now) (flow_count (book_of b.bytes.now)) f 0 flow_in)
+    start-is =
+        let l : f < b.flows = omega (arith, b.flows_are) in
+        sym (get_or-take b.flows b.starts f 0 l) ∙ rw b.starts_are (list-at-zero (flow_start b.bytes.now) b.flows f 0 l)
 
     pub flow-stands : {records : ℕ} → records ≡ job_start b.bytes.now (flow_start b.bytes.now f) 0 → FlowStands b.bytes.now f records
     flow-stands e = stands_at b.bytes.now f b.passes (rw (← flow-count b.bytes.now) flow_in) e

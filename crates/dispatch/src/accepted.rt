@@ -5,7 +5,6 @@ ghost use Rattle.rules.specs.Reading.{book_fault};
 ghost use Rattle.rules.specs.Table.{row_bytes};
 ghost use Rattle.dispatch.specs.Accepted.{Accepted, accepted_rows};
 
-use arrayvec::ArrayVec;
 use book::bytes::Field;
 use book::row::Row;
 use book::{BOOK_HEAD, Book, FlowHead, JobRecord};
@@ -16,16 +15,18 @@ pub fn passing_book(bytes: &[u8]) -> Book
     requires { book_fault bytes.now ≡ Pass }
     ensures { result.bytes.now ≡ bytes.now }
 {
-    let mut starts = ArrayVec::new();
+    let flows = usize::from(bytes[7]);
+    let mut starts = [0; 64];
     let mut start = BOOK_HEAD;
-    for _flow in 0..bytes[7] {
-        starts.push(start);
+    for flow in 0..flows {
+        starts[flow] = start;
         let head = FlowHead::at(bytes, start);
         start += FlowHead::size(bytes[4]) + JobRecord::SIZE * usize::from(head.jobs);
     }
     Book {
         bytes,
         processors: u16::read(bytes, 5),
+        flows,
         starts,
     }
 }
