@@ -14,8 +14,8 @@ use Rattle.rules.specs.declared.FinishAnswer.{FinishAnswer}
 use Rattle.rules.specs.Faults.{fault_number}
 use Rattle.rules.specs.Answers.{none, finish_accepted, finish_refused}
 use Rattle.rules.specs.Limits.{slots, work_bytes}
-use Rattle.rules.specs.Calendar.{calendar_of, calendar_fault}
-use Rattle.rules.specs.Book.{Book, flow_count}
+use Rattle.rules.specs.Calendar.{Calendar, calendar_of, calendar_fault}
+use Rattle.rules.specs.Book.{Book, with_calendar, flow_count}
 use Rattle.rules.specs.Reading.{book_of, book_fault, book_with}
 use Rattle.rules.specs.Service.{served_at, position}
 use Rattle.rules.specs.Rows.{finish_of, work_used, work_zero}
@@ -117,17 +117,29 @@ module _ (s calendar area : List ℕ) (f : ℕ) where
       unfolding finish_call input_fault unknown_flow finish_reading
       call-short l = rw (e, lt-leb (flow_count (book_of s)) f named, d, lt-ltb (length area) work_bytes l) refl
 
-      call_passing : work_bytes ≤ length area → finish_call s calendar f area ≡ outcome_up_to (book_with s calendar) f area
+      pub call_passing : work_bytes ≤ length area → finish_call s calendar f area ≡ outcome_up_to (book_with s calendar) f area
       unfolding finish_call input_fault unknown_flow finish_reading
       call_passing l = rw (e, lt-leb (flow_count (book_of s)) f named, d, le-ltb (length area) work_bytes l) refl
 
-      pub call-placed : (x : HeldBook) (c : HeldCalendar) → x.bytes.now ≡ s → held_windows c ≡ calendar_of calendar → work_bytes ≤ length area →
+      pub call-placed : (c : Calendar) → c ≡ calendar_of calendar → work_bytes ≤ length area →
+          finish_call s calendar f area ≡ outcome_up_to (with_calendar c (book_of s)) f area
+      call-placed c q l = call_passing l ∙ ap (λ (k : Calendar). outcome_up_to (with_calendar k (book_of s)) f area) (sym q)
+
+      -- the same of a book and a calendar as the code holds them
+      pub call-placed-held : (x : HeldBook) (c : HeldCalendar) → x.bytes.now ≡ s → held_windows c ≡ calendar_of calendar → work_bytes ≤ length area →
           finish_call s calendar f area ≡ outcome_up_to (whole_book x c) f area
-      call-placed x c same windows l = rw (same, windows) (call_passing l)
+      call-placed-held x c same windows l = rw same (call-placed (held_windows c) windows l)
 
 -- ---- what a refused call leaves
+pub leaves : (o : FinishOutcome) (answer : FinishAnswer) (area : List ℕ) → o ≡ record { answer = answer; area = area } →
+    (answer' : FinishAnswer) → answer' ≡ answer → Leaves o answer' area
+leaves o answer area e answer' p = record {
+  answers = p ∙ sym (ap (λ (x : FinishOutcome). x.answer) e);
+  area_left = sym (ap (λ (x : FinishOutcome). x.area) e);
+}
+
 pub leaves-as : (o p : FinishOutcome) → o ≡ p → Leaves o p.answer p.area
-leaves-as o p e = record { answers = sym (ap (λ (x : FinishOutcome). x.answer) e); area_left = sym (ap (λ (x : FinishOutcome). x.area) e) }
+leaves-as o p e = leaves o p.answer p.area e p.answer refl
 
 -- a refusal that a callee found is handed on as it is
 pub handed_on : (o : FinishOutcome) (area : List ℕ) (r : Result ℕ Refusal) (e : Refusal) → IsErrAnd r (λ y. y ≡ e) →

@@ -21,11 +21,12 @@ use Rattle.rules.specs.Placing.{infeasible, place_first}
 use Rattle.rules.specs.Table.{table_head, table_length}
 use Rattle.rules.proofs.Laws.Division.{lt-or_ge}
 use Rattle.rules.proofs.Reading.ServiceOrder.{service-below}
-use Rattle.place.specs.Output.{put_rows}
+use Rattle.place.specs.Output.{Put, put_rows}
 use Rattle.place.specs.Order.{shut_rows, Stands}
 use Rattle.place.specs.Turns.{turn_rows, TurnTaken, TakenOut}
 use Rattle.place.proofs.Output.{put-more}
-use Rattle.place.proofs.FlowByFlow.{stands-none}
+use Rattle.place.proofs.Maintenance.{added_rows, FlowAdded}
+use Rattle.place.proofs.FlowByFlow.{stands-none, stands-next, own-finish, other-finish}
 use Rattle.planner.specs.declared.Whole.{Whole}
 use Rattle.planner.specs.Whole.{RowsPut, ended_of, FlowsPlaced, FirstPlaced}
 
@@ -55,43 +56,54 @@ put-none_yet b out area next n range holds e whole = record {
   size = length-replicate n 0 ∙ whole;
 }
 
--- ---- one flow more: the one that is served at position k
-pub goes_on : {b : Book} {k : ℕ} {rows : List Row} {out area out' area' finishes : List ℕ} {next : ℕ} →
+-- ---- one flow more: flow f, which is served at position k
+module _ {b : Book} {k : ℕ} {rows : List Row} {out area out' area' finishes : List ℕ} {next : ℕ} (s : PutSoFar b k rows out area out' area' finishes next)
+    (l : k < flow_count b) (few_flows : flow_count b ≤ 64) {out'' area'' : List ℕ} {finish next'' : ℕ} where
+  more : (f : ℕ) (new : List Row) → f ≡ served_at b k → Stands b (k + 1) (rows ++ new) area area'' → Put out' next new out'' next'' →
+      finish ≡ finish_of (rows ++ new) f → ((g : ℕ) → (g ≡ f → ⊥) → finish_of (rows ++ new) g ≡ finish_of rows g) → next'' ≤ next + 3145728 →
+      PutSoFar b (k + 1) (rows ++ new) out area out'' area'' (set finishes f finish) next''
+  more f new q stands put ends others_stay next_within = record {
+    stands = stands;
+    rows_put = record {
+      put = put-more out out' out'' (table_head b) next next'' rows new s.rows_put.put put;
+      finish = each;
+      few = omega (arith, length-append rows new, next_within, put.offset, s.rows_put.few);
+    };
+    size = length-set finishes f finish ∙ s.size;
+  }
+    where
+      room : f < length finishes
+      room = omega (arith, q, service-below b k l, s.size)
+
+      each : (g : ℕ) → g < flow_count b → get_or (set finishes f finish) g 0 ≡ finish_of (rows ++ new) g
+      each g h = go (lt-or_ge g f) (lt-or_ge f g)
+        where
+          own : g ≡ f → get_or (set finishes f finish) g 0 ≡ finish_of (rows ++ new) g
+          own e = rw e (get_or-set_same finishes f finish 0 room ∙ ends)
+
+          other : (g ≡ f → ⊥) → get_or (set finishes f finish) g 0 ≡ finish_of (rows ++ new) g
+          other ne = get_or-set_other finishes f g finish 0 ne ∙ s.rows_put.finish g h ∙ sym (others_stay g ne)
+
+          go : (g < f) ⊎ (f ≤ g) → (f < g) ⊎ (g ≤ f) → get_or (set finishes f finish) g 0 ≡ finish_of (rows ++ new) g
+          go (inl m) y = other (λ e. omega arith)
+          go (inr m) (inl o) = other (λ e. omega arith)
+          go (inr m) (inr o) = own (omega arith)
+
+-- .. where it is added beside the rows before it
+pub goes_on : {b : Book} {k f : ℕ} {rows : List Row} {out area out' area' finishes : List ℕ} {next : ℕ} →
+    PutSoFar b k rows out area out' area' finishes next → k < flow_count b → f ≡ served_at b k → flow_count b ≤ 64 →
+    {out'' area'' : List ℕ} {finish next'' : ℕ} → FlowAdded b f rows area out' next out'' area'' finish next'' →
+    PutSoFar b (k + 1) (rows ++ added_rows b f rows) out area out'' area'' (set finishes f finish) next''
+goes_on {b} {k} {f} {rows} s l q few_flows d =
+    more s l few_flows f (added_rows b f rows) q (stands-next s.stands l q d) d.put (own-finish s.stands l q d) (other-finish s.stands l q) d.next_within
+
+-- .. and where it has its turn
+pub goes_on-turn : {b : Book} {k : ℕ} {rows : List Row} {out area out' area' finishes : List ℕ} {next : ℕ} →
     PutSoFar b k rows out area out' area' finishes next → k < flow_count b → flow_count b ≤ 64 →
     {out'' area'' : List ℕ} {finish next'' : ℕ} → TurnTaken b k rows area out' next out'' area'' finish next'' →
     PutSoFar b (k + 1) (rows ++ turn_rows b k rows) out area out'' area'' (set finishes (served_at b k) finish) next''
-goes_on {b} {k} {rows} {out} {area} {out'} {area'} {finishes} {next} s l few_flows {out''} {area''} {finish} {next''} d = record {
-  stands = d.stands;
-  rows_put = record {
-    put = put-more out out' out'' (table_head b) next next'' rows new s.rows_put.put d.put;
-    finish = each;
-    few = omega (arith, length-append rows new, d.next_within, d.put.offset, s.rows_put.few);
-  };
-  size = length-set finishes f finish ∙ s.size;
-}
-  where
-    f : ℕ
-    f = served_at b k
-
-    new : List Row
-    new = turn_rows b k rows
-
-    room : f < length finishes
-    room = omega (arith, service-below b k l, s.size)
-
-    each : (g : ℕ) → g < flow_count b → get_or (set finishes f finish) g 0 ≡ finish_of (rows ++ new) g
-    each g h = go (lt-or_ge g f) (lt-or_ge f g)
-      where
-        own : g ≡ f → get_or (set finishes f finish) g 0 ≡ finish_of (rows ++ new) g
-        own e = rw e (get_or-set_same finishes f finish 0 room ∙ d.ends)
-
-        other : (g ≡ f → ⊥) → get_or (set finishes f finish) g 0 ≡ finish_of (rows ++ new) g
-        other ne = get_or-set_other finishes f g finish 0 ne ∙ s.rows_put.finish g h ∙ sym (d.others_stay g ne)
-
-        go : (g < f) ⊎ (f ≤ g) → (f < g) ⊎ (g ≤ f) → get_or (set finishes f finish) g 0 ≡ finish_of (rows ++ new) g
-        go (inl m) y = other (λ e. omega arith)
-        go (inr m) (inl o) = other (λ e. omega arith)
-        go (inr m) (inr o) = own (omega arith)
+goes_on-turn {b} {k} {rows} s l few_flows d =
+    more s l few_flows (served_at b k) (turn_rows b k rows) refl d.stands d.put d.ends d.others_stay d.next_within
 
 -- ---- the end
 module _ (b : Book) (k : ℕ) (out area out' area' : List ℕ) where

@@ -2,7 +2,7 @@
 use Rattle.std.proofs.Common.{arith, ◌<◌, List, ℕ, ap, sym, ◌∙◌}
 use Rattle.rules.specs.Book.{flow_count}
 use Rattle.rules.specs.Reading.{book_of}
-use Rattle.finish.proofs.Call.{call-refused, call_unknown, call-refused-calendar, call-short, call-placed, leaves-as, handed_on, leaves-placed}
+use Rattle.finish.proofs.Call.{call-refused, call_unknown, call-refused-calendar, call-short, call-placed-held, leaves-as, handed_on, leaves-placed}
 use Rattle.finish.proofs.find_finish.Goals as goal
 
 pub returns-in_err-book : goal.returns-in_err-book
@@ -44,5 +44,5 @@ returns c =
     let a = c.args in
     let flows = c.flow_count.ensures.count ∙ ap (λ (s : List ℕ). flow_count (book_of s)) c.in_ok-book.ensures.same in
     let named : a.flow < flow_count (book_of a.book.now) = omega (arith, flows) in
-    leaves-placed _ _ (call-placed a.book.now a.calendar.now a.work.now a.flow (sym c.in_ok-book.ensures.verdict) named (sym c.in_ok-calendar.ensures.verdict)
+    leaves-placed _ _ (call-placed-held a.book.now a.calendar.now a.work.now a.flow (sym c.in_ok-book.ensures.verdict) named (sym c.in_ok-calendar.ensures.verdict)
     c.in_ok-book.book c.in_ok-calendar.calendar c.in_ok-book.ensures.same c.in_ok-calendar.ensures.held.windows (omega arith)) _ _ c.finish_passing.ensures

@@ -8,7 +8,7 @@ use Rattle.calendar.proofs.Windows.{in-range}
 use Rattle.place.specs.Turns.{turn_rows, TurnTaken}
 use Rattle.place.proofs.FlowByFlow.{infeasible-stays}
 use Rattle.planner.specs.Whole.{planned_book}
-use Rattle.planner.proofs.FirstFlows.{put-none_yet, goes_on, ends-planned, ends-infeasible}
+use Rattle.planner.proofs.FirstFlows.{put-none_yet, goes_on-turn, ends-planned, ends-infeasible}
 use Rattle.planner.proofs.place_flows.Goals as goal
 
 pub loop-k-init : goal.loop-k-init
@@ -33,7 +33,7 @@ loop-k-preserved c =
     (d.1 refl) d.2 in (
       l.invariant.0 ++ turn_rows b l.k l.invariant.0,
       rw (c.from.ensures, c.flow-flow.ensures.served)
-          (goes_on l.invariant.1 (omega (arith, c.requires)) (omega (arith, c.flow_count.ensures.count, c.flow_count.ensures.few)) taken),
+          (goes_on-turn l.invariant.1 (omega (arith, c.requires)) (omega (arith, c.flow_count.ensures.count, c.flow_count.ensures.few)) taken),
     )
 
 pub returns : goal.returns
