@@ -6,10 +6,13 @@ use Rattle.rules.specs.declared.Refusal.{Refusal}
 use Rattle.rules.specs.Answers.{none}
 use Rattle.rules.specs.Faults.{refusal_at}
 use Rattle.rules.specs.Limits.{slots, work_bytes}
-use Rattle.rules.specs.Book.{Book, flow_count}
+use Rattle.rules.specs.Verdicts.{Pass}
+use Rattle.rules.specs.Calendar.{Calendar, CalendarInRange}
+use Rattle.rules.specs.Book.{Book, with_calendar, flow_count, flow_of}
+use Rattle.rules.specs.Reading.{book_of, book_fault}
 use Rattle.rules.specs.Service.{served_at}
 use Rattle.rules.specs.Rows.{Row, used_in, finish_of, work_used}
-use Rattle.rules.specs.Placing.{infeasible, place_first}
+use Rattle.rules.specs.Placing.{slots_for, infeasible, place_first}
 use Rattle.place.specs.Order.{Stands}
 use Rattle.finish.specs.declared.Placement.{Placement}
 
@@ -51,6 +54,29 @@ NextState b bytes area p (Err e) = Stayed b bytes area p e
 -- .. where those before it are placed
 unfoldable pub NextPlaced : Book → Placement → List ℕ → List ℕ → Result Placement Fault → Type 0
 NextPlaced b p area area' r = (bytes : List ℕ) → PlacedTo b bytes area p → NextState b bytes area' p r
+
+-- what the placing of flow f below a limit asks, whatever the calendar: the book in these bytes passes, the flow is the
+-- one at the state's position, and the area holds the use of rows that leave room for it
+pub record FlowAsked (s area : List ℕ) (p : Placement) (f limit : ℕ) : Type 0 where
+  pub passes : book_fault s ≡ Pass
+  pub limit_most : limit ≤ slots
+  pub long_enough : work_bytes ≤ length area
+  pub below : p.position < flow_count (book_of s)
+  pub served : (c : Calendar) → f ≡ served_at (with_calendar c (book_of s)) p.position
+  pub bytes : List ℕ
+  pub rows : List Row
+  pub area_used : area ≡ work_used slots rows bytes
+  pub within : (t : ℕ) → used_in rows t ≤ (book_of s).processors
+
+-- the limit is that of flow f of the book
+abbrev pub LimitOf : Book → ℕ → ℕ → Type 0
+LimitOf b f limit = limit ≡ slots_for b (flow_of b f)
+
+-- .. it is placed or infeasible by each calendar that the limit comes of
+unfoldable pub FlowGoesOn : List ℕ → ℕ → ℕ → Placement → List ℕ → List ℕ → Result Placement Fault → Type 0
+FlowGoesOn s f limit p area area' r =
+    (c : Calendar) → CalendarInRange c → LimitOf (with_calendar c (book_of s)) f limit → (bytes : List ℕ) →
+    PlacedTo (with_calendar c (book_of s)) bytes area p → NextState (with_calendar c (book_of s)) bytes area' p r
 
 -- what a step comes to that leaves a state behind: that state, or why it stays
 abbrev pub stepped : {T : Type 0} → Result T Fault → Placement → Result Placement Fault

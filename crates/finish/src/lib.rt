@@ -8,7 +8,7 @@ ghost use Rattle.rules.specs.Reading.{book_of};
 ghost use Rattle.rules.specs.Finish.{finish_call};
 ghost use Rattle.place.specs.Order.{Stands};
 ghost use Rattle.place.specs.Turns.{whole_book};
-ghost use Rattle.finish.specs.Flows.{NextAsked, NextPlaced, stepped, PlacedUpTo};
+ghost use Rattle.finish.specs.Flows.{NextAsked, NextPlaced, FlowAsked, FlowGoesOn, stepped, PlacedUpTo};
 ghost use Rattle.finish.specs.Call.{outcome_up_to, Leaves, answer_by};
 
 use book::Book;
@@ -48,6 +48,46 @@ pub fn step(placement: &mut Placement, turns: &Turns, work: &mut [u8]) -> Result
     ensures stays { OnErr result (placement.new ≡ placement.old) }
 {
     *placement = place_next(turns, work, *placement)?;
+    Ok(())
+}
+
+// Flow f, the next one, placed beside those before it in the slots below `limit`, whatever the calendar that it is the
+// limit of: the state after it, or that it is infeasible. The bytes are those of a book that passes.
+pub fn place_below(
+    book: &[u8],
+    work: &mut [u8],
+    placement: Placement,
+    f: usize,
+    limit: usize,
+) -> Result<Placement, Fault>
+    requires { FlowAsked book.now work.old placement f limit }
+    ensures { FlowGoesOn book.now f limit placement work.old work.new result }
+{
+    let Ok(book) = Book::read(book) else {
+        return Err(Fault::Infeasible);
+    };
+    let Some(placed) = place::place_flow::<false>(&book, f, &mut [], work, 0, limit) else {
+        return Err(Fault::Infeasible);
+    };
+    Ok(Placement {
+        position: placement.position + 1,
+        finish: placed.finish as u16,
+    })
+}
+
+// The same as a step: the state that is lent goes on by the flow, and stays as it was where that is infeasible.
+pub fn step_below(
+    placement: &mut Placement,
+    book: &[u8],
+    work: &mut [u8],
+    f: usize,
+    limit: usize,
+) -> Result<(), Fault>
+    requires { FlowAsked book.now work.old placement.old f limit }
+    ensures placed { FlowGoesOn book.now f limit placement.old work.old work.new (stepped result placement.new) }
+    ensures stays { OnErr result (placement.new ≡ placement.old) }
+{
+    *placement = place_below(book, work, *placement, f, limit)?;
     Ok(())
 }
 
