@@ -41,6 +41,13 @@ impl Ready {
     {
         self.last <= u16::MAX - slot
     }
+
+    // Whether the lowest bit names a predecessor that is not complete in a slot, where this is the predecessor's.
+    pub fn lacks(self, bits: u64, slot: u16) -> bool
+        ensures { result ≡ lacks_at bits 0 slot (ready_of self) }
+    {
+        bits % 2 == 1 && self.is_not_yet(slot)
+    }
 }
 
 // A job of the current flow: as the book has it, and by the rows so far its total and the slot from which it is
@@ -167,11 +174,19 @@ pub fn predecessors_due(job: &JobState, release: u16, slot: u16) -> Asks
     }
 }
 
-// Whether the lowest bit names a predecessor that is not complete, or only from a later slot on.
-pub fn lacks(bits: u64, slot: u16, ready: Ready) -> bool
-    ensures { result ≡ lacks_at bits 0 slot (ready_of ready) }
+// Whether a job that is complete from a slot on, or not at all, is not yet so in `slot`.
+fn is_not_yet(ready: Option<u16>, slot: u16) -> bool
+    ensures { result ≡ not_yet slot ready }
 {
-    bits % 2 == 1 && ready.is_not_yet(slot)
+    ready.is_none_or(|from| slot < from)
+}
+
+// Whether the lowest bit names a predecessor that is not complete, or only from a later slot on: by any slot, where
+// `Ready::lacks` goes by those that a table has.
+pub fn lacks(bits: u64, slot: u16, ready: Option<u16>) -> bool
+    ensures { result ≡ lacks_at bits 0 slot ready }
+{
+    bits % 2 == 1 && is_not_yet(ready, slot)
 }
 
 // A row that passed is counted: in its slot's use, in its job's total, and where that completes the job.

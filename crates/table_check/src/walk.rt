@@ -85,7 +85,7 @@ pub fn walk_rows(
         let mut bits = asks.bits;
         let mut k: usize = 0;
         while bits != 0 {
-            if row::lacks(bits, r.slot, jobs[k].ready) {
+            if jobs[k].ready.lacks(bits, r.slot) {
                 break 'rows Err(Fault::Precedence.at(r.flow, r.job));
             }
             bits /= 2;
