@@ -1,4 +1,4 @@
--- Laws of the tests of a row as numbers: the first that is not 0 counts. Assumes nothing.
+-- Laws of the tests of a row as numbers: the first that is not 0 counts; and of what 19 asks. Assumes nothing.
 use mathlib.Core.Path.{◌≡◌, refl, sym, ap, ◌∙◌}
 use Prim.Native.Nat.{ℕ, ◌*◌, ◌≤◌, ◌<◌}
 use mathlib.Core.Bool.{Bool, true, false, not, or-true}
@@ -20,8 +20,8 @@ use Rattle.calendar.specs.Area.{open_by}
 use Rattle.table_check.specs.declared.current.Current.{Current}
 use Rattle.table_check.specs.declared.row.JobState.{JobState}
 use Rattle.book.specs.Records.{number_by}
-use Rattle.table_check.specs.Tests.{rank_of, ranks, standing_number, amount_number, first_number, test_number}
-use Rattle.table_check.specs.Tally.{CapsHeld, RowTested}
+use Rattle.table_check.specs.Tests.{rank_of, ranks, standing_number, amount_number, first_number, test_number, asked_release, asked}
+use Rattle.table_check.specs.Tally.{CapsHeld, RowTested, AskedAt}
 use Rattle.table_check.proofs.Jobs.{blank, record_at}
 
 pub first-stands : (m n : ℕ) → (m ≡ 0 → ⊥) → first_number m n ≡ m
@@ -160,3 +160,13 @@ module _ (current : Current) (least : ℕ) (r : Row) {key : ℕ} (key_is : key �
 
       pub tested-passes : {y : U} → amount ≡ Ok y → RowTested (book_of current.book.now.bytes.now) (open_by current.shut.now) current.flow work least r (Ok used)
       tested-passes is = record { number = sym (ap number_by is) ∙ amount_right; used = used_is }
+
+-- ---- what 19 asks at a row of a job: nothing once the job has a total, else all
+pub asked-nothing : (j : JobState) (release slot : ℕ) → 0 < j.total → AskedAt j release slot (record { unreleased = false; bits = 0 })
+unfolding asked_release asked
+asked-nothing j release slot some = record { unreleased = rw (lt-ltb 0 j.total some) refl; bits = rw (lt-ltb 0 j.total some) refl }
+
+pub asked-whole : (j : JobState) (release slot : ℕ) → j.total ≤ 0 →
+    AskedAt j release slot (record { unreleased = ltb slot release; bits = j.job.predecessors })
+unfolding asked_release asked
+asked-whole j release slot none = record { unreleased = rw (le-ltb 0 j.total none) refl; bits = rw (le-ltb 0 j.total none) refl }
