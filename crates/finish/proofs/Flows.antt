@@ -19,6 +19,7 @@ use Rattle.rules.specs.Rows.{Row, finish_of, work_used}
 use Rattle.rules.specs.Placing.{infeasible}
 use Rattle.rules.proofs.Reading.Passing.{calendar_of_book, pass_in-range}
 use Rattle.rules.proofs.Reading.ServiceOrder.{service-below}
+use Rattle.rules.proofs.Reading.SameUse.{with-same, service-same}
 use Rattle.book.proofs.Starts.{flows-few}
 use Rattle.place.specs.declared.Placed.{Placed}
 use Rattle.place.specs.declared.in_turn.Turns.{Turns}
@@ -27,9 +28,9 @@ use Rattle.place.specs.Flows.{FlowInfeasible, FlowPlaced}
 use Rattle.place.specs.Order.{shut_rows, Stands}
 use Rattle.place.proofs.Maintenance.{added_rows, FlowAdded, flow-added, flow-refused}
 use Rattle.place.proofs.FlowByFlow.{stands-none, stands-next, own-finish, infeasible-next}
-use Rattle.place.specs.Turns.{turn_rows, TurnTaken, TurnRefused}
+use Rattle.place.specs.Turns.{whole_book, turn_rows, TurnTaken, TurnRefused}
 use Rattle.finish.specs.declared.Placement.{Placement}
-use Rattle.finish.specs.Flows.{PlacedTo, NextAsked, FlowAsked, Moved, Stayed, LimitOf, NextPlaced}
+use Rattle.finish.specs.Flows.{PlacedTo, NextAsked, FlowAsked, Moved, Stayed, LimitOf, NextPlaced, FlowGoesOn}
 
 -- no flow is placed, and the area holds the maintenance
 pub placed-first : (b : Book) (area : List ℕ) → Stands b 0 [] area area → PlacedTo b area area (record { position = 0; finish = 0 })
@@ -72,6 +73,24 @@ flow_fits t p l q =
     let x = t.book.now in
     let y = t.calendar.now in
     omega (arith, q, served_is x y t.order.items p.position t.in_order, served-below x y p.position l, flows-few x)
+
+-- it may be placed next, below any limit
+pub next-asked-below : (t : Turns) {p : Placement} {bytes area : List ℕ} {f limit : ℕ} → PlacedTo (whole_book t.book.now t.calendar.now) bytes area p →
+    p.position < flow_count (book_of t.book.now.bytes.now) → f ≡ get_or t.order.items p.position 0 → work_bytes ≤ length area → limit ≤ slots →
+    FlowAsked t.book.now.bytes.now area p f limit
+next-asked-below t {p} {bytes} so_far_lem below q long_enough most =
+    let plain = book_of t.book.now.bytes.now in
+    record {
+      passes = t.book.now.passes;
+      limit_most = most;
+      long_enough = long_enough;
+      below = below;
+      served = λ c. q ∙ ap (λ (l : List ℕ). get_or l p.position 0) (t.in_order ∙ sym (service-same (with_calendar c plain) plain (with-same c plain)));
+      bytes = bytes;
+      rows = shut_rows (whole_book t.book.now t.calendar.now) ++ so_far_lem.rows;
+      area_used = so_far_lem.stands.area_used;
+      within = so_far_lem.stands.within;
+    }
 
 -- ---- the same of flow f below a limit, by each calendar that it is the limit of
 module _ {s area : List ℕ} {p : Placement} {f limit : ℕ} (a : FlowAsked s area p f limit) where
@@ -143,3 +162,13 @@ module _ (b : Book) {bytes area area' : List ℕ} {p : Placement} (so_far_lem : 
   pub stopped : (e : Fault) → NextPlaced b p area area' (Err e) → Stayed b bytes area' p e
   unfolding NextPlaced
   stopped e n = n bytes so_far_lem
+
+module _ (s : List ℕ) (f limit : ℕ) {c : Calendar} {bytes area area' : List ℕ} {p : Placement} (range : CalendarInRange c)
+    (rule-6 : LimitOf (with_calendar c (book_of s)) f limit) (so_far_lem : PlacedTo (with_calendar c (book_of s)) bytes area p) where
+  pub moved-below : (r : Placement) → FlowGoesOn s f limit p area area' (Ok r) → Moved (with_calendar c (book_of s)) bytes area' p r
+  unfolding FlowGoesOn
+  moved-below r n = n c range rule-6 bytes so_far_lem
+
+  pub stopped-below : (e : Fault) → FlowGoesOn s f limit p area area' (Err e) → Stayed (with_calendar c (book_of s)) bytes area' p e
+  unfolding FlowGoesOn
+  stopped-below e n = n c range rule-6 bytes so_far_lem
