@@ -28,8 +28,7 @@ records_of jobs = map (λ (j : JobState). job_from j.job) jobs
 abbrev pub totals_of : List JobState → List ℕ
 totals_of jobs = map (λ (j : JobState). j.total) jobs
 
--- a job that is complete in the last n of the 65,536 slots that a `u16` has is so from the first of these on, and where
--- n is 0 from none on
+-- a job that is complete in the last n of 65,536 slots is so from the first of these on, and where n is 0 from none on
 unfoldable pub ready_of : Ready → Option ℕ
 ready_of r = if eqb r.last 0 then None else Some (65536 - r.last)
 

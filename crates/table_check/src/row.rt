@@ -17,21 +17,45 @@ use rules::Fault;
 // One past the greatest rank of a row in a slot: 8,192 slots of 64 jobs each.
 const RANKS: u32 = 524288;
 
-// From which slot on a job is complete: in how many of the last slots that a `u16` has, 0 where it is not. A number in
-// place of an `Option`, so that one comparison tells whether the job is complete in a slot: a row may ask that of 63.
+// From which slot on a job is complete: in how many of the last of 65,536 slots, 0 where it is not. A number in place of
+// an `Option`, so that one comparison tells whether the job is complete in a slot: a row may ask that of 63.
 #[derive(Clone, Copy, Default)]
 pub struct Ready {
-    last: u16,
+    last: u32,
 }
 
 impl Ready {
+    // From this slot on, or not at all.
+    #[tactic(auto, unfolding(crate::specs::Tally::ready_of))]
+    pub fn of(ready: Option<u16>) -> Ready
+        ensures { ready_of result ≡ ready }
+    {
+        let Some(slot) = ready else {
+            return Ready { last: 0 };
+        };
+        Ready {
+            last: 65536 - u32::from(slot),
+        }
+    }
+
+    // The slot, where the job is complete from one on.
+    #[tactic(auto, unfolding(crate::specs::Tally::ready_of))]
+    pub fn slot(self) -> Option<u16>
+        ensures { result ≡ ready_of self }
+    {
+        if self.last == 0 {
+            return None;
+        }
+        Some(65536u32.saturating_sub(self.last) as u16)
+    }
+
     // From the slot after this one on.
     pub fn after(slot: u16) -> Ready
         requires { slot < slots }
         ensures { ready_of result ≡ Some (slot + 1) }
     {
         Ready {
-            last: u16::MAX - slot,
+            last: 65535 - u32::from(slot),
         }
     }
 
@@ -39,7 +63,7 @@ impl Ready {
     pub fn is_not_yet(self, slot: u16) -> bool
         ensures { result ≡ not_yet slot (ready_of self) }
     {
-        self.last <= u16::MAX - slot
+        self.last <= 65535 - u32::from(slot)
     }
 
     // Whether the lowest bit names a predecessor that is not complete in a slot, where this is the predecessor's.

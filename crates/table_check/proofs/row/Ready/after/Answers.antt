@@ -3,4 +3,4 @@ use Rattle.table_check.proofs.Jobs.{ready_after-slot}
 use Rattle.table_check.proofs.row.Ready.after.Goals as goal
 
 pub returns : goal.returns
-returns c = ready_after-slot c.args.slot c.requires
+returns c = rw c.from.ensures (ready_after-slot c.args.slot c.requires)
