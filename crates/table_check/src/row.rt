@@ -205,8 +205,8 @@ fn is_not_yet(ready: Option<u16>, slot: u16) -> bool
     ready.is_none_or(|from| slot < from)
 }
 
-// Whether the lowest bit names a predecessor that is not complete, or only from a later slot on: by any slot, where
-// `Ready::lacks` goes by those that a table has.
+// Whether the lowest bit names a predecessor that is not complete, or only from a later slot on: by an `Option`, where
+// the walk goes by `Ready::lacks`.
 pub fn lacks(bits: u64, slot: u16, ready: Option<u16>) -> bool
     ensures { result ≡ lacks_at bits 0 slot ready }
 {
