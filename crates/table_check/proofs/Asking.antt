@@ -17,6 +17,7 @@ use Rattle.rules.proofs.Laws.Walks.{last_or}
 use Rattle.rules.proofs.Laws.Bits.{bit_of-left, left-next, no-bit-left, left_below}
 use Rattle.book.specs.declared.row.Row.{Row}
 use Rattle.table_check.specs.declared.row.JobState.{JobState}
+use Rattle.table_check.specs.declared.row.Tested.{Tested}
 use Rattle.book.specs.Rows.{row_from}
 use Rattle.table_check.specs.Tests.{not_yet, lacks_at, asked}
 use Rattle.table_check.specs.Tally.{totals_of, ready_of, readies_of, rows_to}
@@ -26,9 +27,9 @@ use Rattle.table_check.proofs.Counting.{unset_lacks, job_in, job_few, bits-few, 
 
 -- what holds after j halvings of the bits that are asked
 pub record Asking (book : List ℕ) (opened : ℕ → Bool) (table : List ℕ) (f : ℕ) (from : ℕ) (jobs : List JobState) (work : List ℕ)
-    (least finish at : ℕ) (r : Row) (used : ℕ) (bits j : ℕ) : Type 0 where
+    (least finish at : ℕ) (r : Row) (t : Tested) (bits j : ℕ) : Type 0 where
   pub going : Going book opened table f from jobs work least finish at (rows_to (book_of book) at)
-  pub turn : Turn (book_of book) opened table f (rows_to (book_of book) at) (row_from r) used
+  pub turn : Turn (book_of book) opened table f (rows_to (book_of book) at) (row_from r) t
   pub here : at < length table
   pub released : before_release (book_of book) (row_from r) ≡ false
   pub all : ℕ
@@ -42,12 +43,12 @@ unfolding lacks_at
 lowest_lacks p bits j slot ready e = ap (λ (u : Bool). u && not_yet slot ready) (bit_of-left p bits j e)
 
 module _ {book : List ℕ} {opened : ℕ → Bool} {table : List ℕ} {f : ℕ} {from : ℕ} {jobs : List JobState} {work : List ℕ}
-    {least finish at : ℕ} {r : Row} {used : ℕ} {bits : ℕ} where
+    {least finish at : ℕ} {r : Row} {t : Tested} {bits : ℕ} where
   pub asking-first : Going book opened table f from jobs work least finish at (rows_to (book_of book) at) →
-      Turn (book_of book) opened table f (rows_to (book_of book) at) (row_from r) used → at < length table →
+      Turn (book_of book) opened table f (rows_to (book_of book) at) (row_from r) t → at < length table →
       before_release (book_of book) (row_from r) ≡ false →
       bits ≡ asked (get_or (totals_of jobs) r.job 0) (job_of (flow_of (book_of book) f) r.job).predecessors →
-      Asking book opened table f from jobs work least finish at r used bits 0
+      Asking book opened table f from jobs work least finish at r t bits 0
   asking-first going turn here released bits_are = record {
     going = going;
     turn = turn;
@@ -59,7 +60,7 @@ module _ {book : List ℕ} {opened : ℕ → Bool} {table : List ℕ} {f : ℕ} 
     none_so_far = λ m h. absurd (omega arith);
   }
 
-  module _ {j : ℕ} (asking : Asking book opened table f from jobs work least finish at r used bits j) where
+  module _ {j : ℕ} (asking : Asking book opened table f from jobs work least finish at r t bits j) where
     below-job : (bits ≡ 0 → ⊥) → j < r.job
     below-job some = left_below asking.all bits j asking.left r.job (bits-few asking.going asking.turn asking.all asking.all_are) some
 
@@ -75,7 +76,7 @@ module _ {book : List ℕ} {opened : ℕ → Bool} {table : List ℕ} {f : ℕ} 
           is ∙ ap (lacks_at bits 0 r.slot) (sym (ready_at jobs j))
           ∙ lowest_lacks asking.all bits j r.slot (get_or (readies_of jobs) j None) asking.left
 
-      pub asking-next : lacking ≡ false → Asking book opened table f from jobs work least finish at r used (bits / 2) (j + 1)
+      pub asking-next : lacking ≡ false → Asking book opened table f from jobs work least finish at r t (bits / 2) (j + 1)
       asking-next none = record {
         going = asking.going;
         turn = asking.turn;

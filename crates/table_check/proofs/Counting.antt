@@ -30,6 +30,7 @@ use Rattle.rules.proofs.Tables.TablePasses.{in-book_of}
 use Rattle.rules.proofs.Rows.WorkArea.{used-row, used-rest, used-cleared}
 use Rattle.book.specs.declared.row.Row.{Row}
 use Rattle.table_check.specs.declared.row.JobState.{JobState}
+use Rattle.table_check.specs.declared.row.Tested.{Tested}
 use Rattle.book.specs.Promise.{job_from}
 use Rattle.book.specs.Rows.{row_from}
 use Rattle.std.proofs.lemmas.List.{length-map}
@@ -74,7 +75,7 @@ module _ {book : List ℕ} {opened : ℕ → Bool} {table : List ℕ} {f : ℕ} 
   abbrev rows : List rules.Row
   rows = table_rows (book_of book) table
 
-  module _ {r : Row} {used : ℕ} (turn : Turn (book_of book) opened table f k (row_from r) used) where
+  module _ {r : Row} {t : Tested} (turn : Turn (book_of book) opened table f k (row_from r) t) where
     pub job_in : r.job < job_count (flow_of (book_of book) f)
     job_in = rw turn.own at (in-book_of b (row_from r) turn.standing.inside).2
 
@@ -173,7 +174,7 @@ module _ {book : List ℕ} {opened : ℕ → Bool} {table : List ℕ} {f : ℕ} 
           go (inr all) =
               tests ∙ any_false (λ m. lacks_at predecessors m r.slot (get_or (readies_of jobs) m None)) r.job (λ m h. ap (λ (p : ℕ). lacks_at p m r.slot (get_or (readies_of jobs) m None)) (sym all) ∙ none m h)
 
-    pub countable : Countable jobs work used (row_from r)
+    pub countable : Countable jobs work t.used (row_from r)
     countable = record {
       job_in = omega (arith, job_in, ap length going.held.same, length-map jobs (λ (j : JobState). job_from j.job));
       slot_in = slot_in;
@@ -193,7 +194,7 @@ module _ {book : List ℕ} {opened : ℕ → Bool} {table : List ℕ} {f : ℕ} 
     -- the row passes, and it is counted
     module _ (released : before_release (book_of book) (row_from r) ≡ false)
         (none : lacks_predecessor (book_of book) (take k (table_rows (book_of book) table)) (row_from r) ≡ false)
-        {jobs' : List JobState} {work' : List ℕ} (counted : RowCounted used (row_from r) jobs work jobs' work') where
+        {jobs' : List JobState} {work' : List ℕ} (counted : RowCounted t.used (row_from r) jobs work jobs' work') where
       abbrev so_far : List rules.Row
       so_far = take k (table_rows (book_of book) table)
 
@@ -235,7 +236,7 @@ module _ {book : List ℕ} {opened : ℕ → Bool} {table : List ℕ} {f : ℕ} 
         held = record { same = counted.records ∙ going.held.same };
         table_fits = going.table_fits;
         headed = going.headed;
-        room = omega (arith, going.room, ap length counted.in_use, length-sets work (2 * r.slot) (bytes_of 2 (used + r.processors)));
+        room = omega (arith, going.room, ap length counted.in_use, length-sets work (2 * r.slot) (bytes_of 2 (t.used + r.processors)));
         first_more = going.first_more;
         first_own = going.first_own;
         since = omega (arith, going.since);

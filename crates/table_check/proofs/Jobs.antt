@@ -21,7 +21,7 @@ use Rattle.book.specs.Promise.{job_from}
 use Rattle.table_check.specs.declared.row.Ready.{Ready}
 use Rattle.table_check.specs.declared.row.JobState.{JobState}
 use Rattle.table_check.specs.Tests.{not_yet, ready_after}
-use Rattle.table_check.specs.Tally.{records_of, totals_of, ready_of, readies_of, JobsHeld, CapsHeld, JobsLoaded, Countable, RowCounted}
+use Rattle.table_check.specs.Tally.{records_of, totals_of, ready_of, readies_of, JobsHeld, AmountsHeld, JobsLoaded, Countable, RowCounted}
 
 -- ---- from which slot on a job is complete
 pub ready_none : (r : Ready) → r.last ≡ 0 → ready_of r ≡ None
@@ -68,8 +68,12 @@ module _ {b : Book} {f : ℕ} {jobs : List JobState} (held : JobsHeld b f jobs) 
   pub held_record : (i : ℕ) → job_from (get_or jobs i blank).job ≡ job_of (flow_of b f) i
   held_record i = sym (record_at jobs i) ∙ held_job i
 
-  pub held_caps : CapsHeld b f jobs
-  held_caps = record { enough = omega (arith, held_count); cap_of = λ i h. ap (λ (j : Job). j.cap) (held_job i) }
+  pub held_amounts : AmountsHeld b f jobs
+  held_amounts = record {
+    enough = omega (arith, held_count);
+    size_of = λ i h. ap (λ (j : Job). j.size) (held_job i);
+    cap_of = λ i h. ap (λ (j : Job). j.cap) (held_job i);
+  }
 
 -- what holds of the value that is stored at index n, and of the values before at the other ones, holds of each value
 -- after

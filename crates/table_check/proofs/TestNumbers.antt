@@ -21,7 +21,7 @@ use Rattle.table_check.specs.declared.current.Current.{Current}
 use Rattle.table_check.specs.declared.row.JobState.{JobState}
 use Rattle.book.specs.Records.{number_by}
 use Rattle.table_check.specs.Tests.{rank_of, ranks, standing_number, amount_number, first_number, test_number, asked_release, asked}
-use Rattle.table_check.specs.Tally.{CapsHeld, RowTested, AskedAt}
+use Rattle.table_check.specs.Tally.{AmountsHeld, RowTested, AskedAt}
 use Rattle.table_check.proofs.Jobs.{blank, record_at}
 
 pub first-stands : (m n : ℕ) → (m ≡ 0 → ⊥) → first_number m n ≡ m
@@ -135,7 +135,7 @@ module _ (current : Current) (least : ℕ) (r : Row) {key : ℕ} (key_is : key �
   unfolding test_number
   tested-standing work {e} is =
       let number_is : fault_number e ≡ standing_number (job_count (flow_of b f)) (opened r.slot) least (rank_of r) r = sym (ap number_by is) ∙ standing_right in
-      record { number = number_is ∙ sym (first-stands _ _ (λ z. fault_some e (number_is ∙ z))); used = tt }
+      record { number = number_is ∙ sym (first-stands _ _ (λ z. fault_some e (number_is ∙ z))); used = tt; size = tt }
 
   module _ {x : T} (passes : standing ≡ Ok x) where
     none : number_by standing ≡ 0
@@ -145,21 +145,26 @@ module _ (current : Current) (least : ℕ) (r : Row) {key : ℕ} (key_is : key �
     tested-inside = standing-inside (job_count (flow_of b f)) (opened r.slot) least (rank_of r) r (sym standing_right ∙ none)
 
     -- 17 and 18
-    module _ (work : List ℕ) {held : List JobState} {used cap : ℕ} (caps : CapsHeld (book_of current.book.now.bytes.now) current.flow held)
+    module _ (work : List ℕ) {held : List JobState} {used cap : ℕ} (amounts : AmountsHeld (book_of current.book.now.bytes.now) current.flow held)
         (used_is : used ≡ field 2 work (2 * r.slot)) (cap_is : cap ≡ (get_or held r.job blank).job.cap)
         {U : Type 0} (amount : Result U Fault) (amount_is : number_by amount ≡ amount_number cap used current.book.now.processors r) where
       amount_right : number_by amount ≡ test_number (book_of current.book.now.bytes.now) (open_by current.shut.now) current.flow (field 2 work (2 * r.slot)) least r
       unfolding test_number
       amount_right =
           amount_is
-          ∙ rw (cap_is ∙ ap (λ (j : Job). j.cap) (sym (record_at held r.job)) ∙ caps.cap_of r.job tested-inside.1, current.book.now.processors_are, used_is)
+          ∙ rw (cap_is ∙ ap (λ (j : Job). j.cap) (sym (record_at held r.job)) ∙ amounts.cap_of r.job tested-inside.1, current.book.now.processors_are, used_is)
           (sym (first_passes (standing_number (job_count (flow_of b f)) (opened r.slot) least (rank_of r) r) _ (sym standing_right ∙ none)))
 
       pub tested-amount : {e : Fault} → amount ≡ Err e → RowTested (book_of current.book.now.bytes.now) (open_by current.shut.now) current.flow work least r (Err e)
-      tested-amount is = record { number = sym (ap number_by is) ∙ amount_right; used = tt }
+      tested-amount is = record { number = sym (ap number_by is) ∙ amount_right; used = tt; size = tt }
 
-      pub tested-passes : {y : U} → amount ≡ Ok y → RowTested (book_of current.book.now.bytes.now) (open_by current.shut.now) current.flow work least r (Ok used)
-      tested-passes is = record { number = sym (ap number_by is) ∙ amount_right; used = used_is }
+      pub tested-passes : {y : U} → amount ≡ Ok y → {size : ℕ} → size ≡ (get_or held r.job blank).job.size →
+          RowTested (book_of current.book.now.bytes.now) (open_by current.shut.now) current.flow work least r (Ok (record { used = used; size = size }))
+      tested-passes is size_is = record {
+        number = sym (ap number_by is) ∙ amount_right;
+        used = used_is;
+        size = size_is ∙ ap (λ (j : Job). j.size) (sym (record_at held r.job)) ∙ amounts.size_of r.job tested-inside.1;
+      }
 
 -- ---- what 19 asks at a row of a job: nothing once the job has a total, else all
 pub asked-nothing : (j : JobState) (release slot : ℕ) → 0 < j.total → AskedAt j release slot (record { unreleased = false; bits = 0 })

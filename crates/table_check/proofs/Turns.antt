@@ -25,6 +25,7 @@ use Rattle.rules.proofs.Reading.Passing.{pass_in-range}
 use Rattle.rules.proofs.Rows.WorkArea.{used_pair}
 use Rattle.book.specs.declared.row.Row.{Row}
 use Rattle.table_check.specs.declared.row.JobState.{JobState}
+use Rattle.table_check.specs.declared.row.Tested.{Tested}
 use Rattle.book.specs.Rows.{row_from}
 use Rattle.book.specs.Records.{number_by}
 use Rattle.table_check.specs.Tests.{service_key, rank_of, ranks, row_key, least_key, standing_number, amount_number, test_number}
@@ -62,13 +63,14 @@ pub record Going (book : List ℕ) (opened : ℕ → Bool) (table : List ℕ) (f
   pub last_high : least_key (book_of book) (table_rows (book_of book) table) k ≤ service_key (book_of book) f * ranks + ranks
 
 -- what is known of row k, which is r, once 15 to 18 and 25 have passed
-pub record Turn (b : Book) (opened : ℕ → Bool) (table : List ℕ) (f k : ℕ) (r : rules.Row) (used : ℕ) : Type 0 where
+pub record Turn (b : Book) (opened : ℕ → Bool) (table : List ℕ) (f k : ℕ) (r : rules.Row) (t : Tested) : Type 0 where
   pub more : k < length (table_rows b table)
   pub row_is : get_or (table_rows b table) k no_row ≡ r
   pub own : r.flow ≡ f
   pub standing : StandingPassed b opened (table_rows b table) k r
   pub amount : AmountPassed b (take k (table_rows b table)) r
-  pub used_is : used ≡ used_in (take k (table_rows b table)) r.slot
+  pub used_is : t.used ≡ used_in (take k (table_rows b table)) r.slot
+  pub size_is : t.size ≡ (job_of (flow_of b f) r.job).size
 
 -- ---- the first turn
 pub going-first : {book : List ℕ} {opened : ℕ → Bool} {table work : List ℕ} {f : ℕ} {from : ℕ} {jobs : List JobState} →
@@ -120,7 +122,7 @@ module _ {book : List ℕ} {opened : ℕ → Bool} {table : List ℕ} {f : ℕ} 
     pub row_here : get_or (table_rows (book_of book) table) k no_row ≡ row_from r
     row_here = row_read going.headed going.reached here read
 
-    module _ (own : r.flow ≡ f) {t : Result ℕ Fault} (tested : RowTested (book_of book) opened f work least (row_from r) t) where
+    module _ (own : r.flow ≡ f) {t : Result Tested Fault} (tested : RowTested (book_of book) opened f work least (row_from r) t) where
       flow_in_is : r.flow < flow_count (book_of book)
       flow_in_is = omega (arith, own, going.inside)
 
@@ -173,9 +175,9 @@ module _ {book : List ℕ} {opened : ℕ → Bool} {table : List ℕ} {f : ℕ} 
           let n : number_by t ≡ fault_number e = ap number_by is in
           rw n at (test_stops (λ z. fault_some e (sym n ∙ z)))
 
-      pub turn_of : {used : ℕ} → t ≡ Ok used → Turn (book_of book) opened table f k (row_from r) used
+      pub turn_of : {x : Tested} → t ≡ Ok x → Turn (book_of book) opened table f k (row_from r) x
       unfolding test_number
-      turn_of {used} e =
+      turn_of e =
           let passes : number_by t ≡ 0 = ap number_by e in
           let both = first-none first second (sym number_is ∙ passes) in
           record {
@@ -185,5 +187,6 @@ module _ {book : List ℕ} {opened : ℕ → Bool} {table : List ℕ} {f : ℕ} 
             standing = standing-row both.0;
             amount = amount-passed b opened rows k (row_from r) row_here (standing-row both.0) (field 2 work (2 * r.slot))
                 (job_of (flow_of (book_of book) f) r.job).cap second (used_right both.0) (cap_right both.0) refl both.1;
-            used_is = IfOk-at_ok (λ u. u ≡ field 2 work (2 * r.slot)) e tested.used ∙ used_right both.0;
+            used_is = IfOk-at_ok (λ (x : Tested). x.used ≡ field 2 work (2 * r.slot)) e tested.used ∙ used_right both.0;
+            size_is = IfOk-at_ok (λ (x : Tested). x.size ≡ (job_of (flow_of (book_of book) f) r.job).size) e tested.size;
           }

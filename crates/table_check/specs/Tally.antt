@@ -18,6 +18,7 @@ use Rattle.book.specs.Promise.{job_from}
 use Rattle.table_check.specs.declared.row.JobState.{JobState}
 use Rattle.table_check.specs.declared.row.Ready.{Ready}
 use Rattle.table_check.specs.declared.row.Asks.{Asks}
+use Rattle.table_check.specs.declared.row.Tested.{Tested}
 use Rattle.book.specs.Records.{number_by}
 use Rattle.table_check.specs.Tests.{not_yet, test_number, asked_release, asked, ready_after}
 
@@ -39,9 +40,10 @@ readies_of jobs = map (λ (j : JobState). ready_of j.ready) jobs
 pub record JobsHeld (b : Book) (f : ℕ) (jobs : List JobState) : Type 0 where
   pub same : records_of jobs ≡ (flow_of b f).jobs
 
--- each job of flow f has its cap
-pub record CapsHeld (b : Book) (f : ℕ) (jobs : List JobState) : Type 0 where
+-- of each job of flow f the list has the size and the cap
+pub record AmountsHeld (b : Book) (f : ℕ) (jobs : List JobState) : Type 0 where
   pub enough : job_count (flow_of b f) ≤ length jobs
+  pub size_of : (i : ℕ) → i < job_count (flow_of b f) → (get_or (records_of jobs) i no_job).size ≡ (job_of (flow_of b f) i).size
   pub cap_of : (i : ℕ) → i < job_count (flow_of b f) → (get_or (records_of jobs) i no_job).cap ≡ (job_of (flow_of b f) i).cap
 
 -- the jobs of flow f before any row
@@ -51,10 +53,11 @@ pub record JobsLoaded (b : Book) (f : ℕ) (jobs : List JobState) : Type 0 where
   pub not_complete : (i : ℕ) → i < job_count (flow_of b f) → get_or (readies_of jobs) i None ≡ None
 
 -- ---- one row
--- 15 to 18 and 25 of a row of flow f, and what counting it needs
-pub record RowTested (b : Book) (opened : ℕ → Bool) (f : ℕ) (work : List ℕ) (least : ℕ) (r : rules.Row) (t : Result ℕ Fault) : Type 0 where
+-- 15 to 18 and 25 of a row of flow f; where it passes, the use of its slot and the size of its job
+pub record RowTested (b : Book) (opened : ℕ → Bool) (f : ℕ) (work : List ℕ) (least : ℕ) (r : rules.Row) (t : Result Tested Fault) : Type 0 where
   pub number : number_by t ≡ test_number b opened f (field 2 work (2 * r.slot)) least r
-  pub used : IfOk t (λ used. used ≡ field 2 work (2 * r.slot))
+  pub used : IfOk t (λ x. x.used ≡ field 2 work (2 * r.slot))
+  pub size : IfOk t (λ x. x.size ≡ (job_of (flow_of b f) r.job).size)
 
 -- what 19 asks at a row in a slot, of a job
 pub record AskedAt (j : JobState) (release slot : ℕ) (a : Asks) : Type 0 where

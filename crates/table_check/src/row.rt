@@ -6,7 +6,7 @@ ghost use Rattle.calendar.specs.Area.{open_by};
 ghost use Rattle.book.specs.Records.{number_by};
 ghost use Rattle.book.specs.Rows.{row_from};
 ghost use Rattle.table_check.specs.Tests.{rank_of, standing_number, amount_number, not_yet, lacks_at, ready_after};
-ghost use Rattle.table_check.specs.Tally.{ready_of, CapsHeld, JobsLoaded, RowTested, AskedAt, Countable, RowCounted};
+ghost use Rattle.table_check.specs.Tally.{ready_of, AmountsHeld, JobsLoaded, RowTested, AskedAt, Countable, RowCounted};
 
 use super::current::Current;
 use book::JobRecord;
@@ -17,8 +17,8 @@ use rules::Fault;
 // One past the greatest rank of a row in a slot: 8,192 slots of 64 jobs each.
 const RANKS: u32 = 524288;
 
-// From which slot on a job is complete: in how many of the last of 65,536 slots, 0 where it is not. A number in place of
-// an `Option`, so that one comparison tells whether the job is complete in a slot: a row may ask that of 63.
+// From which slot on a job is complete: in how many of the last of 65,536 slots, 0 where it is not. A number in place
+// of an `Option`, so that one comparison tells whether the job is complete in a slot: a row may ask that of 63.
 #[derive(Clone, Copy, Default)]
 pub struct Ready {
     last: u32,
@@ -154,23 +154,33 @@ pub fn amount_fault(cap: u16, used: u16, processors: u16, row: Row) -> Result<()
     Ok(())
 }
 
+// What a row that passes is answered with: the use of its slot so far, and the size of its job.
+#[derive(Clone, Copy)]
+pub struct Tested {
+    pub used: u16,
+    pub size: u32,
+}
+
 // 15 to 18 and 25 of a row of the current flow, whose rank is to be at least `least`; where they pass, the use of its
-// slot so far.
+// slot so far and the size of its job.
 pub fn test_row(
     current: &Current,
     jobs: &[JobState],
     work: &[u8],
     least: u32,
     row: Row,
-) -> Result<u16, Fault>
-    requires { CapsHeld (book_of current.now.book.now.bytes.now) current.now.flow jobs.now × (work_bytes ≤ length work.now) }
+) -> Result<Tested, Fault>
+    requires { AmountsHeld (book_of current.now.book.now.bytes.now) current.now.flow jobs.now × (work_bytes ≤ length work.now) }
     ensures { RowTested (book_of current.now.book.now.bytes.now) (open_by current.now.shut.now) current.now.flow work.now least (row_from row) result }
 {
     standing_fault(current.shut, current.head.jobs, least, rank_of(row), row)?;
     let used = u16::read(work, 2 * usize::from(row.slot));
-    let cap = jobs[usize::from(row.job)].job.cap;
-    amount_fault(cap, used, current.book.processors, row)?;
-    Ok(used)
+    let job = &jobs[usize::from(row.job)].job;
+    amount_fault(job.cap, used, current.book.processors, row)?;
+    Ok(Tested {
+        used,
+        size: job.size,
+    })
 }
 
 // What 19 asks at a row: whether it stands before the release, and which predecessors are to be complete, a bit each.

@@ -73,8 +73,8 @@ pub fn walk_rows(
         if usize::from(r.flow) != current.flow {
             break 'rows Ok(Stop { next: at, finish });
         }
-        let used = match row::test_row(current, jobs, work, least, r) {
-            Ok(used) => used,
+        let tested = match row::test_row(current, jobs, work, least, r) {
+            Ok(tested) => tested,
             Err(fault) => break 'rows Err(fault.at(r.flow, r.job)),
         };
         let job = &jobs[usize::from(r.job)];
@@ -91,7 +91,7 @@ pub fn walk_rows(
             bits /= 2;
             k += 1;
         }
-        row::count_row(jobs, work, used, r);
+        row::count_row(jobs, work, tested.used, r);
         finish = r.slot + 1;
         least = row::rank_of(r) + 1;
         at += Row::SIZE;

@@ -36,3 +36,4 @@ pub returns : goal.returns
 returns c =
     tested-passes c.args.current.now _ _ c.rank_of.ensures.0 _ c.standing_fault.ensures c.in_ok-standing_fault.was
     _ c.requires.0 (rw (← c.from.ensures) c.read-used.ensures) (rw c.from-2.ensures refl) _ c.amount_fault.ensures c.in_ok-amount_fault.was
+    (rw c.from-2.ensures refl)

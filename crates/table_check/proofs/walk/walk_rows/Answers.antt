@@ -5,7 +5,7 @@
 use mathlib.Core.Path.{refl, ◌∙◌, sym}
 use native.Mathlib.Omega.{arith}
 use Rattle.table_check.proofs.Turns.{going-first, test_refused, turn_of}
-use Rattle.table_check.proofs.Jobs.{held_count, held_caps}
+use Rattle.table_check.proofs.Jobs.{held_count, held_amounts}
 use Rattle.table_check.proofs.TableRows.{row_inside, more_rows}
 use Rattle.table_check.proofs.Counting.{job_in, countable, asked_here, bits_here, unreleased_stops, is-released, cleared-next, going_next}
 use Rattle.table_check.proofs.Asking.{asking-first, asks-few, asks-in, asking-next, asking_stops, asking-ends}
@@ -19,7 +19,7 @@ pub read-r-requires : goal.read-r-requires
 read-r-requires c = let g = c.rows.invariant.0 in row_inside g.headed g.reached c.if-current-at.false
 
 pub test_row-requires : goal.test_row-requires
-test_row-requires c = let g = c.rows.invariant.0 in (held_caps g.held, g.room)
+test_row-requires c = let g = c.rows.invariant.0 in (held_amounts g.held, g.room)
 
 pub bounds-jobs-from : goal.bounds-jobs-from
 bounds-jobs-from c =

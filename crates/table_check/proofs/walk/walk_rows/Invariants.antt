@@ -16,7 +16,7 @@ use Rattle.table_check.proofs.walk.walk_rows.Given as goal
 
 abbrev pub invariant-loop-bits : goal.invariant-loop-bits
 invariant-loop-bits l =
-    Asking l.current.book.now.bytes.now (open_by l.current.shut.now) l.current.table.now l.current.flow l.from l.jobs l.work l.least l.finish l.at l.r l.used l.bits l.k
+    Asking l.current.book.now.bytes.now (open_by l.current.shut.now) l.current.table.now l.current.flow l.from l.jobs l.work l.least l.finish l.at l.r l.tested l.bits l.k
 
 abbrev pub decreases-loop-bits : goal.decreases-loop-bits
 decreases-loop-bits l = l.bits
